@@ -1,0 +1,7 @@
+use Rattle.std.proofs.Common.{sym, ◌∙◌, ap}
+use Rattle.mof_metamodel.proofs.text.Text.as_str.Goals as goal
+use Rattle.std.proofs.lemmas.Str.{encodes-chars, IsUtf8-string_bytes}
+use Rattle.std.specs.Prelude.{encode_utf8_all}
+
+pub returns-clause-bytes : goal.returns-clause-bytes
+returns-clause-bytes c = c.as_str.ensures.value ∙ sym (encodes-chars _ (IsUtf8-string_bytes c.self.inside.inner)) ∙ ap encode_utf8_all c.self.view_is

@@ -1,0 +1,6 @@
+/// The bytes of a source from `start` up to, and without, `end`.
+#[derive(Clone, Copy, Debug, PartialEq, Eq, PartialOrd, Ord, Hash)]
+pub struct Span {
+    pub start: usize,
+    pub end: usize,
+}
