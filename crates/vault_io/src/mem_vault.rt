@@ -1,0 +1,115 @@
+ghost use Rattle.std.specs.Prelude.{◌≡◌, ◌↔◌, ◌-◌, ◌≤◌, ◌⊎◌, min, length, IsTrue, IsErr, IsNone, IfOk, IfNone, IfSome, IsSomeAnd};
+ghost use Rattle.std.specs.FinMap as map;
+ghost use Rattle.vault_io.specs.Files.{Reads};
+ghost use Rattle.vault_io.specs.Tallies.{is_listed, answered};
+ghost use Rattle.vault_io.specs.Stores.{files_of};
+
+use crate::named_file::NamedFile;
+use crate::outside::{Failed, Vault};
+use crate::tally::Tally;
+use mof_metamodel::{NoMemory, Seq};
+use std::alloc::Global;
+use std::marker::Model;
+
+/// Files in memory, for tests. The calls whose numbers are listed fail.
+#[derive(Debug, Drop)]
+pub struct MemVault {
+    /// The last file first.
+    files: Vec<NamedFile>,
+    tally: Tally,
+}
+
+impl Model for MemVault {
+    ghost use Rattle.std.specs.Prelude.{map as map_list};
+    ghost use Rattle.std.specs.FinMap.{from_entries};
+    ghost use Rattle.vault_io.specs.Stores.{VaultState, vault_code, entry_of};
+
+    ghost Value = { VaultState };
+
+    ghost coded = { vault_code };
+
+    ghost view = { λ v. record { files = from_entries (map_list entry_of v.files.items); tally = v.tally } };
+}
+
+impl MemVault {
+    /// A vault of these files. Of two of one name the later counts. The calls whose numbers stand in `failing`, counted
+    /// from 0, are to fail.
+    pub fn new(_alloc: Global, files: Seq<NamedFile>, failing: Seq<u64>) -> Result<MemVault, NoMemory>
+        ensures files { IfOk result (λ v. v.files ≡ files_of files) }
+        ensures tally { IfOk result (λ v. v.tally ≡ record { failing = failing; calls = 0; faults = 0; starved = 0 }) }
+    {
+        let mut files = files.into_vec();
+        files.reverse();
+        Ok(MemVault {
+            files,
+            tally: Tally::new(failing),
+        })
+    }
+
+    /// The bytes of the file of this name, if there is one.
+    pub fn file(&self, name: &str) -> Option<&[u8]>
+        ensures none { IfNone result (map.get self.now.files name.now ≡ None) }
+        ensures some { IfSome result (λ bytes. map.get self.now.files name.now ≡ Some bytes.now) }
+    {
+        for file in &self.files {
+            if file.name.as_str() == name {
+                return Some(file.bytes.as_slice());
+            }
+        }
+        None
+    }
+
+    /// How many calls failed, but for reads of a name that isn't there. The count stays at `u64::MAX`.
+    pub fn fault_count(&self) -> u64
+        ensures { result ≡ self.now.tally.faults }
+    {
+        self.tally.faults
+    }
+
+    /// How many calls failed since they wanted memory. The count stays at `u64::MAX`.
+    pub fn starved_count(&self) -> u64
+        ensures { result ≡ self.now.tally.starved }
+    {
+        self.tally.starved
+    }
+}
+
+impl Vault for MemVault {
+    ghost use Rattle.std.specs.Prelude.{Some};
+
+    ghost files = { λ v. Some v.files };
+
+    ghost faults = { λ v. v.tally.faults };
+
+    /// Reads as many bytes as there are and fit. It takes no memory.
+    ///
+    /// # Errors
+    /// `Failed` comes exactly where the call's number is listed, which counts as a fault, or there is no such file.
+    fn read_at(&mut self, name: &str, at: u64, into: &mut [u8]) -> Result<usize, Failed>
+        ensures failed { IsErr result ↔ (IsTrue (is_listed self.old.tally) ⊎ IsNone (map.get self.old.files name.now)) }
+        ensures bytes { IfOk result (λ n. IsSomeAnd (map.get self.old.files name.now) (λ file. Reads file at n into.new)) }
+        ensures count { IfOk result (λ n. IsSomeAnd (map.get self.old.files name.now) (λ file. n ≡ min (length into.old) (length file - at))) }
+        ensures files { self.new.files ≡ self.old.files }
+        ensures tally { self.new.tally ≡ answered self.old.tally }
+    {
+        if self.tally.next_fails() {
+            return Err(Failed);
+        }
+        let Some(bytes) = self.file(name) else {
+            return Err(Failed);
+        };
+        Ok(copy_from(bytes, at, into))
+    }
+}
+
+/// Copies what there is from a place on, as far as it fits, and answers how many bytes.
+fn copy_from(bytes: &[u8], at: u64, into: &mut [u8]) -> usize
+    ensures count { result ≡ min (length into.old) (length bytes.now - at) }
+    ensures reads { Reads bytes.now at result into.new }
+{
+    let start = (at as usize).min(bytes.len());
+    let rest = &bytes[start..];
+    let count = rest.len().min(into.len());
+    into[..count].copy_from_slice(&rest[..count]);
+    count
+}
