@@ -20,9 +20,13 @@ pub record SinkState : Type 0 where
 abbrev pub entry_of : NamedFile → List ℕ × List ℕ
 entry_of file = (encode_utf8_all file.name, file.bytes)
 
--- The files of a list. Of two of one name the later counts: a map of entries has the first, so they go in from the last.
+-- the files of a list; of two of one name the first counts
+abbrev pub first_files : List NamedFile → Files
+first_files files = from_entries (map entry_of files)
+
+-- the files of a list; of two of one name the later counts
 abbrev pub files_of : List NamedFile → Files
-files_of files = from_entries (map entry_of (reverse files))
+files_of files = first_files (reverse files)
 
 abbrev pub tally_code : Coded Tally
 tally_code =

@@ -3,7 +3,7 @@ ghost use Rattle.std.specs.FinMap as map;
 ghost use Rattle.vault_io.specs.Files.{Lacks, MayFail};
 
 use crate::outside::{Failed, Vault};
-use mof_metamodel::{NoMemory, Seq};
+use mof_metamodel::Seq;
 use std::alloc::{AllocError, Global};
 use thiserror::Error;
 
@@ -21,8 +21,30 @@ pub enum LoadError {
     NoMemory,
 }
 
+impl From<Failed> for LoadError {
+    ghost use Rattle.std.specs.Prelude.{◌≡◌};
+    ghost use Rattle.vault_io.specs.declared.loading.LoadError.TheVariants as of;
+
+    ghost from_gives = { λ _ e. e ≡ of.Failed };
+
+    fn from(_error: Failed) -> LoadError {
+        LoadError::Failed
+    }
+}
+
+impl From<AllocError> for LoadError {
+    ghost use Rattle.std.specs.Prelude.{◌≡◌};
+    ghost use Rattle.vault_io.specs.declared.loading.LoadError.TheVariants as of;
+
+    ghost from_gives = { λ _ e. e ≡ of.NoMemory };
+
+    fn from(_error: AllocError) -> LoadError {
+        LoadError::NoMemory
+    }
+}
+
 /// How many bytes are read at a time.
-const BLOCK: usize = 65_536;
+const BLOCK: usize = 16_384;
 
 /// Reads a whole file of at most `limit` bytes. The files are as they were, whatever it answers.
 ///
@@ -42,16 +64,16 @@ pub fn load<F: Vault>(
     ensures files { F.files vault.new ≡ F.files vault.old }
     ensures faults { F.faults vault.old ≤ F.faults vault.new }
 {
+    let mut block = [0u8; BLOCK];
     let mut bytes = Vec::new(alloc);
-    let mut block = vec![in alloc; 0u8; BLOCK].map_err(|_| LoadError::NoMemory)?;
     loop {
-        let n = vault.read_at(name, bytes.len() as u64, block.as_mut_slice()).map_err(|_| LoadError::Failed)?;
-        if n == 0 {
+        let count = vault.read_at(name, bytes.len() as u64, &mut block)?;
+        if count == 0 {
             return Ok(Seq::from_vec(bytes));
         }
-        if n > limit - bytes.len() {
+        if count > limit - bytes.len() {
             return Err(LoadError::TooLong);
         }
-        bytes.extend_from_slice(&block[..n]).map_err(|_| LoadError::NoMemory)?;
+        bytes.extend_from_slice(&block[..count])?;
     }
 }

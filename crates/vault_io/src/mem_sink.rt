@@ -1,4 +1,6 @@
-ghost use Rattle.std.specs.Prelude.{◌≡◌, [], ◌++◌, ◌⊎◌, length, IsTrue, IsErr, IfOk, OnOk, OnErr};
+ghost use Rattle.std.specs.Prelude.{◌≡◌, ◌≤◌, [], ◌++◌, ◌⊎◌, length, IsTrue, IsErr, IfOk, OnOk, OnErr};
+ghost use Rattle.vault_io.specs.Counts.{Rose};
+ghost use Rattle.vault_io.specs.Sinks.{Takes};
 ghost use Rattle.vault_io.specs.Tallies.{is_listed, called, faulted, starved};
 
 use crate::outside::{Failed, Sink};
@@ -71,11 +73,15 @@ impl Sink for MemSink {
     /// `Failed` comes where the call's number is listed, and else only for want of memory. Each counts as a fault, and
     /// the second as starved besides.
     fn write(&mut self, piece: &[u8]) -> Result<usize, Failed>
-        ensures whole { IfOk result (λ n. n ≡ length piece.now) }
-        ensures ok { OnOk result (self.new ≡ record { bytes = self.old.bytes ++ piece.now; tally = called self.old.tally }) }
-        ensures kept { OnErr result (self.new.bytes ≡ self.old.bytes) }
+        ensures whole { IfOk result (λ n. (n ≡ length piece.now) × (self.new.bytes ≡ self.old.bytes ++ piece.now)) }
+        ensures ok { OnOk result (self.new.tally ≡ called self.old.tally) }
         ensures listed { IsTrue (is_listed self.old.tally) → IsErr result × (self.new.tally ≡ faulted (called self.old.tally)) }
-        ensures failed { OnErr result (IsTrue (is_listed self.old.tally) ⊎ (self.new.tally ≡ starved (called self.old.tally))) }
+        ensures starved { OnErr result (IsTrue (is_listed self.old.tally) ⊎ (self.new.tally ≡ starved (called self.old.tally))) }
+        // The trait's clauses.
+        ensures bytes { IfOk result (λ n. Takes piece.now n (Some self.old.bytes) (Some self.new.bytes)) }
+        ensures kept { OnErr result (Some self.new.bytes ≡ Some self.old.bytes) }
+        ensures failed { OnErr result (Rose self.old.tally.faults self.new.tally.faults) }
+        ensures faults { self.old.tally.faults ≤ self.new.tally.faults }
     {
         if self.tally.next_fails() {
             return Err(Failed);

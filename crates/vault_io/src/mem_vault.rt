@@ -1,8 +1,8 @@
-ghost use Rattle.std.specs.Prelude.{◌≡◌, ◌↔◌, ◌-◌, ◌≤◌, ◌⊎◌, min, length, IsTrue, IsErr, IsNone, IfOk, IfNone, IfSome, IsSomeAnd};
+ghost use Rattle.std.specs.Prelude.{◌≡◌, ◌↔◌, ◌-◌, ◌≤◌, ◌⊎◌, min, length, IsTrue, IsErr, IsNone, IfOk, IfNone, IfSome, IsSomeAnd, OnErr};
 ghost use Rattle.std.specs.FinMap as map;
-ghost use Rattle.vault_io.specs.Files.{Reads};
+ghost use Rattle.vault_io.specs.Files.{Reads, MayFail};
 ghost use Rattle.vault_io.specs.Tallies.{is_listed, answered};
-ghost use Rattle.vault_io.specs.Stores.{files_of};
+ghost use Rattle.vault_io.specs.Stores.{files_of, first_files};
 
 use crate::named_file::NamedFile;
 use crate::outside::{Failed, Vault};
@@ -20,15 +20,13 @@ pub struct MemVault {
 }
 
 impl Model for MemVault {
-    ghost use Rattle.std.specs.Prelude.{map as map_list};
-    ghost use Rattle.std.specs.FinMap.{from_entries};
-    ghost use Rattle.vault_io.specs.Stores.{VaultState, vault_code, entry_of};
+    ghost use Rattle.vault_io.specs.Stores.{VaultState, vault_code, first_files};
 
     ghost Value = { VaultState };
 
     ghost coded = { vault_code };
 
-    ghost view = { λ v. record { files = from_entries (map_list entry_of v.files.items); tally = v.tally } };
+    ghost view = { λ v. record { files = first_files v.files.items; tally = v.tally } };
 }
 
 impl MemVault {
@@ -51,12 +49,7 @@ impl MemVault {
         ensures none { IfNone result (map.get self.now.files name.now ≡ None) }
         ensures some { IfSome result (λ bytes. map.get self.now.files name.now ≡ Some bytes.now) }
     {
-        for file in &self.files {
-            if file.name.as_str() == name {
-                return Some(file.bytes.as_slice());
-            }
-        }
-        None
+        first_named(&self.files, name)
     }
 
     /// How many calls failed, but for reads of a name that isn't there. The count stays at `u64::MAX`.
@@ -86,11 +79,15 @@ impl Vault for MemVault {
     /// # Errors
     /// `Failed` comes exactly where the call's number is listed, which counts as a fault, or there is no such file.
     fn read_at(&mut self, name: &str, at: u64, into: &mut [u8]) -> Result<usize, Failed>
-        ensures failed { IsErr result ↔ (IsTrue (is_listed self.old.tally) ⊎ IsNone (map.get self.old.files name.now)) }
-        ensures bytes { IfOk result (λ n. IsSomeAnd (map.get self.old.files name.now) (λ file. Reads file at n into.new)) }
-        ensures count { IfOk result (λ n. IsSomeAnd (map.get self.old.files name.now) (λ file. n ≡ min (length into.old) (length file - at))) }
-        ensures files { self.new.files ≡ self.old.files }
+        ensures exact { IsErr result ↔ (IsTrue (is_listed self.old.tally) ⊎ IsNone (map.get self.old.files name.now)) }
+        ensures full { IfOk result (λ n. IsSomeAnd (map.get self.old.files name.now) (λ file. n ≡ min (length into.old) (length file - at))) }
         ensures tally { self.new.tally ≡ answered self.old.tally }
+        // The trait's clauses.
+        ensures count { IfOk result (λ n. n ≤ length into.old) }
+        ensures bytes { IfOk result (λ n. IsSomeAnd (map.get self.old.files name.now) (λ file. Reads file at n into.new)) }
+        ensures failed { OnErr result (MayFail (Some self.old.files) name.now self.old.tally.faults self.new.tally.faults) }
+        ensures files { Some self.new.files ≡ Some self.old.files }
+        ensures faults { self.old.tally.faults ≤ self.new.tally.faults }
     {
         if self.tally.next_fails() {
             return Err(Failed);
@@ -100,6 +97,19 @@ impl Vault for MemVault {
         };
         Ok(copy_from(bytes, at, into))
     }
+}
+
+/// The bytes of the first file of this name, if there is one.
+fn first_named<'a>(files: &'a [NamedFile], name: &str) -> Option<&'a [u8]>
+    ensures none { IfNone result (map.get (first_files files.now) name.now ≡ None) }
+    ensures some { IfSome result (λ bytes. map.get (first_files files.now) name.now ≡ Some bytes.now) }
+{
+    for file in files {
+        if name == file.name.as_str() {
+            return Some(file.bytes.as_slice());
+        }
+    }
+    None
 }
 
 /// Copies what there is from a place on, as far as it fits, and answers how many bytes.

@@ -1,4 +1,5 @@
-ghost use Rattle.std.specs.Prelude.{◌≡◌, [], IsTrue};
+ghost use Rattle.std.specs.Prelude.{◌≡◌, ◌≤◌, IsTrue};
+ghost use Rattle.vault_io.specs.Counts.{Rose};
 
 use mof_metamodel::Seq;
 
@@ -34,6 +35,8 @@ impl Tally {
     pub fn next_fails(&mut self) -> bool
         ensures listed { result ≡ is_listed self.old }
         ensures counted { self.new ≡ answered self.old }
+        ensures risen { IsTrue result → Rose self.old.faults self.new.faults }
+        ensures faults { self.old.faults ≤ self.new.faults }
     {
         let listed = self.failing.as_slice().contains(&self.calls);
         self.calls = self.calls.saturating_add(1);
@@ -45,7 +48,9 @@ impl Tally {
 
     /// Counts a call that wanted memory.
     pub fn count_starved(&mut self)
-        ensures { self.new ≡ starved self.old }
+        ensures counted { self.new ≡ starved self.old }
+        ensures risen { Rose self.old.faults self.new.faults }
+        ensures faults { self.old.faults ≤ self.new.faults }
     {
         self.count_fault();
         self.starved = self.starved.saturating_add(1);
@@ -53,7 +58,9 @@ impl Tally {
 
     /// Counts a fault.
     fn count_fault(&mut self)
-        ensures { self.new ≡ faulted self.old }
+        ensures counted { self.new ≡ faulted self.old }
+        ensures risen { Rose self.old.faults self.new.faults }
+        ensures faults { self.old.faults ≤ self.new.faults }
     {
         self.faults = self.faults.saturating_add(1);
     }

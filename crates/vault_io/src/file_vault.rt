@@ -1,0 +1,53 @@
+ghost use Rattle.std.specs.Prelude.{◌≡◌, ◌≤◌, length, IfOk, OnOk, OnErr, None};
+ghost use Rattle.vault_io.specs.Counts.{next_count};
+ghost use Rattle.vault_io.specs.Files.{MayFail};
+
+use crate::outside::{Failed, Vault};
+use std::fs;
+use std::io::{self, Read, Seek, SeekFrom};
+use std::rt::Files;
+
+/// The files of the system, by their paths. It tells nothing of their content: no contract can.
+#[derive(Drop)]
+pub struct FileVault<'a, R> {
+    rt: &'a R,
+    faults: u64,
+}
+
+impl<R: Files + AllocGlobal> FileVault<'_, R> {
+    /// The files that `rt` reaches. No call has failed yet.
+    pub fn new(rt: &R) -> FileVault<'_, R>
+        ensures { result.faults ≡ 0 }
+    {
+        FileVault { rt, faults: 0 }
+    }
+}
+
+impl<R: Files + AllocGlobal> Vault for FileVault<'_, R> {
+    ghost files = { λ _. None };
+
+    ghost faults = { λ v. v.faults };
+
+    /// Opens the file, goes to the place and reads once.
+    ///
+    /// # Errors
+    /// `Failed` where the system refuses one of these, want of memory included, which counts as a fault.
+    fn read_at(&mut self, name: &str, at: u64, into: &mut [u8]) -> Result<usize, Failed> {
+        match read_once(self.rt, name, at, into) {
+            Ok(count) => Ok(count),
+            Err(_) => {
+                self.faults = self.faults.saturating_add(1);
+                Err(Failed)
+            }
+        }
+    }
+}
+
+/// Opens a file, goes to a place in it, and reads once.
+fn read_once<R: Files>(rt: &R, name: &str, at: u64, into: &mut [u8]) -> io::Result<usize>
+    ensures { IfOk result (λ n. n ≤ length into.old) }
+{
+    let mut file = fs::open(rt, name)?;
+    file.seek(SeekFrom::Start(at))?;
+    file.read(into)
+}
