@@ -21,7 +21,7 @@ front_step : (file bytes buffer : List ℕ) (n : ℕ) → take (length bytes) fi
 front_step file bytes buffer n front reads =
     let rest : n ≤ length (drop (length bytes) file) = rw length-drop reads.within in
     let long : length (bytes ++ take n buffer) ≡ length bytes + n =
-        length-append bytes (take n buffer) ∙ ap (λ k. length bytes + k) (ap length reads.bytes ∙ length-take-le n (drop (length bytes) file) rest) in
+    length-append bytes (take n buffer) ∙ ap (λ k. length bytes + k) (ap length reads.bytes ∙ length-take-le n (drop (length bytes) file) rest) in
     ap (λ k. take k file) long ∙ take-add (length bytes) n file ∙ ap (λ xs. xs ++ take n (drop (length bytes) file)) front
     ∙ ap (λ xs. bytes ++ xs) (sym reads.bytes)
 

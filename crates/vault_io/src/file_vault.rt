@@ -5,6 +5,7 @@ ghost use Rattle.vault_io.specs.Files.{MayFail};
 use crate::outside::{Failed, Vault};
 use std::fs;
 use std::io::{self, Read, Seek, SeekFrom};
+use std::marker::Model;
 use std::rt::Files;
 
 /// The files of the system, by their paths. It tells nothing of their content: no contract can.
@@ -14,10 +15,19 @@ pub struct FileVault<'a, R> {
     faults: u64,
 }
 
+/// Seen as how many calls have failed.
+impl<'a, R> Model for FileVault<'a, R> {
+    ghost use Rattle.std.specs.Prelude.{ℕ};
+
+    ghost Value = { ℕ };
+
+    ghost view = { λ v. v.faults };
+}
+
 impl<R: Files + AllocGlobal> FileVault<'_, R> {
     /// The files that `rt` reaches. No call has failed yet.
     pub fn new(rt: &R) -> FileVault<'_, R>
-        ensures { result.faults ≡ 0 }
+        ensures { result ≡ 0 }
     {
         FileVault { rt, faults: 0 }
     }
@@ -26,13 +36,20 @@ impl<R: Files + AllocGlobal> FileVault<'_, R> {
 impl<R: Files + AllocGlobal> Vault for FileVault<'_, R> {
     ghost files = { λ _. None };
 
-    ghost faults = { λ v. v.faults };
+    ghost faults = { λ v. v };
 
     /// Opens the file, goes to the place and reads once.
     ///
     /// # Errors
     /// `Failed` where the system refuses one of these, want of memory included, which counts as a fault.
-    fn read_at(&mut self, name: &str, at: u64, into: &mut [u8]) -> Result<usize, Failed> {
+    fn read_at(&mut self, name: &str, at: u64, into: &mut [u8]) -> Result<usize, Failed>
+        ensures ok { OnOk result (self.new ≡ self.old) }
+        ensures err { OnErr result (self.new ≡ next_count self.old) }
+        // The trait's clauses, where nothing is told.
+        ensures count { IfOk result (λ n. n ≤ length into.old) }
+        ensures failed { OnErr result (MayFail None name.now self.old self.new) }
+        ensures faults { self.old ≤ self.new }
+    {
         match read_once(self.rt, name, at, into) {
             Ok(count) => Ok(count),
             Err(_) => {

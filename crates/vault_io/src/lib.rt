@@ -20,3 +20,6 @@ pub use named_file::NamedFile;
 pub use outside::{Failed, Sink, Vault};
 pub use printing::print_all;
 pub use std_sink::StdSink;
+
+#[cfg(test)]
+mod tests;

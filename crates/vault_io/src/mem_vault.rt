@@ -32,7 +32,11 @@ impl Model for MemVault {
 impl MemVault {
     /// A vault of these files. Of two of one name the later counts. The calls whose numbers stand in `failing`, counted
     /// from 0, are to fail.
-    pub fn new(_alloc: Global, files: Seq<NamedFile>, failing: Seq<u64>) -> Result<MemVault, NoMemory>
+    pub fn new(
+        _alloc: Global,
+        files: Seq<NamedFile>,
+        failing: Seq<u64>,
+    ) -> Result<MemVault, NoMemory>
         ensures files { IfOk result (λ v. v.files ≡ files_of files) }
         ensures tally { IfOk result (λ v. v.tally ≡ record { failing = failing; calls = 0; faults = 0; starved = 0 }) }
     {

@@ -9,7 +9,7 @@ loop-done-preserved g c =
     let took = c.in_ok-done.ensures.bytes in
     let rest = drop c.loop-done.done c.args.bytes.now in
     let all : take (length c.args.bytes.now - c.loop-done.done) rest ≡ rest =
-        take_all _ _ (omega (arith, length-drop c.loop-done.done c.args.bytes.now)) in
+    take_all _ _ (omega (arith, length-drop c.loop-done.done c.args.bytes.now)) in
     record {
       within = omega (arith, ap length all, took.within, length-drop c.loop-done.done c.args.bytes.now);
       bytes = took.bytes ∙ ap (λ xs. appended (g.K.Sink.told c.loop-done.out) (take c.in_ok-done.field-0 xs)) all
