@@ -1,5 +1,6 @@
 -- The files of a vault, and what a read of one gives.
-use Rattle.std.specs.Prelude.{◌≡◌, ◌↔◌, ℕ, ◌-◌, ◌<◌, ◌≤◌, ◌⊎◌, List, length, take, drop, Option, None, Some}
+use Rattle.std.specs.Prelude.{◌≡◌, ◌↔◌, ℕ, ◌-◌, ◌<◌, ◌≤◌, ◌⊎◌, List, length, take, drop}
+use Rattle.std.specs.Prelude.{Option, None, Some, IfSome, IsSomeAnd}
 use Rattle.std.specs.Ordering.{nat_cmp}
 use Rattle.std.specs.Cmp.Lexicographic.{slice_cmp}
 use Rattle.std.specs.FinMap.{FinMap, get}
@@ -13,6 +14,10 @@ Files = FinMap (slice_cmp nat_cmp) (List ℕ)
 abbrev pub Lacks : Option Files → List ℕ → Type 0
 Lacks None name = ⊥
 Lacks (Some files) name = get files name ≡ None
+
+-- where the files are told, there is one of this name, and its bytes are such
+abbrev pub OfFile : Option Files → List ℕ → (List ℕ → Type 0) → Type 0
+OfFile told name P = IfSome told (λ files. IsSomeAnd (get files name) P)
 
 -- n bytes of a file from a place on stand at the front of a buffer; where the buffer has room,
 -- there is none exactly at or past the end

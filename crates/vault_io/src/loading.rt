@@ -1,6 +1,6 @@
-ghost use Rattle.std.specs.Prelude.{◌≡◌, ◌<◌, ◌≤◌, ◌⊎◌, length, IfOk, IfSome, IsSomeAnd, IsErrOf};
+ghost use Rattle.std.specs.Prelude.{◌≡◌, ◌<◌, ◌≤◌, ◌⊎◌, length, IfOk, IfSome, IsErrOf};
 ghost use Rattle.std.specs.FinMap as map;
-ghost use Rattle.vault_io.specs.Files.{Lacks, MayFail};
+ghost use Rattle.vault_io.specs.Files.{OfFile, MayFail};
 
 use crate::outside::{Failed, Vault};
 use mof_metamodel::Seq;
@@ -58,9 +58,10 @@ pub fn load<F: Vault>(
 ) -> Result<Seq<u8>, LoadError>
     ensures bytes { IfOk result (λ bytes. IfSome (F.files vault.old) (λ files. map.get files name.now ≡ Some bytes)) }
     ensures limit { IfOk result (λ bytes. length bytes ≤ limit) }
-    ensures too_long { IsErrOf result LoadError.TooLong → IfSome (F.files vault.old)
-        (λ files. IsSomeAnd (map.get files name.now) (λ file. limit < length file)) }
-    ensures failed { IsErrOf result LoadError.Failed → MayFail (F.files vault.old) name.now (F.faults vault.old) (F.faults vault.new) }
+    ensures too_long { IsErrOf result LoadError.TooLong →
+        OfFile (F.files vault.old) name.now (λ file. limit < length file) }
+    ensures failed { IsErrOf result LoadError.Failed →
+        MayFail (F.files vault.old) name.now (F.faults vault.old) (F.faults vault.new) }
     ensures files { F.files vault.new ≡ F.files vault.old }
     ensures faults { F.faults vault.old ≤ F.faults vault.new }
 {

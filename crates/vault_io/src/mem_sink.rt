@@ -75,8 +75,10 @@ impl Sink for MemSink {
     fn write(&mut self, piece: &[u8]) -> Result<usize, Failed>
         ensures whole { IfOk result (λ n. (n ≡ length piece.now) × (self.new.bytes ≡ self.old.bytes ++ piece.now)) }
         ensures ok { OnOk result (self.new.tally ≡ called self.old.tally) }
-        ensures listed { IsTrue (is_listed self.old.tally) → IsErr result × (self.new.tally ≡ faulted (called self.old.tally)) }
-        ensures starved { OnErr result (IsTrue (is_listed self.old.tally) ⊎ (self.new.tally ≡ starved (called self.old.tally))) }
+        ensures listed { IsTrue (is_listed self.old.tally) →
+            IsErr result × (self.new.tally ≡ faulted (called self.old.tally)) }
+        ensures starved { OnErr result
+            (IsTrue (is_listed self.old.tally) ⊎ (self.new.tally ≡ starved (called self.old.tally))) }
         // The trait's clauses.
         ensures bytes { IfOk result (λ n. Takes piece.now n (Some self.old.bytes) (Some self.new.bytes)) }
         ensures kept { OnErr result (Some self.new.bytes ≡ Some self.old.bytes) }

@@ -1,6 +1,6 @@
 ghost use Rattle.std.specs.Prelude.{◌≡◌, ◌↔◌, ◌-◌, ◌≤◌, ◌⊎◌, min, length, IsTrue, IsErr, IsNone, IfOk, IfNone, IfSome, IsSomeAnd, OnErr};
 ghost use Rattle.std.specs.FinMap as map;
-ghost use Rattle.vault_io.specs.Files.{Reads, MayFail};
+ghost use Rattle.vault_io.specs.Files.{OfFile, Reads, MayFail};
 ghost use Rattle.vault_io.specs.Tallies.{is_listed, answered};
 ghost use Rattle.vault_io.specs.Stores.{files_of, first_files};
 
@@ -84,11 +84,12 @@ impl Vault for MemVault {
     /// `Failed` comes exactly where the call's number is listed, which counts as a fault, or there is no such file.
     fn read_at(&mut self, name: &str, at: u64, into: &mut [u8]) -> Result<usize, Failed>
         ensures exact { IsErr result ↔ (IsTrue (is_listed self.old.tally) ⊎ IsNone (map.get self.old.files name.now)) }
-        ensures full { IfOk result (λ n. IsSomeAnd (map.get self.old.files name.now) (λ file. n ≡ min (length into.old) (length file - at))) }
+        ensures full { IfOk result (λ n. IsSomeAnd (map.get self.old.files name.now)
+            (λ file. n ≡ min (length into.old) (length file - at))) }
         ensures tally { self.new.tally ≡ answered self.old.tally }
         // The trait's clauses.
         ensures count { IfOk result (λ n. n ≤ length into.old) }
-        ensures bytes { IfOk result (λ n. IsSomeAnd (map.get self.old.files name.now) (λ file. Reads file at n into.new)) }
+        ensures bytes { IfOk result (λ n. OfFile (Some self.old.files) name.now (λ file. Reads file at n into.new)) }
         ensures failed { OnErr result (MayFail (Some self.old.files) name.now self.old.tally.faults self.new.tally.faults) }
         ensures files { Some self.new.files ≡ Some self.old.files }
         ensures faults { self.old.tally.faults ≤ self.new.tally.faults }

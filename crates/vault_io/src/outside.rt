@@ -1,7 +1,6 @@
-ghost use Rattle.std.specs.Prelude.{◌≡◌, ℕ, ◌≤◌, List, length, Option, IfOk, IfSome, IsSomeAnd, OnErr};
-ghost use Rattle.std.specs.FinMap as map;
+ghost use Rattle.std.specs.Prelude.{◌≡◌, ℕ, ◌≤◌, List, length, Option, IfOk, OnErr};
 ghost use Rattle.vault_io.specs.Counts.{Rose};
-ghost use Rattle.vault_io.specs.Files.{Files, Reads, MayFail};
+ghost use Rattle.vault_io.specs.Files.{Files, OfFile, Reads, MayFail};
 ghost use Rattle.vault_io.specs.Sinks.{Takes};
 
 /// The outside failed. The call's contract says what stands after it.
@@ -24,8 +23,7 @@ pub trait Vault {
     /// are told and none has this name. There it always comes.
     fn read_at(&mut self, name: &str, at: u64, into: &mut [u8]) -> Result<usize, Failed>
         ensures count { IfOk result (λ n. n ≤ length into.old) }
-        ensures bytes { IfOk result (λ n. IfSome (files self.old)
-            (λ told. IsSomeAnd (map.get told name.now) (λ file. Reads file at n into.new))) }
+        ensures bytes { IfOk result (λ n. OfFile (files self.old) name.now (λ file. Reads file at n into.new)) }
         ensures failed { OnErr result (MayFail (files self.old) name.now (faults self.old) (faults self.new)) }
         ensures files { files self.new ≡ files self.old }
         ensures faults { faults self.old ≤ faults self.new };
