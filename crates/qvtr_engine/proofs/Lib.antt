@@ -1,0 +1,11 @@
+pub mod ReadingLaws
+pub mod ScriptLaws
+pub mod ModelLaws
+pub mod CommandLaws
+pub mod RefLaws
+pub mod ReadSteps
+pub mod ErrorLaws
+pub mod LeastLaws
+pub mod AnswerLaws
+pub mod StopLaws
+pub mod RunLaws

@@ -1,0 +1,19 @@
+//! The top call of the engine.
+#![tactic(auto)]
+
+mod checking;
+mod command;
+mod names;
+mod status;
+mod template;
+mod thin_error;
+mod thin_model;
+mod thin_script;
+mod top;
+mod verdict;
+
+pub use status::Status;
+pub use top::run;
+
+/// The greatest number of bytes of a thin script or a thin file.
+pub const MAX_THIN: usize = 65_536;
