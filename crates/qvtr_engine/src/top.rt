@@ -67,3 +67,6 @@ pub fn run<F: Vault, K: Sink>(alloc: Global, words: &[String], vault: &mut F, ou
         }
     }
 }
+
+#[cfg(test)]
+mod tests;
