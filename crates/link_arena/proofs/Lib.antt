@@ -1,0 +1,5 @@
+pub mod Rows
+pub mod Live
+pub mod Pairing
+pub mod Named
+pub mod Views

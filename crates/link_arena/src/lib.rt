@@ -1,0 +1,10 @@
+//! An arena of links: ends, numbered from 0, and joins between two different ends. Each end has its joins in an order.
+#![tactic(auto)]
+
+mod arena;
+mod others;
+mod pairs;
+mod row;
+
+pub use arena::Arena;
+pub use others::Others;
