@@ -83,3 +83,24 @@ live-cleared (Some t ∷ row) (suc p) twin there single =
     let apart : t.other ≢ twin.other = λ e. let s : 0 ≡ suc p = single 0 t refl e in omega arith in
     let test : eqb t.other twin.other ≡ false = ne_eqb t.other twin.other apart in
     rw test (ap (λ r. t.other ∷ r) (live-cleared row p twin there (λ k u h e. let s : suc k ≡ suc p = single (suc k) u h e in omega arith)))
+
+-- gaps at the end of a row
+
+pub live_gaps : (row : List (Option Twin)) → ((k : ℕ) → get_or row k None ≡ None) → live row ≡ []
+live_gaps [] gaps = refl
+live_gaps (None ∷ row) gaps = live_gaps row (λ k. gaps (suc k))
+live_gaps (Some t ∷ row) gaps = let e : Some t ≡ None = gaps 0 in cc
+
+pub live-take_gaps : (n : ℕ) (row : List (Option Twin)) → ((k : ℕ) → n ≤ k → get_or row k None ≡ None)
+  → live (take n row) ≡ live row
+live-take_gaps zero row gaps = sym (live_gaps row (λ k. gaps k (omega arith)))
+live-take_gaps (suc n) [] gaps = refl
+live-take_gaps (suc n) (None ∷ row) gaps = live-take_gaps n row (λ k h. gaps (suc k) (omega arith))
+live-take_gaps (suc n) (Some t ∷ row) gaps = ap (λ r. t.other ∷ r) (live-take_gaps n row (λ k h. gaps (suc k) (omega arith)))
+
+pub get_or-take_gaps : (n : ℕ) (row : List (Option Twin)) → ((k : ℕ) → n ≤ k → get_or row k None ≡ None)
+  → (k : ℕ) → get_or (take n row) k None ≡ get_or row k None
+get_or-take_gaps zero row gaps k = sym (gaps k (omega arith))
+get_or-take_gaps (suc n) [] gaps k = refl
+get_or-take_gaps (suc n) (x ∷ row) gaps zero = refl
+get_or-take_gaps (suc n) (x ∷ row) gaps (suc k) = get_or-take_gaps n row (λ j h. gaps (suc j) (omega arith)) k

@@ -1,11 +1,12 @@
 -- What the arena shows after a write to its rows.
 use Rattle.std.proofs.Common.{◌≡◌, ◌≢◌, ℕ, ◌<◌, ◌≤◌, ◌+◌, List, [], ◌∷◌, ◌++◌, Option, Some, None, length, get_or, set, take, drop, map, refl, sym, ◌∙◌, ap, subst, arith, inl, inr, ◌⊎◌, zero, suc}
 use Rattle.std.proofs.lemmas.Bool.{cases_eq, cases_lt}
+use Rattle.std.specs.Prelude.{Contains}
 use Rattle.std.proofs.lemmas.List.{map-set, set-get_or, set_at, get_or_past, get_or_push, get_or-append_right, get_or_append_left, get_or-set_other, set_comm, length_push, length-set, get_or-set_same}
 use Rattle.link_arena.specs.declared.row.Twin.{Twin}
 use Rattle.link_arena.specs.Links.{others_of, without, joined, with_last, parted, without_other}
 use Rattle.link_arena.specs.Slots.{live, row_at, slot_at, twin_of, IsPaired, IsOpen, put, unpaired, paired, with_gap}
-use Rattle.link_arena.proofs.Live.{live-append, live-push_gap, live-cleared}
+use Rattle.link_arena.proofs.Live.{live-append, live-push_gap, live-cleared, live-take_gaps, get_or-take_gaps}
 use Rattle.link_arena.proofs.Rows.{row_within, place_within, row_at-put_same, row_at-put_other, slot_at-put_same, slot_at-put_other, length-put}
 use Rattle.link_arena.proofs.Named.{others_of-view, contains_from}
 
@@ -88,3 +89,98 @@ parted_comm links a b apart =
     let two : others_of (without_other links b a) a ≡ others_of links a =
         get_or-set_other links b a (without a (others_of links b)) [] apart in
     rw (one, two) (set_comm links a b (without b (others_of links a)) (without a (others_of links b)) apart)
+
+-- a row is cut off where only gaps follow
+
+pub slot_at-row_set : (rows : List (List (Option Twin))) (end : ℕ) (row : List (Option Twin)) → end < length rows
+  → ((k : ℕ) → get_or row k None ≡ slot_at rows end k) → (e i : ℕ) → slot_at (set rows end row) e i ≡ slot_at rows e i
+slot_at-row_set rows end row within same e i =
+    elim (cases_eq e end) [
+      inl here ↦
+        let P : ℕ → Type 0 = λ (x : ℕ). slot_at (set rows end row) x i ≡ slot_at rows x i in
+        let is : row_at (set rows end row) end ≡ row = get_or-set_same rows end row [] within in
+        subst P (sym here) (rw is (same i))
+    | inr other ↦
+        let is : row_at (set rows end row) e ≡ row_at rows e = get_or-set_other rows end e row [] other in
+        rw is refl
+    ]
+
+pub view-row_set : (rows : List (List (Option Twin))) (end : ℕ) (row : List (Option Twin))
+  → live row ≡ live (row_at rows end) → map live (set rows end row) ≡ map live rows
+view-row_set rows end row same =
+    map-set live rows end row
+      ∙ (ap (set (map live rows) end) (same ∙ sym (others_of-view rows end)) ∙ set-get_or (map live rows) end [])
+
+pub view-cut : (rows : List (List (Option Twin))) (end n : ℕ) → ((k : ℕ) → n ≤ k → slot_at rows end k ≡ None)
+  → map live (set rows end (take n (row_at rows end))) ≡ map live rows
+view-cut rows end n gaps = view-row_set rows end (take n (row_at rows end)) (live-take_gaps n (row_at rows end) gaps)
+
+pub IsPaired-cut : (rows : List (List (Option Twin))) (end n : ℕ) → end < length rows
+  → ((k : ℕ) → n ≤ k → slot_at rows end k ≡ None) → IsPaired rows → IsPaired (set rows end (take n (row_at rows end)))
+IsPaired-cut rows end n within gaps =
+    IsPaired-same rows (set rows end (take n (row_at rows end)))
+      (slot_at-row_set rows end (take n (row_at rows end)) within (get_or-take_gaps n (row_at rows end) gaps))
+
+-- a join of two ends: gaps at the end of both rows become twins
+
+pub IsOpen-with_gaps : (rows : List (List (Option Twin))) (a b : ℕ) → b ≢ a → a < length rows → b < length rows
+  → ¬ Contains (live (row_at rows a)) b
+  → IsOpen (with_gap (with_gap rows a) b) a (length (row_at rows a)) (twin_of b (length (row_at (with_gap rows a) b)))
+IsOpen-with_gaps rows a b apart a_within b_within unjoined =
+    let one : List (List (Option Twin)) = with_gap rows a in
+    let two : List (List (Option Twin)) = with_gap one b in
+    let one_len : length one ≡ length rows = length-set rows a (row_at rows a ++ None ∷ []) in
+    let two_len : length two ≡ length one = length-set one b (row_at one b ++ None ∷ []) in
+    let b_in : b < length one = omega arith in
+    let row_a : row_at two a ≡ row_at rows a ++ None ∷ [] =
+        row_at-with_gap_other one b a (λ e. apart (sym e)) ∙ row_at-with_gap_same rows a a_within in
+    let row_b : row_at two b ≡ row_at one b ++ None ∷ [] = row_at-with_gap_same one b b_in in
+    let slot : (e i : ℕ) → slot_at two e i ≡ slot_at rows e i =
+        λ e i. slot_at-with_gap one b b_in e i ∙ slot_at-with_gap rows a a_within e i in
+    record {
+      apart = apart;
+      end_within = omega arith;
+      within = rw row_a (omega (arith, length_push (row_at rows a) None));
+      gap = slot a (length (row_at rows a)) ∙ get_or_past (row_at rows a) (length (row_at rows a)) None (omega arith);
+      other_end_within = omega arith;
+      other_within = rw row_b (omega (arith, length_push (row_at one b) None));
+      other_gap = slot_at-with_gap one b b_in b (length (row_at one b))
+          ∙ get_or_past (row_at one b) (length (row_at one b)) None (omega arith);
+      unnamed = λ k u h e.
+          let has : Contains (live (row_at rows a)) u.other = contains_from (row_at rows a) k u (sym (slot a k) ∙ h) in
+          let P : ℕ → Type 0 = λ (x : ℕ). Contains (live (row_at rows a)) x in
+          unjoined (subst P e has);
+    }
+
+pub live-last : (row : List (Option Twin)) (twin : Twin)
+  → live (set (row ++ None ∷ []) (length row) (Some twin)) ≡ live row ++ twin.other ∷ []
+live-last row twin = rw (set_at row None [] (Some twin) (length row) refl) (live-append row (Some twin ∷ []))
+
+pub view-joined : (rows : List (List (Option Twin))) (a b : ℕ) → b ≢ a → a < length rows → b < length rows
+  → map live (paired (with_gap (with_gap rows a) b) a (length (row_at rows a)) (twin_of b (length (row_at (with_gap rows a) b))))
+    ≡ joined (map live rows) a b
+view-joined rows a b apart a_within b_within =
+    let apart' : a ≢ b = λ e. apart (sym e) in
+    let one : List (List (Option Twin)) = with_gap rows a in
+    let two : List (List (Option Twin)) = with_gap one b in
+    let i : ℕ = length (row_at rows a) in
+    let j : ℕ = length (row_at one b) in
+    let one_len : length one ≡ length rows = length-set rows a (row_at rows a ++ None ∷ []) in
+    let b_in : b < length one = omega arith in
+    let row_a : row_at two a ≡ row_at rows a ++ None ∷ [] =
+        row_at-with_gap_other one b a apart' ∙ row_at-with_gap_same rows a a_within in
+    let row_b : row_at two b ≡ row_at one b ++ None ∷ [] = row_at-with_gap_same one b b_in in
+    let row_b' : row_at one b ≡ row_at rows b = row_at-with_gap_other rows a b apart in
+    let same : map live two ≡ map live rows = view-with_gap one b ∙ view-with_gap rows a in
+    let filled : List (List (Option Twin)) = put two a i (Some (twin_of b j)) in
+    let first : live (set (row_at two a) i (Some (twin_of b j))) ≡ others_of (map live rows) a ++ b ∷ [] =
+        rw row_a (live-last (row_at rows a) (twin_of b j) ∙ ap (λ r. r ++ b ∷ []) (sym (others_of-view rows a))) in
+    let view_one : map live filled ≡ with_last (map live rows) a b =
+        view-put two a i (Some (twin_of b j)) ∙ rw (same, first) refl in
+    let row_c : row_at filled b ≡ row_at two b = row_at-put_other two a i (Some (twin_of b j)) b apart in
+    let others_b : others_of (with_last (map live rows) a b) b ≡ live (row_at one b) =
+        get_or-set_other (map live rows) a b (others_of (map live rows) a ++ b ∷ []) [] apart
+          ∙ (others_of-view rows b ∙ ap live (sym row_b')) in
+    let second : live (set (row_at filled b) j (Some (twin_of a i))) ≡ others_of (with_last (map live rows) a b) b ++ a ∷ [] =
+        rw (row_c, row_b) (live-last (row_at one b) (twin_of a i) ∙ ap (λ r. r ++ a ∷ []) (sym others_b)) in
+    view-put filled b j (Some (twin_of a i)) ∙ rw (view_one, second) refl

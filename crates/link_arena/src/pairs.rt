@@ -1,7 +1,7 @@
 ghost use Rattle.std.specs.Prelude.{◌≡◌, ◌≢◌, ℕ, ◌<◌, ◌≤◌, List, length, [], take, map, IfSome, IfNone, ◌↔◌, IsTrue, OnOk, OnErr, IfOk, Contains, slice_index_or, slice_set};
 ghost use Rattle.link_arena.specs.Slots.{live, row_at, slot_at, IsPaired, unpaired, paired, put, IsTaken, IsOpen, with_gap, IsTrimmed};
 ghost use Rattle.std.specs.Bool.{OnTrue, OnFalse};
-ghost use Rattle.link_arena.specs.Links.{joined, parted, IsPartedSomewhere};
+ghost use Rattle.link_arena.specs.Links.{others_of, joined, parted, IsPartedSomewhere};
 
 use crate::row::{Row, Twin};
 use std::alloc::AllocError;
@@ -46,6 +46,7 @@ pub(crate) fn unpair(rows: &mut [Row], end: u32, place: usize, twin: Twin)
     requires there { slot_at rows.old end place ≡ Some twin }
     ensures after { rows.new ≡ unpaired rows.old end place twin }
     ensures kept { IsPaired rows.new }
+    ensures view { map live rows.new ≡ parted (map live rows.old) end twin.other }
 {
     clear_slot(rows, end, place);
     clear_slot(rows, twin.other, twin.place);
@@ -63,27 +64,48 @@ pub(crate) fn pair_up(rows: &mut [Row], end: u32, place: usize, twin: Twin)
     fill_slot(rows, twin.other, twin.place, back);
 }
 
+/// The slots of an end.
+pub(crate) fn slots_at(rows: &[Row], end: u32) -> &[Option<Twin>]
+    requires { end < length rows.now }
+    ensures { result.now ≡ row_at rows.now end }
+{
+    rows[end as usize].slots()
+}
+
 /// Whether an end's row names another end.
 pub(crate) fn names(rows: &[Row], end: u32, other: u32) -> bool
     requires { end < length rows.now }
     ensures { IsTrue result ↔ Contains (live (row_at rows.now end)) other }
 {
-    find(rows[end as usize].slots(), other).is_some()
+    match find(slots_at(rows, end), other) {
+        Some(_) => true,
+        None => false,
+    }
 }
 
 /// Adds a gap at the end of a row, and says its place.
-pub(crate) fn push_gap(rows: &mut [Row], end: u32) -> Result<usize, AllocError>
-    requires within { end < length rows.old }
-    requires paired { IsPaired rows.old }
+fn push_slot(rows: &mut [Row], end: u32) -> Result<usize, AllocError>
+    requires { end < length rows.old }
     ensures place { IfOk result (λ place. place ≡ length (row_at rows.old end)) }
     ensures ok { OnOk result (rows.new ≡ with_gap rows.old end) }
     ensures err { OnErr result (rows.new ≡ rows.old) }
-    ensures kept { IsPaired rows.new }
-    ensures view { map live rows.new ≡ map live rows.old }
 {
     let row = &mut rows[end as usize];
     let place = row.len();
     row.push_gap()?;
+    Ok(place)
+}
+
+/// Adds a gap at the end of a row, which changes no end that a row names.
+fn push_gap(rows: &mut [Row], end: u32) -> Result<usize, AllocError>
+    requires within { end < length rows.old }
+    requires paired { IsPaired rows.old }
+    ensures place { IfOk result (λ place. place ≡ length (row_at rows.old end)) }
+    ensures ok { OnOk result (rows.new ≡ with_gap rows.old end) }
+    ensures kept { IsPaired rows.new }
+    ensures view { map live rows.new ≡ map live rows.old }
+{
+    let place = push_slot(rows, end)?;
     Ok(place)
 }
 
@@ -106,8 +128,8 @@ pub(crate) fn part_at(rows: &mut [Row], end: u32, other: u32)
     ensures kept { IsPaired rows.new }
     ensures view { map live rows.new ≡ parted (map live rows.old) end other }
 {
-    if let Some((place, twin)) = find(rows[end as usize].slots(), other) {
-        unpair(rows, end, place, twin);
+    if let Some(hit) = find(slots_at(rows, end), other) {
+        unpair(rows, end, hit.0, hit.1);
         tidy(rows, end);
         tidy(rows, other);
     }
@@ -140,17 +162,16 @@ pub(crate) fn part_last(rows: &mut [Row], end: u32) -> bool
     requires paired { IsPaired rows.old }
     ensures kept { IsPaired rows.new }
     ensures len { length rows.new ≡ length rows.old }
-    ensures none { OnFalse result ((live (row_at rows.old end) ≡ []) × (map live rows.new ≡ map live rows.old)) }
+    ensures none { OnFalse result ((others_of (map live rows.old) end ≡ []) × (map live rows.new ≡ map live rows.old)) }
     ensures parted { OnTrue result (IsPartedSomewhere (map live rows.old) end (map live rows.new)) }
 {
     trim(rows, end);
-    let row = &rows[end as usize];
-    if row.len() == 0 {
+    let len = slots_at(rows, end).len();
+    if len == 0 {
         return false;
     }
-    let place = row.len() - 1;
-    if let Some(twin) = row.get(place) {
-        unpair(rows, end, place, twin);
+    if let Some(twin) = slots_at(rows, end)[len - 1] {
+        unpair(rows, end, len - 1, twin);
         tidy(rows, twin.other);
     }
     true
@@ -168,6 +189,15 @@ fn trim(rows: &mut [Row], end: u32)
     cut_row(rows, end, len);
 }
 
+/// Cuts a row off.
+fn cut_slots(rows: &mut [Row], end: u32, len: usize)
+    requires within { end < length rows.old }
+    requires gaps { (place : ℕ) → len ≤ place → slot_at rows.old end place ≡ None }
+    ensures { rows.new ≡ slice_set rows.old end (take len (row_at rows.old end)) }
+{
+    rows[end as usize].cut_back(len);
+}
+
 /// Cuts a row off where only gaps follow.
 fn cut_row(rows: &mut [Row], end: u32, len: usize)
     requires within { end < length rows.old }
@@ -177,5 +207,5 @@ fn cut_row(rows: &mut [Row], end: u32, len: usize)
     ensures kept { IsPaired rows.new }
     ensures view { map live rows.new ≡ map live rows.old }
 {
-    rows[end as usize].cut_back(len);
+    cut_slots(rows, end, len);
 }
