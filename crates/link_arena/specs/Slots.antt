@@ -60,3 +60,11 @@ with_gap rows end = slice_set rows end (row_at rows end ++ None ∷ [])
 -- the last slot of a row is no gap
 abbrev pub IsTrimmed : List (Option Twin) → Type 0
 IsTrimmed row = 0 < length row → IsTaken (slice_index_or row (length row - 1) None)
+
+-- a slot stands at another place of its row, which was a gap
+abbrev pub moved : List (List (Option Twin)) → ℕ → ℕ → ℕ → Twin → List (List (Option Twin))
+moved rows end from to twin = paired (unpaired rows end from twin) end to twin
+
+-- no slot of a row is a gap
+abbrev pub IsDense : List (Option Twin) → Type 0
+IsDense row = (place : ℕ) → place < length row → IsTaken (slice_index_or row place None)

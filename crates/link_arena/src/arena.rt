@@ -2,7 +2,7 @@ ghost use Rattle.std.specs.Prelude.{◌≡◌, ◌≢◌, ℕ, ◌+◌, ◌<◌,
 ghost use Rattle.link_arena.specs.Links.{others_of, IsSimple, joined, parted, all_parted};
 
 use crate::others::Others;
-use crate::pairs::{join_at, names, part_at, part_last};
+use crate::pairs::{are_joined, join_at, part_each, part_pair};
 use crate::row::Row;
 use std::alloc::{AllocError, Global};
 use std::marker::Model;
@@ -55,11 +55,13 @@ impl Arena {
     {
         push_marks(&mut self.marks, count)?;
         let before = self.rows.len();
-        let grown = push_rows(&mut self.rows, self.alloc, count);
-        if grown.is_err() {
-            self.rows.truncate(before);
+        match push_rows(&mut self.rows, self.alloc, count) {
+            Ok(()) => Ok(()),
+            Err(error) => {
+                self.rows.truncate(before);
+                Err(error)
+            }
         }
-        grown
     }
 
     /// The ends that an end is joined to, in its order. In time linear in their number.
@@ -85,11 +87,7 @@ impl Arena {
         requires second_within { second < length self.now }
         ensures { IsTrue result ↔ Contains (others_of self.now first) second }
     {
-        if self.rows[first as usize].len() <= self.rows[second as usize].len() {
-            names(self.rows.as_slice(), first, second)
-        } else {
-            names(self.rows.as_slice(), second, first)
-        }
+        are_joined(self.rows.as_slice(), first, second)
     }
 
     /// Joins two ends: each stands last at the other. Without memory the arena stays as it was. In constant time, amortised.
@@ -109,11 +107,7 @@ impl Arena {
         requires { Contains (others_of self.old first) second }
         ensures { self.new ≡ parted self.old first second }
     {
-        if self.rows[first as usize].len() <= self.rows[second as usize].len() {
-            part_at(self.rows.as_mut_slice(), first, second);
-        } else {
-            part_at(self.rows.as_mut_slice(), second, first);
-        }
+        part_pair(self.rows.as_mut_slice(), first, second);
     }
 
     /// Parts an end from all that it is joined to. It takes no memory. In time linear in its degree, amortised.
@@ -121,7 +115,7 @@ impl Arena {
         requires { end < length self.old }
         ensures { self.new ≡ all_parted self.old end }
     {
-        while part_last(self.rows.as_mut_slice(), end) {}
+        part_each(self.rows.as_mut_slice(), end);
     }
 
     /// Puts the ends that an end is joined to in another order. It takes no memory. In time linear in their number.

@@ -1,7 +1,7 @@
 ghost use Rattle.std.specs.Prelude.{◌≡◌, ◌≢◌, ℕ, ◌<◌, ◌≤◌, List, length, [], take, map, IfSome, IfNone, ◌↔◌, IsTrue, OnOk, OnErr, IfOk, Contains, slice_index_or, slice_set};
 ghost use Rattle.link_arena.specs.Slots.{live, row_at, slot_at, IsPaired, unpaired, paired, put, IsTaken, IsOpen, with_gap, IsTrimmed};
 ghost use Rattle.std.specs.Bool.{OnTrue, OnFalse};
-ghost use Rattle.link_arena.specs.Links.{others_of, joined, parted, IsPartedSomewhere};
+ghost use Rattle.link_arena.specs.Links.{others_of, all_parted, joined, parted, IsPartedSomewhere};
 
 use crate::row::{Row, Twin};
 use std::alloc::AllocError;
@@ -78,8 +78,22 @@ pub(crate) fn names(rows: &[Row], end: u32, other: u32) -> bool
     ensures { IsTrue result ↔ Contains (live (row_at rows.now end)) other }
 {
     match find(slots_at(rows, end), other) {
-        Some(_) => true,
+        Some(_hit) => true,
         None => false,
+    }
+}
+
+/// Whether two ends are joined, by the shorter of their rows.
+pub(crate) fn are_joined(rows: &[Row], first: u32, second: u32) -> bool
+    requires first_within { first < length rows.now }
+    requires second_within { second < length rows.now }
+    requires paired { IsPaired rows.now }
+    ensures { IsTrue result ↔ Contains (others_of (map live rows.now) first) second }
+{
+    if slots_at(rows, first).len() <= slots_at(rows, second).len() {
+        names(rows, first, second)
+    } else {
+        names(rows, second, first)
     }
 }
 
@@ -135,6 +149,20 @@ pub(crate) fn part_at(rows: &mut [Row], end: u32, other: u32)
     }
 }
 
+/// Parts two ends, by the shorter of their rows.
+pub(crate) fn part_pair(rows: &mut [Row], first: u32, second: u32)
+    requires paired { IsPaired rows.old }
+    requires named { Contains (others_of (map live rows.old) first) second }
+    ensures kept { IsPaired rows.new }
+    ensures view { map live rows.new ≡ parted (map live rows.old) first second }
+{
+    if slots_at(rows, first).len() <= slots_at(rows, second).len() {
+        part_at(rows, first, second);
+    } else {
+        part_at(rows, second, first);
+    }
+}
+
 /// Adds a join of two ends, last at each.
 pub(crate) fn join_at(rows: &mut [Row], first: u32, second: u32) -> Result<(), AllocError>
     requires apart { first ≢ second }
@@ -156,12 +184,21 @@ pub(crate) fn join_at(rows: &mut [Row], first: u32, second: u32) -> Result<(), A
     Ok(())
 }
 
-/// Parts an end from the last that it is joined to, if there is one.
-pub(crate) fn part_last(rows: &mut [Row], end: u32) -> bool
+/// Parts an end from all that it is joined to.
+pub(crate) fn part_each(rows: &mut [Row], end: u32)
     requires within { end < length rows.old }
     requires paired { IsPaired rows.old }
     ensures kept { IsPaired rows.new }
-    ensures len { length rows.new ≡ length rows.old }
+    ensures view { map live rows.new ≡ all_parted (map live rows.old) end }
+{
+    while part_last(rows, end) {}
+}
+
+/// Parts an end from the last that it is joined to, if there is one.
+fn part_last(rows: &mut [Row], end: u32) -> bool
+    requires within { end < length rows.old }
+    requires paired { IsPaired rows.old }
+    ensures kept { IsPaired rows.new }
     ensures none { OnFalse result ((others_of (map live rows.old) end ≡ []) × (map live rows.new ≡ map live rows.old)) }
     ensures parted { OnTrue result (IsPartedSomewhere (map live rows.old) end (map live rows.new)) }
 {
