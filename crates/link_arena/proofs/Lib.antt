@@ -5,3 +5,6 @@ pub mod Named
 pub mod Views
 pub mod Parting
 pub mod Moves
+pub mod Dense
+pub mod Swaps
+pub mod Orders

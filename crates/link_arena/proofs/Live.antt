@@ -22,7 +22,7 @@ length-live (Some t ∷ row) = omega (arith, length-live row)
 
 -- a slot becomes a gap
 pub length-live-cleared : (row : List (Option Twin)) (place : ℕ)
-  → IsTaken (get_or row place None) → length (live (set row place None)) + 1 ≡ length (live row)
+    → IsTaken (get_or row place None) → length (live (set row place None)) + 1 ≡ length (live row)
 length-live-cleared [] place there = absurd there
 length-live-cleared (None ∷ row) zero there = absurd there
 length-live-cleared (None ∷ row) (suc p) there = length-live-cleared row p there
@@ -36,7 +36,7 @@ place_within_some (x ∷ row) (suc p) there = let h : p < length row = place_wit
 
 -- a gap is filled
 pub length-live-filled : (row : List (Option Twin)) (place : ℕ) (twin : Twin) → place < length row
-  → get_or row place None ≡ None → length (live (set row place (Some twin))) ≡ length (live row) + 1
+    → get_or row place None ≡ None → length (live (set row place (Some twin))) ≡ length (live row) + 1
 length-live-filled [] place twin within there = absurd (omega arith)
 length-live-filled (None ∷ row) zero twin within there = omega arith
 length-live-filled (None ∷ row) (suc p) twin within there = length-live-filled row p twin (omega arith) there
@@ -50,7 +50,7 @@ length-row_set row place slot = length-set row place slot
 
 -- a slot that names the end that stood there leaves what the row names
 pub live-renamed : (row : List (Option Twin)) (place : ℕ) (old new : Twin) → get_or row place None ≡ Some old
-  → new.other ≡ old.other → live (set row place (Some new)) ≡ live row
+    → new.other ≡ old.other → live (set row place (Some new)) ≡ live row
 live-renamed [] place old new there same = cc
 live-renamed (None ∷ row) zero old new there same = cc
 live-renamed (None ∷ row) (suc p) old new there same = live-renamed row p old new there same
@@ -59,7 +59,7 @@ live-renamed (Some t ∷ row) (suc p) old new there same = ap (λ r. t.other ∷
 
 -- a row that names no end but at one place
 without_all : (x : ℕ) (row : List (Option Twin))
-  → ((k : ℕ) (u : Twin) → get_or row k None ≡ Some u → u.other ≢ x) → without x (live row) ≡ live row
+    → ((k : ℕ) (u : Twin) → get_or row k None ≡ Some u → u.other ≢ x) → without x (live row) ≡ live row
 without_all x [] none = refl
 without_all x (None ∷ row) none = without_all x row (λ k u h. none (suc k) u h)
 without_all x (Some t ∷ row) none =
@@ -69,8 +69,8 @@ without_all x (Some t ∷ row) none =
 
 -- a slot becomes a gap: the end that it named is gone
 pub live-cleared : (row : List (Option Twin)) (place : ℕ) (twin : Twin) → get_or row place None ≡ Some twin
-  → ((k : ℕ) (u : Twin) → get_or row k None ≡ Some u → u.other ≡ twin.other → k ≡ place)
-  → live (set row place None) ≡ without twin.other (live row)
+    → ((k : ℕ) (u : Twin) → get_or row k None ≡ Some u → u.other ≡ twin.other → k ≡ place)
+    → live (set row place None) ≡ without twin.other (live row)
 live-cleared [] place twin there single = cc
 live-cleared (None ∷ row) zero twin there single = cc
 live-cleared (None ∷ row) (suc p) twin there single =
@@ -92,14 +92,14 @@ live_gaps (None ∷ row) gaps = live_gaps row (λ k. gaps (suc k))
 live_gaps (Some t ∷ row) gaps = let e : Some t ≡ None = gaps 0 in cc
 
 pub live-take_gaps : (n : ℕ) (row : List (Option Twin)) → ((k : ℕ) → n ≤ k → get_or row k None ≡ None)
-  → live (take n row) ≡ live row
+    → live (take n row) ≡ live row
 live-take_gaps zero row gaps = sym (live_gaps row (λ k. gaps k (omega arith)))
 live-take_gaps (suc n) [] gaps = refl
 live-take_gaps (suc n) (None ∷ row) gaps = live-take_gaps n row (λ k h. gaps (suc k) (omega arith))
 live-take_gaps (suc n) (Some t ∷ row) gaps = ap (λ r. t.other ∷ r) (live-take_gaps n row (λ k h. gaps (suc k) (omega arith)))
 
 pub get_or-take_gaps : (n : ℕ) (row : List (Option Twin)) → ((k : ℕ) → n ≤ k → get_or row k None ≡ None)
-  → (k : ℕ) → get_or (take n row) k None ≡ get_or row k None
+    → (k : ℕ) → get_or (take n row) k None ≡ get_or row k None
 get_or-take_gaps zero row gaps k = sym (gaps k (omega arith))
 get_or-take_gaps (suc n) [] gaps k = refl
 get_or-take_gaps (suc n) (x ∷ row) gaps zero = refl

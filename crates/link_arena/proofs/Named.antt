@@ -38,7 +38,7 @@ pub Contains-first : (y : ℕ) (ys : List ℕ) → Contains (y ∷ ys) y
 Contains-first y ys = let h : 0 < suc (length ys) = omega arith in (0, h, refl)
 
 pub contains_from : (row : List (Option Twin)) (place : ℕ) (twin : Twin) → get_or row place None ≡ Some twin
-  → Contains (live row) twin.other
+    → Contains (live row) twin.other
 contains_from [] place twin there = cc
 contains_from (None ∷ row) zero twin there = cc
 contains_from (None ∷ row) (suc p) twin there = contains_from row p twin there
@@ -50,23 +50,23 @@ contains_from (Some t ∷ row) (suc p) twin there = Contains-later t.other (live
 
 -- the step of a search
 pub unnamed_more : (row : List (Option Twin)) (x i : ℕ) → i < length row → ¬ Contains (live (take i row)) x
-  → ((u : Twin) → get_or row i None ≡ Some u → u.other ≢ x) → ¬ Contains (live (take (i + 1) row)) x
+    → ((u : Twin) → get_or row i None ≡ Some u → u.other ≢ x) → ¬ Contains (live (take (i + 1) row)) x
 unnamed_more row x i within before here has =
     let more : live (take (i + 1) row) ≡ live (take i row) ++ live (get_or row i None ∷ []) =
-        ap live (take_more row i None within) ∙ live-append (take i row) (get_or row i None ∷ []) in
+    ap live (take_more row i None within) ∙ live-append (take i row) (get_or row i None ∷ []) in
     let has' : Contains (live (take i row) ++ live (get_or row i None ∷ [])) x = rw (← more) has in
     elim (Contains-append_cases (live (take i row)) (live (get_or row i None ∷ [])) x has') [
-      inl earlier ↦ before earlier
-    | inr now ↦
-        let n : Named (get_or row i None ∷ []) x = named_from (get_or row i None ∷ []) x now in
-        named_only (get_or row i None) x n here
+      | inl earlier ↦ before earlier
+      | inr now ↦
+          let n : Named (get_or row i None ∷ []) x = named_from (get_or row i None ∷ []) x now in
+          named_only (get_or row i None) x n here
     ]
   where
     named_only : (slot : Option Twin) (x : ℕ) → Named (slot ∷ []) x → ((u : Twin) → slot ≡ Some u → u.other ≢ x) → ⊥
     named_only slot x n none = first slot x n.place n.twin n.there n.says none
       where
         first : (slot : Option Twin) (x p : ℕ) (u : Twin) → get_or (slot ∷ []) p None ≡ Some u → u.other ≡ x
-          → ((u : Twin) → slot ≡ Some u → u.other ≢ x) → ⊥
+            → ((u : Twin) → slot ≡ Some u → u.other ≢ x) → ⊥
         first slot x zero u there says none = none u there says
         first slot x (suc p) u there says none = cc
 
@@ -74,17 +74,17 @@ unnamed_more row x i within before here has =
 pub others_of-view : (rows : List (List (Option Twin))) (end : ℕ) → others_of (map live rows) end ≡ live (row_at rows end)
 others_of-view rows end =
     elim (cases_lt end (length rows)) [
-      inl within ↦ get_or-map live rows end [] [] within
-    | inr past ↦
-        let none : row_at rows end ≡ [] = get_or_past rows end [] past in
-        let len : length (map live rows) ≤ end = rw length-map past in
-        let none' : others_of (map live rows) end ≡ [] = get_or_past (map live rows) end [] len in
-        rw (none, none') refl
+      | inl within ↦ get_or-map live rows end [] [] within
+      | inr past ↦
+          let none : row_at rows end ≡ [] = get_or_past rows end [] past in
+          let len : length (map live rows) ≤ end = rw length-map past in
+          let none' : others_of (map live rows) end ≡ [] = get_or_past (map live rows) end [] len in
+          rw (none, none') refl
     ]
 
 pub live_distinct : (row : List (Option Twin))
-  → ((i j : ℕ) (x y : Twin) → get_or row i None ≡ Some x → get_or row j None ≡ Some y → x.other ≡ y.other → i ≡ j)
-  → (i j d : ℕ) → i < j → j < length (live row) → get_or (live row) i d ≢ get_or (live row) j d
+    → ((i j : ℕ) (x y : Twin) → get_or row i None ≡ Some x → get_or row j None ≡ Some y → x.other ≡ y.other → i ≡ j)
+    → (i j d : ℕ) → i < j → j < length (live row) → get_or (live row) i d ≢ get_or (live row) j d
 live_distinct [] single i j d before within = absurd (omega arith)
 live_distinct (None ∷ row) single i j d before within =
     live_distinct row (λ i j x y h k e. let s : suc i ≡ suc j = single (suc i) (suc j) x y h k e in omega arith) i j d before within
@@ -100,7 +100,7 @@ live_distinct (Some t ∷ row) single (suc i) (suc j) d before within =
     live_distinct row (λ i j x y h k e. let s : suc i ≡ suc j = single (suc i) (suc j) x y h k e in omega arith) i j d b h
 
 pub symmetric_rows : (rows : List (List (Option Twin))) → IsPaired rows → (a b : ℕ)
-  → Contains (live (row_at rows a)) b → Contains (live (row_at rows b)) a
+    → Contains (live (row_at rows a)) b → Contains (live (row_at rows b)) a
 symmetric_rows rows ok a b has =
     let n : Named (row_at rows a) b = named_from (row_at rows a) b has in
     let back : slot_at rows n.twin.other n.twin.place ≡ Some (twin_of a n.place) = ok.twins a n.place n.twin n.there in
@@ -109,7 +109,7 @@ symmetric_rows rows ok a b has =
     contains_from (row_at rows b) n.twin.place (twin_of a n.place) back'
 
 pub within_rows : (rows : List (List (Option Twin))) → IsPaired rows → (a b : ℕ)
-  → Contains (live (row_at rows a)) b → b < length rows
+    → Contains (live (row_at rows a)) b → b < length rows
 within_rows rows ok a b has =
     let n : Named (row_at rows b) a = named_from (row_at rows b) a (symmetric_rows rows ok a b has) in
     row_within rows b n.place n.twin n.there
@@ -121,9 +121,9 @@ loopless_rows rows ok a has =
 
 pub IsSimple-from_paired : (rows : List (List (Option Twin))) → IsPaired rows → IsSimple (map live rows)
 IsSimple-from_paired rows ok = record {
-    within = λ a b. rw (others_of-view rows a, length-map) (within_rows rows ok a b);
-    symmetric = λ a b. rw (others_of-view rows a, others_of-view rows b) (symmetric_rows rows ok a b);
-    loopless = λ a. rw (others_of-view rows a) (loopless_rows rows ok a);
-    single = λ a. rw (others_of-view rows a) (λ i j d before within.
-        live_distinct (row_at rows a) (λ i j x y h k e. ok.single a i j x y h k e) i j d before within);
-  }
+  within = λ a b. rw (others_of-view rows a, length-map) (within_rows rows ok a b);
+  symmetric = λ a b. rw (others_of-view rows a, others_of-view rows b) (symmetric_rows rows ok a b);
+  loopless = λ a. rw (others_of-view rows a) (loopless_rows rows ok a);
+  single = λ a. rw (others_of-view rows a) (λ i j d before within.
+      live_distinct (row_at rows a) (λ i j x y h k e. ok.single a i j x y h k e) i j d before within);
+}

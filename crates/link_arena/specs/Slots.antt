@@ -1,5 +1,5 @@
 -- How an arena keeps its links: at each end a row of slots. A slot is a gap, or names another end and the place of its twin there.
-use Rattle.std.specs.Prelude.{◌≡◌, ◌≢◌, ℕ, ◌<◌, ◌≤◌, ◌-◌, List, [], ◌∷◌, ◌++◌, map, length, slice_index_or, slice_set, Option, Some, None}
+use Rattle.std.specs.Prelude.{◌≡◌, ◌≢◌, ℕ, ◌<◌, ◌≤◌, ◌-◌, List, [], ◌∷◌, ◌++◌, map, length, slice_index_or, slice_set, slice_index, swap, Option, Some, None}
 use Rattle.link_arena.specs.declared.row.Twin.{Twin}
 
 -- the ends that the slots of a row name, in order
@@ -25,10 +25,10 @@ IsTaken (Some twin) = Unit {0}
 -- each slot's twin names it, at another end, and no two slots of a row name one end
 pub record IsPaired (rows : List (List (Option Twin))) : Type 0 where
   pub twins : (end place : ℕ) (twin : Twin) → slot_at rows end place ≡ Some twin
-    → slot_at rows twin.other twin.place ≡ Some (twin_of end place)
+      → slot_at rows twin.other twin.place ≡ Some (twin_of end place)
   pub apart : (end place : ℕ) (twin : Twin) → slot_at rows end place ≡ Some twin → twin.other ≢ end
   pub single : (end i j : ℕ) (x y : Twin) → slot_at rows end i ≡ Some x → slot_at rows end j ≡ Some y
-    → x.other ≡ y.other → i ≡ j
+      → x.other ≡ y.other → i ≡ j
 
 -- one slot is written
 abbrev pub put : List (List (Option Twin)) → ℕ → ℕ → Option Twin → List (List (Option Twin))
@@ -68,3 +68,18 @@ moved rows end from to twin = paired (unpaired rows end from twin) end to twin
 -- no slot of a row is a gap
 abbrev pub IsDense : List (Option Twin) → Type 0
 IsDense row = (place : ℕ) → place < length row → IsTaken (slice_index_or row place None)
+
+-- the slots of a row from one place up to another are gaps
+abbrev pub AreGaps : List (Option Twin) → ℕ → ℕ → Type 0
+AreGaps row low high = (place : ℕ) → low ≤ place → place < high → slice_index_or row place None ≡ None
+
+-- the marks give each end of a list its place there
+abbrev pub IsMarked : List ℕ → List ℕ → Type 0
+IsMarked marks others = (k : ℕ) → k < length others → slice_index marks (slice_index others k) ≡ k
+
+-- an end of a list and the one at a place were exchanged
+pub record IsPutNext (old new : List ℕ) (place other : ℕ) : Type 0 where
+  pub from : ℕ
+  pub from_within : from < length old
+  pub is : slice_index old from ≡ other
+  pub after : new ≡ swap old from place

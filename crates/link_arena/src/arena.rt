@@ -1,8 +1,9 @@
 ghost use Rattle.std.specs.Prelude.{◌≡◌, ◌≢◌, ℕ, ◌+◌, ◌<◌, ◌^◌, List, [], ◌∷◌, ◌++◌, length, replicate, ◌↔◌, IsTrue, IfOk, OnOk, OnErr, Contains, IsPermutation, slice_set, take, ◌≤◌};
 ghost use Rattle.link_arena.specs.Links.{others_of, IsSimple, joined, parted, all_parted};
 
+use crate::joins::{are_joined, join_at, part_each, part_pair};
+use crate::order::reorder;
 use crate::others::Others;
-use crate::pairs::{are_joined, join_at, part_each, part_pair};
 use crate::row::Row;
 use std::alloc::{AllocError, Global};
 use std::marker::Model;
@@ -124,8 +125,12 @@ impl Arena {
         requires same { IsPermutation order.now (others_of self.old end) }
         ensures { self.new ≡ slice_set self.old end order.now }
     {
-        let _ = order;
-        let _ = end;
+        reorder(
+            self.rows.as_mut_slice(),
+            self.marks.as_mut_slice(),
+            end,
+            order,
+        );
     }
 
     /// A copy of an arena. In time linear in the number of its ends and joins.

@@ -2,8 +2,11 @@
 #![tactic(auto)]
 
 mod arena;
+mod joins;
+mod order;
 mod others;
 mod pairs;
+mod places;
 mod row;
 
 pub use arena::Arena;

@@ -13,9 +13,9 @@ clear_slot-requires-2-clause-taken c =
 pub returns-clause-kept : goal.returns-clause-kept
 returns-clause-kept c =
     rw (c.clear_slot-2.ensures, c.clear_slot.ensures)
-      (IsPaired-unpaired c.args.rows.now c.args.end c.args.place c.args.twin c.requires.paired c.requires.there)
+    (IsPaired-unpaired c.args.rows.now c.args.end c.args.place c.args.twin c.requires.paired c.requires.there)
 
 pub returns-clause-view : goal.returns-clause-view
 returns-clause-view c =
     rw (c.clear_slot-2.ensures, c.clear_slot.ensures)
-      (view-unpaired c.args.rows.now c.args.end c.args.place c.args.twin c.requires.paired c.requires.there)
+    (view-unpaired c.args.rows.now c.args.end c.args.place c.args.twin c.requires.paired c.requires.there)

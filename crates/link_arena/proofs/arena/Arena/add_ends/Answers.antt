@@ -15,7 +15,7 @@ invariant_of-self-in-Ok c =
     rw c.in-Ok.ensures.ok (
       IsPaired-grown c.self.inside.rows.items c.args.count c.self.invariant.0,
       omega (arith, c.in_ok-push_marks.ensures.ok),
-      omega arith
+      omega arith,
     )
 
 pub returns-in-Ok-clause-ok : goal.returns-in-Ok-clause-ok

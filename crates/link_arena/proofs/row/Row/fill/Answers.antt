@@ -16,5 +16,5 @@ prove-unreachable-requires c =
       arith,
       length-live-filled c.self.inside.slots.items c.args.place c.args.twin within gap,
       length-live (set c.self.inside.slots.items c.args.place (Some c.args.twin)),
-      length-row_set c.self.inside.slots.items c.args.place (Some c.args.twin)
+      length-row_set c.self.inside.slots.items c.args.place (Some c.args.twin),
     )
