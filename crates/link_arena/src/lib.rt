@@ -11,3 +11,6 @@ mod row;
 
 pub use arena::Arena;
 pub use others::Others;
+
+#[cfg(test)]
+mod tests;
