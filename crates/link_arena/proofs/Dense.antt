@@ -1,9 +1,9 @@
 -- Rows whose slots move down over gaps, and rows without gaps.
-use Rattle.std.proofs.Common.{◌≡◌, ◌≢◌, ℕ, ◌<◌, ◌≤◌, ◌+◌, List, [], ◌∷◌, ◌++◌, Option, Some, None, length, get_or, set, take, drop, map, refl, sym, ◌∙◌, ap, subst, arith, inl, inr, ◌⊎◌, zero, suc}
-use Rattle.std.proofs.lemmas.Bool.{cases_eq, cases_lt}
+use Rattle.std.proofs.Common.{◌≡◌, ◌≢◌, ℕ, ◌<◌, ◌≤◌, List, [], ◌∷◌, Option, Some, None, length, get_or, set, take, refl, sym, ◌∙◌, ap, subst, arith, inl, inr, zero, suc}
+use Rattle.std.proofs.lemmas.Bool.{cases_eq}
 use Rattle.std.proofs.lemmas.List.Edits.{swap_is}
 use Rattle.std.specs.Prelude.{swap}
-use Rattle.std.proofs.lemmas.List.{set-set, set_comm, get_or-set_other, get_or-set_same, length-set, get_or-take, length-take-le, get_or_past, set_past}
+use Rattle.std.proofs.lemmas.List.{set-set, set_comm, get_or-set_other, get_or-set_same, length-set, get_or-take, length-take-le}
 use Rattle.link_arena.specs.declared.row.Twin.{Twin}
 use Rattle.link_arena.specs.Slots.{live, IsTaken, IsDense, AreGaps}
 

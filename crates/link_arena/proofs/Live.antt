@@ -1,8 +1,5 @@
 -- The ends that a row names, after a write to it.
-use Rattle.std.proofs.Common.{◌≡◌, ◌≢◌, ℕ, ◌<◌, ◌≤◌, ◌+◌, List, [], ◌∷◌, ◌++◌, Option, Some, None, length, get_or, set, take, drop, map, refl, sym, ◌∙◌, ap, subst, arith, inl, inr, ◌⊎◌, zero, suc, Bool, true, false, not, eqb, eq-eqb, ne_eqb, append-nil, append_assoc, length-set}
-use Rattle.std.proofs.lemmas.Bool.{cases_eq, cases_lt}
-use Rattle.std.specs.Prelude.{filter, Contains, AllPairs}
-use Rattle.std.proofs.lemmas.Grind.{common_steps}
+use Rattle.std.proofs.Common.{◌≡◌, ◌≢◌, ℕ, ◌<◌, ◌≤◌, ◌+◌, List, [], ◌∷◌, ◌++◌, Option, Some, None, length, get_or, set, take, refl, sym, ◌∙◌, ap, arith, zero, suc, true, false, eqb, eq-eqb, ne_eqb, append-nil, length-set}
 use Rattle.link_arena.specs.declared.row.Twin.{Twin}
 use Rattle.link_arena.specs.Links.{without}
 use Rattle.link_arena.specs.Slots.{live, IsTaken}

@@ -1,13 +1,12 @@
 -- A slot is moved to another place of its row.
-use Rattle.std.proofs.Common.{◌≡◌, ◌≢◌, ℕ, ◌<◌, ◌≤◌, ◌+◌, List, [], ◌∷◌, ◌++◌, Option, Some, None, length, get_or, set, take, drop, map, refl, sym, ◌∙◌, ap, subst, arith, inl, inr, ◌⊎◌, zero, suc, ext_get_or}
-use Rattle.std.proofs.lemmas.Bool.{cases_eq, cases_lt}
-use Rattle.std.proofs.lemmas.List.{map-set, set-get_or, set-set, set_comm, get_or-set_other, get_or-set_same, length-set, length-map}
+use Rattle.std.proofs.Common.{◌≡◌, ◌≢◌, ℕ, ◌<◌, List, [], Option, Some, None, length, get_or, set, map, refl, sym, ◌∙◌, ap, subst, arith, inl, inr, ext_get_or}
+use Rattle.std.proofs.lemmas.Bool.{cases_eq}
+use Rattle.std.proofs.lemmas.List.{set-set, get_or-set_other, get_or-set_same, length-set, length-map}
 use Rattle.link_arena.specs.declared.row.Twin.{Twin}
-use Rattle.link_arena.specs.Links.{others_of}
 use Rattle.link_arena.specs.Slots.{live, row_at, slot_at, twin_of, IsPaired, IsOpen, put, unpaired, paired, moved}
 use Rattle.link_arena.proofs.Live.{live-renamed}
-use Rattle.link_arena.proofs.Rows.{row_within, place_within, row_at-put_same, row_at-put_other, slot_at-put_same, slot_at-put_other, length-put}
-use Rattle.link_arena.proofs.Pairing.{slot_at-unpaired, IsPaired-unpaired, IsPaired-paired}
+use Rattle.link_arena.proofs.Rows.{row_within, place_within, row_at-put_same, row_at-put_other, length-put}
+use Rattle.link_arena.proofs.Pairing.{slot_at-unpaired}
 use Rattle.link_arena.proofs.Named.{others_of-view}
 
 -- the rows name the same but at one end

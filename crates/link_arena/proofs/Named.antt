@@ -1,11 +1,11 @@
 -- The ends that a row names, by the places of its slots.
-use Rattle.std.proofs.Common.{◌≡◌, ◌≢◌, ℕ, ◌<◌, ◌≤◌, ◌+◌, List, [], ◌∷◌, ◌++◌, Option, Some, None, length, get_or, set, take, drop, map, refl, sym, ◌∙◌, ap, subst, arith, inl, inr, ◌⊎◌, zero, suc, ◌↔◌}
-use Rattle.std.proofs.lemmas.Bool.{cases_eq, cases_lt}
+use Rattle.std.proofs.Common.{◌≡◌, ◌≢◌, ℕ, ◌<◌, ◌≤◌, ◌+◌, List, [], ◌∷◌, ◌++◌, Option, Some, None, length, get_or, take, map, refl, sym, ◌∙◌, ap, subst, arith, inl, inr, zero, suc}
+use Rattle.std.proofs.lemmas.Bool.{cases_lt}
 use Rattle.std.proofs.lemmas.List.{take_more, get_or-map, get_or_past, length-map}
 use Rattle.std.proofs.lemmas.List.Elements.{Contains-append_cases}
-use Rattle.std.specs.Prelude.{Contains, AllPairs}
+use Rattle.std.specs.Prelude.{Contains}
 use Rattle.link_arena.specs.declared.row.Twin.{Twin}
-use Rattle.link_arena.specs.Links.{others_of, IsSimple, IsSymmetric, IsLoopless, IsSingle}
+use Rattle.link_arena.specs.Links.{others_of, IsSimple}
 use Rattle.link_arena.specs.Slots.{live, row_at, slot_at, twin_of, IsPaired}
 use Rattle.link_arena.proofs.Live.{live-append}
 use Rattle.link_arena.proofs.Rows.{row_within}

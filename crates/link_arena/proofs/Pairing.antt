@@ -1,9 +1,9 @@
 -- Twins that become gaps, and gaps that become twins, leave each slot's twin naming it.
-use Rattle.std.proofs.Common.{◌≡◌, ◌≢◌, ℕ, ◌<◌, ◌≤◌, List, [], ◌∷◌, ◌++◌, Option, Some, None, length, get_or, set, map, refl, sym, ◌∙◌, ap, subst, arith, inl, inr, ◌⊎◌, zero, suc, ◌+◌}
-use Rattle.std.proofs.lemmas.Bool.{cases_eq, cases_lt}
+use Rattle.std.proofs.Common.{◌≡◌, ◌≢◌, ℕ, ◌<◌, List, Option, Some, None, length, refl, sym, ◌∙◌, ap, inl, inr, ◌⊎◌}
+use Rattle.std.proofs.lemmas.Bool.{cases_eq}
 use Rattle.link_arena.specs.declared.row.Twin.{Twin}
-use Rattle.link_arena.specs.Slots.{live, row_at, slot_at, twin_of, IsPaired, IsTaken, IsOpen, put, unpaired, paired}
-use Rattle.link_arena.proofs.Rows.{row_within, place_within, row_at-put_same, row_at-put_other, slot_at-put_same, slot_at-put_other, length-put}
+use Rattle.link_arena.specs.Slots.{row_at, slot_at, twin_of, IsPaired, IsTaken, IsOpen, put, unpaired, paired}
+use Rattle.link_arena.proofs.Rows.{row_within, place_within, row_at-put_other, slot_at-put_same, slot_at-put_other, length-put}
 
 -- whether two places are one
 pub cases_place : (e i a k : ℕ) → ((e ≡ a) × (i ≡ k)) ⊎ (e ≡ a → i ≡ k → ⊥)

@@ -1,10 +1,9 @@
 -- Writes to slots, and what they leave.
-use Rattle.std.proofs.Common.{◌≡◌, ◌≢◌, ℕ, ◌<◌, ◌≤◌, List, [], ◌∷◌, ◌++◌, Option, Some, None, length, get_or, set, map, refl, sym, ◌∙◌, ap, subst, arith, inl, inr, ◌⊎◌, zero, suc, ◌+◌}
+use Rattle.std.proofs.Common.{◌≡◌, ◌≢◌, ℕ, ◌<◌, List, [], Option, Some, None, length, set, refl, sym, subst, inl, inr}
 use Rattle.std.proofs.lemmas.Bool.{cases_eq, cases_lt}
-use Rattle.std.proofs.lemmas.List.{get_or-set_same, get_or-set_other, get_or_past, set_past, length-set, map-set}
-use Rattle.std.proofs.lemmas.Grind.{common_steps}
+use Rattle.std.proofs.lemmas.List.{get_or-set_same, get_or-set_other, get_or_past, set_past, length-set}
 use Rattle.link_arena.specs.declared.row.Twin.{Twin}
-use Rattle.link_arena.specs.Slots.{live, row_at, slot_at, twin_of, IsPaired, put, unpaired, paired}
+use Rattle.link_arena.specs.Slots.{row_at, slot_at, put}
 
 -- no slot stands outside the rows
 pub row_within : (rows : List (List (Option Twin))) (end place : ℕ) (twin : Twin)

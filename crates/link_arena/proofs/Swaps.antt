@@ -1,9 +1,9 @@
 -- Two slots of a row are exchanged by way of a gap.
-use Rattle.std.proofs.Common.{◌≡◌, ◌≢◌, ℕ, ◌<◌, ◌≤◌, ◌+◌, List, [], ◌∷◌, ◌++◌, Option, Some, None, length, get_or, set, take, drop, map, refl, sym, ◌∙◌, ap, subst, arith, inl, inr, ◌⊎◌, zero, suc}
-use Rattle.std.proofs.lemmas.Bool.{cases_eq, cases_lt}
-use Rattle.std.proofs.lemmas.List.{set-set, set_comm, get_or-set_other, get_or-set_same, length-set, get_or_past}
+use Rattle.std.proofs.Common.{◌≡◌, ◌≢◌, ℕ, ◌<◌, List, Option, Some, None, length, get_or, set, map, refl, sym, ◌∙◌, ap, subst, arith, inl, inr}
+use Rattle.std.proofs.lemmas.Bool.{cases_eq}
+use Rattle.std.proofs.lemmas.List.{set-set, get_or-set_other, get_or-set_same, length-set}
 use Rattle.link_arena.specs.declared.row.Twin.{Twin}
-use Rattle.link_arena.specs.Slots.{live, row_at, slot_at, twin_of, IsPaired, IsOpen, put, unpaired, paired, moved}
+use Rattle.link_arena.specs.Slots.{live, row_at, slot_at, twin_of, IsPaired, IsOpen, unpaired, paired, moved}
 use Rattle.link_arena.proofs.Live.{live-renamed}
 use Rattle.link_arena.proofs.Rows.{row_within, place_within}
 use Rattle.link_arena.proofs.Pairing.{IsPaired-unpaired}

@@ -1,13 +1,13 @@
 -- What the arena shows after a write to its rows.
-use Rattle.std.proofs.Common.{◌≡◌, ◌≢◌, ℕ, ◌<◌, ◌≤◌, ◌+◌, List, [], ◌∷◌, ◌++◌, Option, Some, None, length, get_or, set, take, drop, map, refl, sym, ◌∙◌, ap, subst, arith, inl, inr, ◌⊎◌, zero, suc}
-use Rattle.std.proofs.lemmas.Bool.{cases_eq, cases_lt}
+use Rattle.std.proofs.Common.{◌≡◌, ◌≢◌, ℕ, ◌<◌, ◌≤◌, List, [], ◌∷◌, ◌++◌, Option, Some, None, length, get_or, set, take, map, refl, sym, ◌∙◌, ap, subst, arith, inl, inr, zero, suc}
+use Rattle.std.proofs.lemmas.Bool.{cases_eq}
 use Rattle.std.specs.Prelude.{Contains}
-use Rattle.std.proofs.lemmas.List.{map-set, set-get_or, set_at, get_or_past, get_or_push, get_or-append_right, get_or_append_left, get_or-set_other, set_comm, length_push, length-set, get_or-set_same}
+use Rattle.std.proofs.lemmas.List.{map-set, set-get_or, set_at, get_or_past, get_or-set_other, set_comm, length_push, length-set, get_or-set_same}
 use Rattle.link_arena.specs.declared.row.Twin.{Twin}
 use Rattle.link_arena.specs.Links.{others_of, without, joined, with_last, parted, without_other}
 use Rattle.link_arena.specs.Slots.{live, row_at, slot_at, twin_of, IsPaired, IsOpen, put, unpaired, paired, with_gap}
 use Rattle.link_arena.proofs.Live.{live-append, live-push_gap, live-cleared, live-take_gaps, get_or-take_gaps}
-use Rattle.link_arena.proofs.Rows.{row_within, place_within, row_at-put_same, row_at-put_other, slot_at-put_same, slot_at-put_other, length-put}
+use Rattle.link_arena.proofs.Rows.{row_at-put_other}
 use Rattle.link_arena.proofs.Named.{others_of-view, contains_from}
 
 pub view-put : (rows : List (List (Option Twin))) (end place : ℕ) (slot : Option Twin)

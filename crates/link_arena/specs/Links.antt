@@ -1,5 +1,5 @@
 -- Links between numbered ends, as an arena's contracts see them: at each end, the ends that it is joined to, in its order.
-use Rattle.std.specs.Prelude.{◌≡◌, ◌≢◌, ℕ, ◌<◌, length, Bool, not, ◌==◌, List, [], ◌∷◌, ◌++◌, map, filter, slice_index_or, slice_set, Contains, AllPairs}
+use Rattle.std.specs.Prelude.{◌≡◌, ◌≢◌, ℕ, ◌<◌, length, not, ◌==◌, List, [], ◌∷◌, ◌++◌, map, filter, slice_index_or, slice_set, Contains, AllPairs}
 
 -- the ends that an end is joined to, in its order
 abbrev pub others_of : List (List ℕ) → ℕ → List ℕ

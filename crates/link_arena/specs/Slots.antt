@@ -1,5 +1,5 @@
 -- How an arena keeps its links: at each end a row of slots. A slot is a gap, or names another end and the place of its twin there.
-use Rattle.std.specs.Prelude.{◌≡◌, ◌≢◌, ℕ, ◌<◌, ◌≤◌, ◌-◌, List, [], ◌∷◌, ◌++◌, map, length, slice_index_or, slice_set, slice_index, swap, Option, Some, None}
+use Rattle.std.specs.Prelude.{◌≡◌, ◌≢◌, ℕ, ◌<◌, ◌≤◌, ◌-◌, List, [], ◌∷◌, ◌++◌, length, slice_index_or, slice_set, slice_index, swap, Option, Some, None}
 use Rattle.link_arena.specs.declared.row.Twin.{Twin}
 
 -- the ends that the slots of a row name, in order

@@ -1,4 +1,4 @@
-ghost use Rattle.std.specs.Prelude.{◌≡◌, ◌≢◌, ℕ, ◌+◌, ◌<◌, ◌^◌, List, [], ◌∷◌, ◌++◌, length, replicate, ◌↔◌, IsTrue, IfOk, OnOk, OnErr, Contains, IsPermutation, slice_set, take, ◌≤◌};
+ghost use Rattle.std.specs.Prelude.{◌≡◌, ◌≢◌, ℕ, ◌+◌, ◌<◌, ◌^◌, List, [], ◌++◌, length, replicate, ◌↔◌, IsTrue, IfOk, OnOk, OnErr, Contains, IsPermutation, slice_set, take, ◌≤◌};
 ghost use Rattle.link_arena.specs.Links.{others_of, IsSimple, joined, parted, all_parted};
 
 use crate::joins::{are_joined, join_at, part_each, part_pair};

@@ -1,5 +1,5 @@
-ghost use Rattle.std.specs.Prelude.{◌≡◌, ◌≢◌, ℕ, ◌+◌, swap, ◌<◌, ◌≤◌, List, length, [], take, map, IfSome, IfNone, ◌↔◌, IsTrue, OnOk, OnErr, IfOk, Contains, slice_index_or, slice_set};
-ghost use Rattle.link_arena.specs.Slots.{live, row_at, slot_at, IsPaired, unpaired, paired, put, IsTaken, IsOpen, with_gap, IsTrimmed, IsDense, AreGaps, moved};
+ghost use Rattle.std.specs.Prelude.{◌≡◌, ◌≢◌, ◌<◌, length, [], map, IfSome, IfNone, ◌↔◌, IsTrue, OnOk, OnErr, IfOk, Contains, slice_index_or};
+ghost use Rattle.link_arena.specs.Slots.{live, row_at, IsPaired, with_gap};
 ghost use Rattle.std.specs.Bool.{OnTrue, OnFalse};
 ghost use Rattle.link_arena.specs.Links.{others_of, all_parted, joined, parted, IsPartedSomewhere};
 
@@ -60,13 +60,32 @@ pub(crate) fn join_at(rows: &mut [Row], first: u32, second: u32) -> Result<(), A
     ensures err { OnErr result (map live rows.new ≡ map live rows.old) }
 {
     let place = push_gap(rows, first)?;
-    let twin_place = push_gap(rows, second)?;
+    let twin_place = push_twin_gap(rows, first, second)?;
     let twin = Twin {
         other: second,
         place: twin_place,
     };
     pair_up(rows, first, place, twin);
     Ok(())
+}
+
+/// Adds a gap at the end of the second row, or without memory takes the one at the end of the first off again.
+fn push_twin_gap(rows: &mut [Row], first: u32, second: u32) -> Result<usize, AllocError>
+    requires first_within { first < length rows.old }
+    requires second_within { second < length rows.old }
+    requires paired { IsPaired rows.old }
+    ensures place { IfOk result (λ place. place ≡ length (row_at rows.old second)) }
+    ensures ok { OnOk result (rows.new ≡ with_gap rows.old second) }
+    ensures kept { IsPaired rows.new }
+    ensures view { map live rows.new ≡ map live rows.old }
+{
+    match push_gap(rows, second) {
+        Ok(place) => Ok(place),
+        Err(error) => {
+            trim(rows, first);
+            Err(error)
+        }
+    }
 }
 
 /// Parts two ends, by the shorter of their rows.

@@ -1,6 +1,6 @@
-ghost use Rattle.std.specs.Prelude.{◌≡◌, ◌≢◌, ℕ, ◌+◌, ◌<◌, ◌≤◌, List, length, map, take, slice_index, slice_set, swap, Contains, IsPermutation, All, AllPairs};
+ghost use Rattle.std.specs.Prelude.{◌≡◌, ◌≢◌, ◌<◌, ◌≤◌, length, map, slice_set, Contains, IsPermutation, All, AllPairs};
 ghost use Rattle.link_arena.specs.Links.{others_of};
-ghost use Rattle.link_arena.specs.Slots.{live, row_at, slot_at, IsPaired, IsDense, IsMarked, IsPutNext};
+ghost use Rattle.link_arena.specs.Slots.{live, row_at, IsPaired, IsDense, IsMarked, IsPutNext};
 
 use crate::pairs::{slot, slots_at};
 use crate::places::{compact, swap_slots};

@@ -1,7 +1,6 @@
-ghost use Rattle.std.specs.Prelude.{◌≡◌, ◌≢◌, ℕ, ◌+◌, swap, ◌<◌, ◌≤◌, List, length, [], take, map, IfSome, IfNone, ◌↔◌, IsTrue, OnOk, OnErr, IfOk, Contains, slice_index_or, slice_set};
-ghost use Rattle.link_arena.specs.Slots.{live, row_at, slot_at, IsPaired, unpaired, paired, put, IsTaken, IsOpen, with_gap, IsTrimmed, IsDense, AreGaps, moved};
-ghost use Rattle.std.specs.Bool.{OnTrue, OnFalse};
-ghost use Rattle.link_arena.specs.Links.{others_of, all_parted, joined, parted, IsPartedSomewhere};
+ghost use Rattle.std.specs.Prelude.{◌≡◌, ◌<◌, length, map, OnOk, OnErr, IfOk};
+ghost use Rattle.link_arena.specs.Slots.{live, row_at, slot_at, IsPaired, unpaired, paired, put, IsTaken, IsOpen, with_gap};
+ghost use Rattle.link_arena.specs.Links.{parted};
 
 use crate::row::{Row, Twin};
 use std::alloc::AllocError;

@@ -1,7 +1,6 @@
-ghost use Rattle.std.specs.Prelude.{◌≡◌, ◌≢◌, ℕ, ◌+◌, swap, ◌<◌, ◌≤◌, List, length, [], take, map, IfSome, IfNone, ◌↔◌, IsTrue, OnOk, OnErr, IfOk, Contains, slice_index_or, slice_set};
-ghost use Rattle.link_arena.specs.Slots.{live, row_at, slot_at, IsPaired, unpaired, paired, put, IsTaken, IsOpen, with_gap, IsTrimmed, IsDense, AreGaps, moved};
+ghost use Rattle.std.specs.Prelude.{◌≡◌, ◌≢◌, ℕ, ◌+◌, swap, ◌<◌, ◌≤◌, length, take, map, slice_index_or, slice_set};
+ghost use Rattle.link_arena.specs.Slots.{live, row_at, slot_at, IsPaired, IsTaken, IsTrimmed, IsDense, AreGaps, moved};
 ghost use Rattle.std.specs.Bool.{OnTrue, OnFalse};
-ghost use Rattle.link_arena.specs.Links.{others_of, all_parted, joined, parted, IsPartedSomewhere};
 
 use crate::pairs::{pair_up, slots_at, unpair};
 use crate::row::{Row, Twin};

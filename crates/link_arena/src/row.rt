@@ -62,14 +62,6 @@ impl Row {
         self.degree
     }
 
-    /// The slot at a place.
-    pub fn get(&self, place: usize) -> Option<Twin>
-        requires { place < length self.now }
-        ensures { result ≡ slice_index_or self.now place None }
-    {
-        self.slots[place]
-    }
-
     /// Adds a gap at the end.
     pub fn push_gap(&mut self) -> Result<(), AllocError>
         ensures ok { OnOk result (self.new ≡ self.old ++ None ∷ []) }

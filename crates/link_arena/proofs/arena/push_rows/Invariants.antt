@@ -1,4 +1,4 @@
-use Rattle.std.proofs.Common.{◌≡◌, ◌++◌, [], replicate, length}
+use Rattle.std.proofs.Common.{◌≡◌, ◌++◌, [], replicate}
 use Rattle.link_arena.proofs.arena.push_rows.Given as goal
 
 abbrev pub invariant-loop : goal.invariant-loop

@@ -1,5 +1,3 @@
-use Rattle.std.specs.Prelude.{Contains}
-use Rattle.link_arena.specs.Slots.{live, row_at}
 use Rattle.link_arena.proofs.Named.{others_of-view, symmetric_rows}
 use Rattle.link_arena.proofs.joins.are_joined.Goals as goal
 

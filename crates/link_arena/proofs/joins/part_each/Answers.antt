@@ -1,9 +1,8 @@
-use Rattle.std.proofs.Common.{arith, ◌≡◌, ◌<◌, ◌∙◌, sym, ap, List, ℕ, length, map}
+use Rattle.std.proofs.Common.{arith, ◌<◌, ◌∙◌, sym, length, map}
 use Rattle.std.proofs.lemmas.List.{length-map}
-use Rattle.link_arena.specs.Links.{others_of, all_parted}
 use Rattle.link_arena.specs.Slots.{live}
 use Rattle.link_arena.proofs.Named.{IsSimple-from_paired}
-use Rattle.link_arena.proofs.Parting.{IsFewer, IsFewer-parted, all_parted_none}
+use Rattle.link_arena.proofs.Parting.{IsFewer-parted, all_parted_none}
 use Rattle.link_arena.proofs.joins.part_each.Goals as goal
 
 pub loop-smaller : goal.loop-smaller

@@ -1,4 +1,4 @@
-use Rattle.std.proofs.Common.{arith, ◌≡◌, ◌∙◌, sym, subst, ℕ, List, Option, Some, None, ap, ◌-◌, map, length}
+use Rattle.std.proofs.Common.{arith, ◌≡◌, ◌∙◌, sym, subst, ℕ, List, Some, ap, ◌-◌, map, length}
 use Rattle.std.specs.Prelude.{Contains}
 use Rattle.link_arena.specs.Links.{others_of, parted}
 use Rattle.link_arena.specs.Slots.{live, row_at, slot_at, twin_of}

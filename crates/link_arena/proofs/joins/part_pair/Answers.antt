@@ -1,4 +1,4 @@
-use Rattle.std.proofs.Common.{arith, ◌≢◌, ◌∙◌, sym, subst, ℕ}
+use Rattle.std.proofs.Common.{◌≢◌, ◌∙◌, subst, ℕ}
 use Rattle.std.specs.Prelude.{Contains}
 use Rattle.link_arena.specs.Slots.{live, row_at}
 use Rattle.link_arena.proofs.Named.{others_of-view, symmetric_rows, within_rows, loopless_rows}

@@ -1,4 +1,4 @@
-use Rattle.std.proofs.Common.{arith, ◌+◌, ◌≡◌, ◌<◌, ℕ, get_or, set, length, subst, sym, ap, ◌∙◌, Some, None, List}
+use Rattle.std.proofs.Common.{arith, ◌+◌, ◌≡◌, ◌<◌, ℕ, get_or, set, length, subst, sym, ap, ◌∙◌, None, List}
 use Rattle.link_arena.specs.Slots.{live, IsTaken}
 use Rattle.link_arena.proofs.Live.{length-live}
 use Rattle.link_arena.proofs.Dense.{live-dense, length-live-dense}

@@ -1,4 +1,4 @@
-use Rattle.std.proofs.Common.{◌≡◌, ◌<◌, ℕ, get_or, length}
+use Rattle.std.proofs.Common.{◌≡◌, ◌<◌, ℕ, get_or}
 use Rattle.link_arena.specs.Slots.{live}
 use Rattle.link_arena.proofs.order.mark_places.Given as goal
 

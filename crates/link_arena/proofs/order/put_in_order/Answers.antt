@@ -1,6 +1,5 @@
-use Rattle.std.proofs.Common.{arith, ◌≡◌, ◌<◌, ◌≤◌, ℕ, get_or, set, length, subst, sym, ap, ◌∙◌, Some, None, List, take, refl, map}
-use Rattle.std.specs.Prelude.{Contains}
-use Rattle.link_arena.specs.Slots.{live, row_at, slot_at, IsTaken}
+use Rattle.std.proofs.Common.{arith, ◌≡◌, ℕ, set, length, sym, ap, ◌∙◌, List, refl, map}
+use Rattle.link_arena.specs.Slots.{live, row_at}
 use Rattle.std.proofs.lemmas.List.{set-set, take_all}
 use Rattle.std.proofs.lemmas.List.Sorted.{length_permutation, Contains-permutation}
 use Rattle.std.proofs.lemmas.List.Elements.{Contains-get_or}

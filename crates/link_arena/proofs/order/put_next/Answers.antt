@@ -1,9 +1,8 @@
-use Rattle.std.proofs.Common.{arith, ◌≡◌, ◌<◌, ◌≤◌, ℕ, get_or, set, length, subst, sym, ap, ◌∙◌, Some, None, List, length-set}
-use Rattle.std.specs.Prelude.{Contains}
+use Rattle.std.proofs.Common.{arith, ◌≡◌, ◌<◌, get_or, length, subst, sym, ◌∙◌, Some, None, length-set}
 use Rattle.link_arena.specs.Slots.{live, row_at, slot_at, IsTaken}
 use Rattle.link_arena.proofs.Live.{length-live}
 use Rattle.link_arena.proofs.Named.{within_rows, contains_from}
-use Rattle.link_arena.proofs.Dense.{live-dense, length-live-dense}
+use Rattle.link_arena.proofs.Dense.{live-dense}
 use Rattle.link_arena.proofs.Orders.{marked_at, IsMarked-put}
 use Rattle.link_arena.proofs.order.put_next.Goals as goal
 

@@ -1,4 +1,4 @@
-use Rattle.std.proofs.Common.{◌≡◌, ◌∙◌, sym, ap, set, map, []}
+use Rattle.std.proofs.Common.{◌∙◌, sym, ap, set, map, []}
 use Rattle.std.proofs.lemmas.List.{set-get_or}
 use Rattle.link_arena.specs.Slots.{live, row_at}
 use Rattle.link_arena.proofs.Named.{others_of-view}

@@ -1,4 +1,4 @@
-use Rattle.std.proofs.Common.{◌≡◌, Some, None, get_or, ◌∙◌, ap}
+use Rattle.std.proofs.Common.{◌≡◌, Some, ◌∙◌, ap}
 use Rattle.link_arena.specs.Slots.{live, slot_at}
 use Rattle.link_arena.specs.Slots.{row_at}
 use Rattle.link_arena.proofs.Views.{view-itself}

@@ -1,4 +1,4 @@
-use Rattle.std.proofs.Common.{arith, ◌≡◌, ◌∙◌, sym, ap, length, List, [], replicate, map, Option}
+use Rattle.std.proofs.Common.{arith, ◌≡◌, ap, length, List, [], replicate, map, Option}
 use Rattle.std.proofs.lemmas.List.{length-map, length-append, length-replicate}
 use Rattle.link_arena.specs.declared.row.Twin.{Twin}
 use Rattle.link_arena.specs.Slots.{live}
