@@ -1,0 +1,10 @@
+pub mod Rows
+pub mod Live
+pub mod Pairing
+pub mod Named
+pub mod Views
+pub mod Parting
+pub mod Moves
+pub mod Dense
+pub mod Swaps
+pub mod Orders
