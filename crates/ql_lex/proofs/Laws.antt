@@ -1,10 +1,15 @@
 -- Laws of the forms, on lists alone.
-use Rattle.std.proofs.Common.{◌≡◌, ℕ, zero, suc, ◌+◌, ◌-◌, ◌*◌, ◌<◌, ◌≤◌, Result, Ok, Err, map, slice_get, append_assoc, append-nil, Option, add-zero, Bool, true, false, if◌then◌else◌, not, ◌&&◌, nat_lt, List, [], ◌∷◌, ◌++◌, length, take, drop, get_or, Some, None, refl, sym, ◌∙◌, ap, arith, lt-ltb, le-ltb, zero-add, add-one}
+use Rattle.std.proofs.Common.{◌≡◌, ℕ, zero, suc, ◌+◌, ◌-◌, ◌*◌, ◌<◌, ◌≤◌, Result, Ok, Err, map, slice_get, subst, slice_range, append_assoc, append-nil, Option, add-zero, Bool, true, false, if◌then◌else◌, not, ◌&&◌, nat_lt, nat_eq, List, [], ◌∷◌, ◌++◌, length, take, drop, get_or, Some, None, refl, sym, ◌∙◌, ap, arith, lt-ltb, le-ltb, zero-add, add-one}
 use Rattle.std.specs.Prelude.{◌==◌}
-use Rattle.std.proofs.lemmas.List.{drop_more, drop_all, drop-drop, map-append}
+use Rattle.std.proofs.lemmas.List.{drop_more, drop_all, drop-drop, map-append, take-take}
 use Rattle.ql_lex.specs.Forms.{decimal, greatest, front_width, name_len, step_len, comment_end, string_end, closes, escapes, misfit_from, begins_misfit, form, whole_form, whole_form_of, fault}
+use Rattle.std.specs.Str.{IsUtf8}
+use Rattle.std.proofs.lemmas.Str.{IsUtf8-append}
+use Rattle.std.proofs.Math.Nat.{le_refl}
+use Rattle.std.proofs.Math.Seq.{take-nil}
+use Rattle.std.specs.Cmp.Lexicographic.{bytes_decides}
 use Rattle.std.specs.Str.Lossy.{utf8_valid_len}
-use Rattle.std.specs.List.{prefix_len}
+use Rattle.std.specs.List.{prefix_len, starts_with}
 use Rattle.std.specs.Option.{option_map}
 use Rattle.std.proofs.lemmas.Option.{slice_get-map, slice_get_read}
 use Rattle.std.proofs.lemmas.Bool.{eq-eqb, ne_eqb}
@@ -16,7 +21,7 @@ use Rattle.ql_lex.specs.declared.token.TokenKind.{TokenKind}
 use Rattle.mof_metamodel.specs.declared.span.Span.{Span}
 use Rattle.ql_lex.specs.declared.piece.Piece.{Piece}
 use Rattle.ql_lex.specs.declared.word.Word.{Word}
-use Rattle.ql_lex.specs.Lexed.{Lexeme, lexemes_of, with_front, moved, lexed_from, lexed, mark_len, most_bytes}
+use Rattle.ql_lex.specs.Lexed.{Lexeme, lexemes_of, with_front, moved, lexed_from, lexed, mark_len, most_bytes, AreSlices}
 use Rattle.ql_lex.specs.Answers.{seen, seen_all, Fails}
 use Rattle.bstr.specs.Utf8.{decoded}
 use Rattle.bstr.proofs.lemmas.PieceLemmas.{piece-bounds}
@@ -282,3 +287,52 @@ pub lexed-short : (bs : List ℕ) → length bs ≤ most_bytes → lexed bs ≡ 
 unfolding lexed
 lexed-short bs h = ap (λ t. if t then Err (record { kind = Limit; at = length bs }) else lexed_from (drop (mark_len bs) bs) (mark_len bs) 0)
     (le-ltb most_bytes (length bs) h)
+
+-- one more token behind the others
+pub slices_push : (bytes : List ℕ) (ls : List Lexeme) (l : Lexeme) (from to : ℕ) → AreSlices bytes from ls to → to ≤ l.token.span.start
+    → l.token.span.start < l.token.span.end → l.text ≡ slice_range bytes l.token.span.start l.token.span.end
+    → AreSlices bytes from (ls ++ l ∷ []) l.token.span.end
+slices_push bytes [] l from to are behind some text = (omega arith, some, text, le_refl l.token.span.end)
+slices_push bytes (k ∷ ls) l from to are behind some text =
+    (are.0, are.1, are.2, slices_push bytes ls l k.token.span.end to are.3 behind some text)
+
+pub slices_widen : (bytes : List ℕ) (ls : List Lexeme) (from to end : ℕ) → AreSlices bytes from ls to → to ≤ end → AreSlices bytes from ls end
+slices_widen bytes [] from to end are le = omega arith
+slices_widen bytes (k ∷ ls) from to end are le = (are.0, are.1, are.2, slices_widen bytes ls k.token.span.end to end are.3 le)
+
+take-more : (n m : ℕ) (xs : List ℕ) → take (n + m) xs ≡ take n xs ++ take m (drop n xs)
+take-more zero m xs = ap (λ k. take k xs) (zero-add m)
+take-more (suc n) m [] = take-nil (suc n + m) ∙ sym (take-nil m)
+take-more (suc n) m (x ∷ xs) =
+    let e : suc n + m ≡ suc (n + m) = omega arith in ap (λ k. take k (x ∷ xs)) e ∙ ap (λ ys. x ∷ ys) (take-more n m xs)
+
+-- whole characters behind whole characters
+pub whole_more : (bytes rest : List ℕ) (at n : ℕ) → rest ≡ drop at bytes → IsUtf8 (take at bytes) → IsUtf8 (take n rest) → IsUtf8 (take (at + n) bytes)
+whole_more bytes rest at n is front more =
+    let P : List ℕ → Type 0 = λ xs. IsUtf8 xs in
+    subst P (ap (λ xs. take at bytes ++ take n xs) is ∙ sym (take-more at n bytes)) (IsUtf8-append (take at bytes) (take n rest) front more)
+
+-- a front of a front
+pub whole_front : (xs : List ℕ) (n m : ℕ) → n ≤ m → IsUtf8 (take n (take m xs)) → IsUtf8 (take n xs)
+whole_front xs n m h whole = let P : List ℕ → Type 0 = λ ys. IsUtf8 ys in subst P (take-take n m xs h) whole
+
+-- one more word behind the others
+pub slices_word : (bytes : List ℕ) (words more : List Word) (w : Word) (at end : ℕ) → more ≡ words ++ w ∷ [] → w.token.span ≡ record { start = at; end = end }
+    → w.text.now ≡ slice_range bytes at end → at < end → AreSlices bytes 0 (seen_all words) at → AreSlices bytes 0 (seen_all more) end
+slices_word bytes words more w at end pushed span text some are =
+    let start_is : w.token.span.start ≡ at = ap (λ (s : Span). s.start) span in
+    let end_is : w.token.span.end ≡ end = ap (λ (s : Span). s.end) span in
+    let P : List Lexeme → Type 0 = λ ls. AreSlices bytes 0 ls end in
+    let Q : ℕ → Type 0 = λ n. AreSlices bytes 0 (seen_all words ++ seen w ∷ []) n in
+    let text_is : w.text.now ≡ slice_range bytes w.token.span.start w.token.span.end =
+    text ∙ ap (λ n. slice_range bytes n end) (sym start_is) ∙ ap (λ n. slice_range bytes w.token.span.start n) (sym end_is) in
+    subst P (sym (ap seen_all pushed ∙ map-append seen words (w ∷ [])))
+    (subst Q end_is (slices_push bytes (seen_all words) (seen w) 0 at are (omega arith) (omega arith) text_is))
+
+-- a text that is a byte order mark
+pub whole_mark : (bytes : List ℕ) → starts_with nat_eq bytes (0xEF ∷ 0xBB ∷ 0xBF ∷ []) ≡ true → IsUtf8 (take 3 bytes)
+unfolding lib.Utf8.encode
+whole_mark bytes h =
+    let P : List ℕ → Type 0 = λ xs. IsUtf8 xs in
+    let mark : IsUtf8 (0xEF ∷ 0xBB ∷ 0xBF ∷ []) = (0xFEFF ∷ [], (refl, refl)) in
+    subst P ((bytes_decides (0xEF ∷ 0xBB ∷ 0xBF ∷ []) (take 3 bytes)).0 h) mark

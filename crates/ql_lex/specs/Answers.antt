@@ -1,5 +1,6 @@
 -- What the answers of the code stand for.
-use Rattle.std.specs.Prelude.{◌≡◌, List, map, Result, Ok, Err}
+use Rattle.std.specs.Prelude.{◌≡◌, ℕ, List, map, take, Result, Ok, Err}
+use Rattle.std.specs.Str.{IsUtf8}
 use Rattle.ql_lex.specs.declared.word.Word.{Word}
 use Rattle.ql_lex.specs.declared.fault.LexFault.{LexFault}
 use Rattle.ql_lex.specs.declared.fault.LexError.{LexError}
@@ -22,3 +23,8 @@ Fails errors.NoMemory read = Unit {0}
 abbrev pub Gives : {X Y : Type 0} → (X → Y) → Result X LexError → Result Y LexFault → Type 0
 Gives view (Ok x) read = read ≡ Ok (view x)
 Gives view (Err e) read = Fails e read
+
+-- the bytes before the fault are whole characters
+abbrev pub IsWholeBefore : List ℕ → LexError → Type 0
+IsWholeBefore bytes (errors.Fault f) = IsUtf8 (take f.at bytes)
+IsWholeBefore bytes errors.NoMemory = Unit {0}

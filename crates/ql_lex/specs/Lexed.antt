@@ -55,3 +55,13 @@ most_bytes = 1048576
 unfoldable pub lexed : List ℕ → Result (List Lexeme) LexFault
 lexed bytes = if nat_lt most_bytes (length bytes) then Err (record { kind = Limit; at = length bytes })
     else lexed_from (drop (mark_len bytes) bytes) (mark_len bytes) 0
+
+-- these are the tokens of the text
+abbrev pub Lexed : List ℕ → List Lexeme → Type 0
+Lexed bytes lexemes = lexed bytes ≡ Ok lexemes
+
+-- the tokens lie in order between two places of the text, none over another, and the text of each is what stands at its span
+abbrev pub AreSlices : List ℕ → ℕ → List Lexeme → ℕ → Type 0
+AreSlices bytes from [] to = from ≤ to
+AreSlices bytes from (l ∷ ls) to = (from ≤ l.token.span.start) × (l.token.span.start < l.token.span.end)
+    × (l.text ≡ slice_range bytes l.token.span.start l.token.span.end) × AreSlices bytes l.token.span.end ls to

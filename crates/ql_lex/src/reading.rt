@@ -1,8 +1,9 @@
 ghost use Rattle.std.specs.Prelude.{◌≡◌, ◌≢◌, ◌≤◌, ◌<◌, ◌+◌, length, drop, take, Ok, Err, MatchResult, IfOk, IfErr};
+ghost use Rattle.std.specs.Str.{IsUtf8};
 ghost use Rattle.std.specs.Str.Lossy.{utf8_valid_len};
 ghost use Rattle.ql_lex.specs.Forms.{whole_form};
-ghost use Rattle.ql_lex.specs.Lexed.{mark_len as byte_order_mark, lexed, lexed_from, with_front};
-ghost use Rattle.ql_lex.specs.Answers.{Gives, Fails, seen_all};
+ghost use Rattle.ql_lex.specs.Lexed.{mark_len as byte_order_mark, lexed, lexed_from, with_front, AreSlices, most_bytes};
+ghost use Rattle.ql_lex.specs.Answers.{Gives, Fails, IsWholeBefore, seen_all};
 
 use crate::cuts::behind;
 use crate::fault::{LexError, LexFault, LexKind};
@@ -18,6 +19,7 @@ use std::alloc::Global;
 fn read_whole(bytes: &[u8], len: usize) -> Result<&str, LexFault>
     requires { len ≤ length bytes.now }
     ensures before { IfErr result (λ f. f.at ≤ len) }
+    ensures whole { MatchResult result (λ s. IsUtf8 (take len bytes.now)) (λ f. IsUtf8 (take f.at bytes.now)) }
     ensures value { MatchResult result
         (λ s. (s.now ≡ take len bytes.now) × (utf8_valid_len (take len bytes.now) ≡ len))
         (λ f. (utf8_valid_len (take len bytes.now) ≢ len) × (f ≡ record { kind = LexKind.BadUtf8; at = utf8_valid_len (take len bytes.now) })) }
@@ -39,6 +41,7 @@ fn read_front(bytes: &[u8]) -> Result<(Piece, &str), LexFault>
         (λ f. whole_form bytes.now ≡ Err f) }
     ensures within { IfOk result (λ p. (0 < p.0.len) × (p.0.len ≤ length bytes.now)) }
     ensures before { IfErr result (λ f. f.at ≤ length bytes.now) }
+    ensures whole { MatchResult result (λ p. IsUtf8 (take p.0.len bytes.now)) (λ f. IsUtf8 (take f.at bytes.now)) }
 {
     match read_form(bytes) {
         Ok(piece) => match read_whole(bytes, piece.len) {
@@ -59,6 +62,8 @@ fn read_word<'t>(words: &mut Vec<Word<'t>>, bytes: &'t [u8], at: usize) -> Resul
     ensures ok { IfOk result (λ end. with_front (seen_all words.new.items) (lexed_from (drop end bytes.now) end 0)
         ≡ with_front (seen_all words.old.items) (lexed_from (drop at bytes.now) at 0)) }
     ensures err { IfErr result (λ e. Fails e (lexed_from (drop at bytes.now) at 0)) }
+    ensures slices { IfOk result (λ end. AreSlices bytes.now 0 (seen_all words.old.items) at → AreSlices bytes.now 0 (seen_all words.new.items) end) }
+    ensures whole { IsUtf8 (take at bytes.now) → MatchResult result (λ end. IsUtf8 (take end bytes.now)) (λ e. IsWholeBefore bytes.now e) }
 {
     let (piece, text) = match read_front(behind(bytes, at)) {
         Ok(found) => found,
@@ -85,8 +90,11 @@ fn read_word<'t>(words: &mut Vec<Word<'t>>, bytes: &'t [u8], at: usize) -> Resul
 
 /// Reads all that stands from `start` on.
 fn read_words<'t>(alloc: Global, bytes: &'t [u8], start: usize) -> Result<Vec<Word<'t>>, LexError>
-    requires { start ≤ length bytes.now }
-    ensures { Gives (λ v. seen_all v.items) result (lexed_from (drop start bytes.now) start 0) }
+    requires within { start ≤ length bytes.now }
+    requires begun { IsUtf8 (take start bytes.now) }
+    ensures value { Gives (λ v. seen_all v.items) result (lexed_from (drop start bytes.now) start 0) }
+    ensures slices { IfOk result (λ v. AreSlices bytes.now 0 (seen_all v.items) (length bytes.now)) }
+    ensures whole { MatchResult result (λ v. IsUtf8 bytes.now) (λ e. IsWholeBefore bytes.now e) }
 {
     let mut words = Vec::new(alloc);
     let mut at = start;
@@ -101,6 +109,7 @@ fn read_words<'t>(alloc: Global, bytes: &'t [u8], start: usize) -> Result<Vec<Wo
 fn mark_len(bytes: &[u8]) -> usize
     ensures value { result ≡ byte_order_mark bytes.now }
     ensures within { result ≤ length bytes.now }
+    ensures whole { IsUtf8 (take result bytes.now) }
 {
     if bytes.starts_with(b"\xef\xbb\xbf") {
         3
@@ -115,7 +124,13 @@ fn mark_len(bytes: &[u8]) -> usize
 ///
 /// The fault of least place. A text of more than 1,048,576 bytes is told before any other fault.
 pub fn lex<'t>(alloc: Global, text: &'t [u8]) -> Result<Tokens<'t>, LexError>
-    ensures { Gives (λ t. t.lexemes) result (lexed text.now) }
+    // The tokens are those of the text, or the fault is its fault.
+    ensures lexed { Gives (λ t. t.lexemes) result (lexed text.now) }
+    // Each token is a slice of the text, behind the tokens before it.
+    ensures slices { IfOk result (λ t. AreSlices text.now 0 t.lexemes t.end) }
+    ensures end { IfOk result (λ t. t.end ≡ length text.now) }
+    // What has tokens is UTF-8, and so is what stands before a fault, unless the text is too long.
+    ensures utf8 { length text.now ≤ most_bytes → MatchResult result (λ t. IsUtf8 text.now) (λ e. IsWholeBefore text.now e) }
 {
     if text.len() > MAX_SCRIPT {
         return Err(LexError::Fault(LexFault {
