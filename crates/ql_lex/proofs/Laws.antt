@@ -1,5 +1,5 @@
 -- Laws of the forms, on lists alone.
-use Rattle.std.proofs.Common.{◌≡◌, ℕ, zero, suc, ◌+◌, ◌-◌, ◌*◌, ◌<◌, ◌≤◌, Result, Ok, Err, map, slice_get, subst, slice_range, append_assoc, append-nil, Option, add-zero, Bool, true, false, if◌then◌else◌, not, ◌&&◌, nat_lt, nat_eq, List, [], ◌∷◌, ◌++◌, length, take, drop, get_or, Some, None, refl, sym, ◌∙◌, ap, arith, lt-ltb, le-ltb, zero-add, add-one}
+use Rattle.std.proofs.Common.{◌≡◌, ℕ, zero, suc, ◌+◌, ◌-◌, ◌*◌, ◌<◌, ◌≤◌, Result, Ok, Err, map, slice_get, subst, slice_range, append_assoc, append-nil, Option, add-zero, Bool, true, false, if◌then◌else◌, ◌&&◌, nat_lt, nat_eq, List, [], ◌∷◌, ◌++◌, length, take, drop, get_or, Some, None, refl, sym, ◌∙◌, ap, arith, lt-ltb, le-ltb, zero-add}
 use Rattle.std.specs.Prelude.{◌==◌}
 use Rattle.std.proofs.lemmas.List.{drop_more, drop_all, drop-drop, map-append, take-take}
 use Rattle.ql_lex.specs.Forms.{decimal, greatest, front_width, name_len, step_len, comment_end, string_end, closes, escapes, misfit_from, begins_misfit, form, whole_form, whole_form_of, fault}
@@ -23,7 +23,6 @@ use Rattle.ql_lex.specs.declared.piece.Piece.{Piece}
 use Rattle.ql_lex.specs.declared.word.Word.{Word}
 use Rattle.ql_lex.specs.Lexed.{Lexeme, lexemes_of, with_front, moved, lexed_from, lexed, mark_len, most_bytes, AreSlices}
 use Rattle.ql_lex.specs.Answers.{seen, seen_all, Fails}
-use Rattle.bstr.specs.Utf8.{decoded}
 use Rattle.bstr.proofs.lemmas.PieceLemmas.{piece-bounds}
 
 -- further digits make no number less

@@ -1,8 +1,8 @@
 -- What may stand at the front of the bytes of a script: one definition for each form of a token, a blank or a comment.
 -- A form is the number of bytes that it takes, counted from the front. A fault's place is counted from there too.
-use Rattle.std.specs.Prelude.{ℕ, zero, suc, ◌+◌, ◌-◌, ◌*◌, Bool, true, false, if◌then◌else◌, not, ◌&&◌, ◌||◌, ◌==◌, nat_lt, nat_eq, List, [], ◌∷◌, length, take, drop, slice_index, Option, Some, None, Result, Ok, Err, codes}
+use Rattle.std.specs.Prelude.{ℕ, zero, suc, ◌+◌, ◌-◌, ◌*◌, Bool, false, if◌then◌else◌, not, ◌&&◌, ◌||◌, ◌==◌, nat_lt, nat_eq, List, [], ◌∷◌, take, drop, slice_index, Option, Some, None, Result, Ok, Err, codes}
 use Rattle.std.specs.List.{prefix_len, list_any, starts_with}
-use Rattle.std.specs.Option.{option_map_or, option_map}
+use Rattle.std.specs.Option.{option_map_or}
 use Rattle.std.specs.Char.{is_ascii_digit}
 use Rattle.std.specs.Str.{bytes_eq}
 use Rattle.std.specs.Str.Lossy.{utf8_valid_len}

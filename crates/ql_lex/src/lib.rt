@@ -1,4 +1,6 @@
-//! The tokens of a script in the languages of QVT Relations and of its OCL expressions.
+//! The tokens of a script in QVT Relations (QVT 1.3, section 7.13, the concrete syntax) and of the OCL expressions
+//! in it (OCL 2.4, chapter 9). `specs/Forms.antt` has one definition for each form of a token, `specs/Lexed.antt` the
+//! tokens of a text or its first fault.
 #![tactic(auto)]
 
 mod cuts;

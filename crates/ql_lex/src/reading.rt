@@ -118,11 +118,12 @@ fn mark_len(bytes: &[u8]) -> usize
     }
 }
 
-/// The tokens of a script.
+/// The tokens of a script, which is UTF-8. A byte order mark at its start is skipped.
 ///
 /// # Errors
 ///
-/// The fault of least place. A text of more than 1,048,576 bytes is told before any other fault.
+/// The fault of least place, in bytes from the start of the text. A text of more than 1,048,576 bytes is told before
+/// any other fault. `NoMemory` where memory runs out.
 pub fn lex<'t>(alloc: Global, text: &'t [u8]) -> Result<Tokens<'t>, LexError>
     // The tokens are those of the text, or the fault is its fault.
     ensures lexed { Gives (λ t. t.lexemes) result (lexed text.now) }

@@ -1,4 +1,4 @@
-use Rattle.std.proofs.Common.{◌≡◌, ◌+◌, ◌-◌, ◌*◌, ◌≤◌, ◌<◌, sym, ◌∙◌, ap, arith, drop, get_or, nat_lt}
+use Rattle.std.proofs.Common.{◌≡◌, ◌+◌, ◌-◌, ◌*◌, sym, ◌∙◌, ap, arith, drop, get_or, nat_lt}
 use Rattle.ql_lex.specs.Forms.{decimal, greatest}
 use Rattle.ql_lex.proofs.Laws.{decimal-step, decimal-over, decimal-none}
 use Rattle.ql_lex.proofs.forms.is_big.Goals as goal

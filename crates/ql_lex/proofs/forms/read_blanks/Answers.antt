@@ -1,4 +1,4 @@
-use Rattle.std.proofs.Common.{arith, ◌<◌, length}
+use Rattle.std.proofs.Common.{arith}
 use Rattle.std.proofs.lemmas.List.Sums.{prefix_len-le-length}
 use Rattle.mof_metamodel.specs.Characters.{is_blank}
 use Rattle.ql_lex.proofs.Laws.{prefix_len-some}

@@ -1,4 +1,4 @@
-use Rattle.std.proofs.Common.{arith, ◌<◌, length, ap, length-drop, not, drop}
+use Rattle.std.proofs.Common.{arith, length, ap, length-drop, not}
 use Rattle.std.specs.Prelude.{◌==◌}
 use Rattle.std.proofs.lemmas.List.Sums.{prefix_len-le-length}
 use Rattle.ql_lex.proofs.forms.read_line_comment.Goals as goal

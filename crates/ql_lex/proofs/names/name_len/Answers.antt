@@ -1,4 +1,4 @@
-use Rattle.std.proofs.Common.{◌≡◌, ◌+◌, ◌<◌, ◌≤◌, sym, ◌∙◌, ap, arith, drop, length, length-drop}
+use Rattle.std.proofs.Common.{sym, ◌∙◌, ap, arith, drop, length, length-drop}
 use Rattle.std.proofs.lemmas.List.{drop-drop, drop_all}
 use Rattle.ql_lex.specs.Forms.{name_len, step_len}
 use Rattle.ql_lex.proofs.Laws.{name_len-step, name_len-end}

@@ -1,5 +1,5 @@
-use Rattle.std.proofs.Common.{◌∙◌, ◌≡◌, ℕ, Ok, Result, List, subst, sym, ap, arith, drop}
-use Rattle.ql_lex.specs.Lexed.{lexed, lexed_from, mark_len, LexedText, Lexeme}
+use Rattle.std.proofs.Common.{◌∙◌, ℕ, Ok, Result, List, subst, sym, ap, arith, drop}
+use Rattle.ql_lex.specs.Lexed.{lexed_from, LexedText, Lexeme}
 use Rattle.ql_lex.specs.Answers.{Fails}
 use Rattle.ql_lex.specs.declared.fault.LexFault.{LexFault}
 use Rattle.ql_lex.proofs.Laws.{lexed-long, lexed-short}

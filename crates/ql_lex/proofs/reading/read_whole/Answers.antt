@@ -1,6 +1,6 @@
-use Rattle.std.proofs.Common.{◌∙◌, take, arith}
+use Rattle.std.proofs.Common.{◌∙◌, take}
 use Rattle.std.proofs.lemmas.List.{length-take-le}
-use Rattle.std.proofs.lemmas.Str.{utf8_valid_len-IsUtf8, utf8_valid_len_le}
+use Rattle.std.proofs.lemmas.Str.{utf8_valid_len-IsUtf8}
 use Rattle.ql_lex.proofs.reading.read_whole.Goals as goal
 
 pub returns-in-Ok-clause-value : goal.returns-in-Ok-clause-value

@@ -1,4 +1,4 @@
-use Rattle.std.proofs.Common.{◌∙◌, ◌+◌, ◌-◌, ℕ, ◌≡◌, ◌<◌, ◌≤◌, Ok, sym, ap, arith, drop, take, length, length-drop, refl}
+use Rattle.std.proofs.Common.{◌∙◌, ◌+◌, ◌-◌, ℕ, ◌≡◌, sym, ap, arith, drop, take, length, length-drop, refl}
 use Rattle.ql_lex.specs.Forms.{whole_form}
 use Rattle.ql_lex.specs.Answers.{seen_all}
 use Rattle.ql_lex.proofs.Laws.{lexed_from-fault, behind_token, behind_nothing, whole_more, slices_widen, slices_word}

@@ -1,4 +1,4 @@
-use Rattle.std.proofs.Common.{sym, ◌∙◌, arith, ◌<◌, ◌≤◌, length}
+use Rattle.std.proofs.Common.{sym, ◌∙◌, arith}
 use Rattle.ql_lex.proofs.Laws.{comment_end-goes, comment_end-ends, comment_end-none}
 use Rattle.ql_lex.proofs.texts.find_comment_end.Goals as goal
 
