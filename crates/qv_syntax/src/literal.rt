@@ -121,3 +121,29 @@ impl Hash for Literal {
         self.text.hash(state);
     }
 }
+
+#[cfg(test)]
+mod tests {
+    use super::*;
+    use std::test::Fail;
+
+    #[test]
+    fn storable_texts_alone(rt: HostRuntime) -> Result<(), Fail> {
+        for (text, storable) in [
+            ("", true),
+            ("a\té\n", true),
+            ("a\u{1}", false),
+            ("\u{fffe}", false),
+        ] {
+            let text = Text::new(rt.alloc(), text)?;
+            match Literal::new(text) {
+                Some(literal) => {
+                    assert!(rt; storable);
+                    assert!(rt; literal.duplicate(rt.alloc())? == literal);
+                }
+                None => assert!(rt; !storable),
+            }
+        }
+        Ok(())
+    }
+}
