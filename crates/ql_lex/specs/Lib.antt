@@ -1,0 +1,3 @@
+pub mod Forms
+pub mod Lexed
+pub mod Answers

@@ -1,0 +1,38 @@
+use crate::name::Path;
+use mof_metamodel::{Boxed, Span};
+
+/// A kind of collection (OCL 2.4, section 11.6).
+#[derive(Clone, Copy, Debug, PartialEq, Eq, PartialOrd, Ord, Hash)]
+pub enum Kind {
+    Set,
+    Bag,
+    Sequence,
+    OrderedSet,
+}
+
+/// A type as it is written.
+#[derive(Debug, Drop, PartialEq, Eq, PartialOrd, Ord, Hash)]
+pub enum TypeTree {
+    /// `String`
+    Str {
+        span: Span,
+    },
+    /// `Integer`
+    Int {
+        span: Span,
+    },
+    /// `Boolean`
+    Bool {
+        span: Span,
+    },
+    /// A class or an enumeration: `C` or `M::C`.
+    Named {
+        path: Path,
+    },
+    /// A collection: `Set(T)` and its like.
+    Coll {
+        kind: Kind,
+        of: Boxed<TypeTree>,
+        span: Span,
+    },
+}
