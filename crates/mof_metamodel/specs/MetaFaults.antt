@@ -1,7 +1,7 @@
 -- When a description is a metamodel, and which fault it has first where it isn't one.
 -- For each kind of fault: the name at the first place where it stands, in the order of the description.
 use Rattle.std.specs.Prelude.{◌≡◌, ℕ, zero, suc, ◌+◌, ◌<◌, ◌≤◌, Bool, true, false, ◌==◌, ◌||◌, ◌&&◌, not, nat_le, List, [], ◌∷◌, ◌++◌, Option, None, Some, map, length, sum_by, nat_eq, codes, is_some, if◌then◌else◌, IsTrue}
-use Rattle.std.specs.List.{list_any, list_all}
+use Rattle.std.specs.List.{list_any, list_all, range_with_len}
 use Rattle.std.specs.Option.{option_or}
 use Rattle.mof_metamodel.specs.declared.desc.MetaDesc.{MetaDesc}
 use Rattle.mof_metamodel.specs.declared.desc.ClassDesc.{ClassDesc}
@@ -16,7 +16,7 @@ use Rattle.mof_metamodel.specs.declared.fault.MetaKind.{MetaKind}
 use Rattle.mof_metamodel.specs.declared.fault.MetaKind.TheVariants as kinds
 use Rattle.mof_metamodel.specs.declared.limits.TheConstants.{MAX_CLASSES, MAX_ENUMS, MAX_PROPS, MAX_LITERALS}
 use Rattle.mof_metamodel.specs.Characters.{is_storable_character}
-use Rattle.mof_metamodel.specs.Metamodels.{same_name, class_count, enum_count, class_number, enum_number, class_at, enum_at, supers_of, IsCircular, numbers_from, props_of, prop_count, owner_of, prop_at, is_primitive, type_named, type_of, own_number, opposite_number, opposite_of}
+use Rattle.mof_metamodel.specs.Metamodels.{same_name, class_count, enum_count, class_number, enum_number, class_at, enum_at, supers_of, IsCircular, props_of, prop_count, owner_of, prop_at, is_primitive, type_named, type_of, own_number, opposite_number, opposite_of}
 
 -- the first name that is found for an item of the list
 abbrev pub first_of : {X : Type 0} → (X → Option (List ℕ)) → List X → Option (List ℕ)
@@ -106,7 +106,7 @@ duplicate_in_enum desc e =
 
 abbrev pub first_duplicate : MetaDesc → Option (List ℕ)
 first_duplicate desc =
-    option_or (first_of (duplicate_in_class desc) (numbers_from 0 (class_count desc))) (first_of (duplicate_in_enum desc) (numbers_from 0 (enum_count desc)))
+    option_or (first_of (duplicate_in_class desc) (range_with_len 0 (class_count desc))) (first_of (duplicate_in_enum desc) (range_with_len 0 (enum_count desc)))
 
 -- UnknownType: a superclass, a type or an opposite names nothing
 
@@ -174,7 +174,7 @@ agree desc p (Some q) =
     && (not (prop_at desc q).composite || is_number (prop_at desc p).upper 1)
 
 abbrev pub first_bad_opposite : MetaDesc → Option (List ℕ)
-first_bad_opposite desc = first_of (λ p. unless (agree desc p (opposite_of desc p)) (prop_name desc p)) (numbers_from 0 (prop_count desc))
+first_bad_opposite desc = first_of (λ p. unless (agree desc p (opposite_of desc p)) (prop_name desc p)) (range_with_len 0 (prop_count desc))
 
 -- TwoContainers: both ends are composite
 
@@ -183,7 +183,7 @@ has_one_container desc p None = true
 has_one_container desc p (Some q) = not ((prop_at desc p).composite && (prop_at desc q).composite)
 
 abbrev pub first_two_containers : MetaDesc → Option (List ℕ)
-first_two_containers desc = first_of (λ p. unless (has_one_container desc p (opposite_of desc p)) (prop_name desc p)) (numbers_from 0 (prop_count desc))
+first_two_containers desc = first_of (λ p. unless (has_one_container desc p (opposite_of desc p)) (prop_name desc p)) (range_with_len 0 (prop_count desc))
 
 -- the description is a metamodel: no fault stands
 pub record WellMeta (desc : MetaDesc) : Type 0 where

@@ -2,7 +2,7 @@
 -- They go by numbers. Those of classes and of enumerations are their places in the description, from 0, and those of
 -- properties their places among the properties of all classes, class by class. A number past the end has nothing.
 use Rattle.std.specs.Prelude.{◌≡◌, ℕ, zero, suc, ◌+◌, ◌<◌, Bool, true, false, ◌==◌, ◌||◌, ◌&&◌, List, [], ◌∷◌, ◌++◌, Option, None, Some, map, take, length, sum_by, find, position, nat_eq, codes, Contains, is_some, if◌then◌else◌, slice_index_or, filter_map}
-use Rattle.std.specs.List.{list_any, flat_map}
+use Rattle.std.specs.List.{list_any, flat_map, range_with_len}
 use Rattle.std.specs.Option.{option_map, option_or, unwrap_or, option_and_then}
 use Rattle.std.specs.Cmp.Lexicographic.{pointwise}
 use Rattle.mof_metamodel.specs.declared.desc.MetaDesc.{MetaDesc}
@@ -119,14 +119,9 @@ owner_of desc p = (declared_at desc p).0
 abbrev pub prop_at : MetaDesc → ℕ → PropDesc
 prop_at desc p = (declared_at desc p).1
 
--- so many numbers from the first on
-abbrev pub numbers_from : ℕ → ℕ → List ℕ
-numbers_from first zero = []
-numbers_from first (suc n) = first ∷ numbers_from (first + 1) n
-
 -- the properties that the class owns
 abbrev pub own_props : MetaDesc → ℕ → List ℕ
-own_props desc c = numbers_from (sum_by (λ d. length d.props) (take c desc.classes)) (length (class_at desc c).props)
+own_props desc c = range_with_len (sum_by (λ d. length d.props) (take c desc.classes)) (length (class_at desc c).props)
 
 -- The properties of the class in class order, inherited ones included: for each superclass in the written order its
 -- properties, each once and at its first place, and then the class's own.

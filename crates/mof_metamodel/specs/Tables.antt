@@ -1,15 +1,16 @@
 -- What the tables of a metamodel hold: what its description says, by number.
 use Rattle.std.specs.Prelude.{◌≡◌, ℕ, ◌<◌, List, Some, map, length, encode_utf8_all, slice_index_or, IsSome}
+use Rattle.std.specs.List.{range_with_len}
 use Rattle.mof_metamodel.specs.declared.desc.MetaDesc.{MetaDesc}
 use Rattle.mof_metamodel.specs.declared.desc.ClassId.{ClassId}
 use Rattle.mof_metamodel.specs.declared.desc.PropId.{PropId}
 use Rattle.mof_metamodel.specs.declared.desc.Prop.{Prop}
-use Rattle.mof_metamodel.specs.Metamodels.{class_count, prop_count, supers_of, lineage_within, lineage_of, props_of, numbers_from, IsProp}
+use Rattle.mof_metamodel.specs.Metamodels.{class_count, prop_count, supers_of, lineage_within, lineage_of, props_of, IsProp}
 use Rattle.mof_metamodel.specs.MetaFaults.{WellMeta}
 
 -- what f says of each number below n
 abbrev pub table : {X : Type 0} → (ℕ → X) → ℕ → List X
-table f n = map f (numbers_from 0 n)
+table f n = map f (range_with_len 0 n)
 
 abbrev pub class_numbers : List ClassId → List ℕ
 class_numbers ids = map (λ c. c.0) ids

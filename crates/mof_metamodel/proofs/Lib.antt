@@ -1,0 +1,2 @@
+pub mod LineageLemmas
+pub mod TableLemmas
