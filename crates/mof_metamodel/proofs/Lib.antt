@@ -1,2 +1,3 @@
 pub mod LineageLemmas
+pub mod NameLemmas
 pub mod TableLemmas

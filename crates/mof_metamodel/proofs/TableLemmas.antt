@@ -4,16 +4,30 @@ use Rattle.std.specs.Prelude.{nat_eq, nat_lt, not, Some, None, encode_utf8_all, 
 use Rattle.std.specs.List.{range_with_len, position_or_len, prefix_len}
 use Rattle.std.specs.Cmp.Lexicographic.{pointwise}
 use Rattle.std.specs.Str.{IsUtf8, bytes_eq}
-use Rattle.std.proofs.lemmas.List.{get_or-map, length-map, map-append}
-use Rattle.std.proofs.lemmas.List.FromFn.{length-map-range_with_len, get_or-map-range_with_len, map-range_with_len_more}
+use Rattle.std.proofs.lemmas.List.{get_or-map, length-map, map-append, length-append, append-nil, append_assoc, take_more, length-take-le, get_or_default}
+use Rattle.std.proofs.lemmas.List.Elements.{All-map}
+use Rattle.std.proofs.lemmas.List.Sums.{sum_by-cons, sum_by_more, sum_by_more_le}
+use Rattle.mof_metamodel.specs.declared.desc.ClassDesc.{ClassDesc}
+use Rattle.std.proofs.lemmas.List.FromFn.{length-range_with_len, get_or-range_with_len, length-map-range_with_len, get_or-map-range_with_len, map-range_with_len_more, fill_by_all}
 use Rattle.std.proofs.lemmas.Str.{encodes-chars}
 use Rattle.std.proofs.lemmas.Bool.Decides.{nat_tests}
-use Rattle.std.specs.Prelude.{◌≤◌, IsTrue, sum_by}
+use Rattle.std.specs.Prelude.{◌≤◌, IsTrue, sum_by, All, take}
 use Rattle.mof_metamodel.specs.declared.desc.MetaDesc.{MetaDesc}
-use Rattle.mof_metamodel.specs.Metamodels.{same_name, class_count, enum_count}
+use Rattle.mof_metamodel.specs.Metamodels.{same_name, class_count, enum_count, class_at, no_class, no_prop, declared_from, declared_props, prop_count, first_own}
 use Rattle.mof_metamodel.specs.MetaFaults.{is_within_limits}
-use Rattle.mof_metamodel.specs.Tables.{table}
+use Rattle.mof_metamodel.specs.Tables.{table, place_in, placed, IsPlace}
+use Rattle.mof_metamodel.specs.declared.desc.PropDesc.{PropDesc}
 use Rattle.mof_metamodel.specs.TextLaws.{equal_encodings}
+
+-- what the limits of a metamodel say
+pub classes_fit : (desc : MetaDesc) → IsTrue (is_within_limits desc) → class_count desc ≤ 4096
+classes_fit desc h = grind (arith, nat_tests)
+
+pub enums_fit : (desc : MetaDesc) → IsTrue (is_within_limits desc) → enum_count desc ≤ 4096
+enums_fit desc h = grind (arith, nat_tests)
+
+pub props_fit : (desc : MetaDesc) → IsTrue (is_within_limits desc) → sum_by (λ c. length c.props) desc.classes ≤ 65536
+props_fit desc h = grind (arith, nat_tests)
 
 module _ {X Y : Type 0} (g : X → Y) (rows : List X) (f : ℕ → Y) (n : ℕ) where
   -- a table has a row for each number
@@ -29,6 +43,37 @@ module _ {X Y : Type 0} (g : X → Y) (rows : List X) (f : ℕ → Y) (n : ℕ) 
   -- one more row
   pub row_more : (x : X) → map g rows ≡ table f n → g x ≡ f n → map g (rows ++ x ∷ []) ≡ table f (n + 1)
   row_more x e h = simp (map-append) (ap (λ xs. xs ++ g x ∷ []) e ∙ ap (λ y. table f n ++ y ∷ []) h ∙ sym (map-range_with_len_more f 0 n n (omega arith)))
+
+-- a table that is a list of its own
+pub entry_is : {Y : Type 0} (rows : List Y) (f : ℕ → Y) (n : ℕ) → rows ≡ table f n → (i : ℕ) (x : Y) → i < n → x ≡ get_or rows i x → x ≡ f i
+entry_is rows f n e i x l r = r ∙ ap (λ xs. get_or xs i x) e ∙ get_or-map-range_with_len f 0 n i i x l (omega arith)
+
+pub entry_count : {Y : Type 0} (rows : List Y) (f : ℕ → Y) (n : ℕ) → rows ≡ table f n → length rows ≡ n
+entry_count rows f n e = ap length e ∙ length-map-range_with_len f 0 n
+
+-- one more entry
+pub entry_more : {Y : Type 0} (rows : List Y) (f : ℕ → Y) (n : ℕ) (y : Y) → rows ≡ table f n → y ≡ f n → rows ++ y ∷ [] ≡ table f (n + 1)
+entry_more rows f n y e h = ap (λ xs. xs ++ y ∷ []) e ∙ ap (λ z. table f n ++ z ∷ []) h ∙ sym (map-range_with_len_more f 0 n n (omega arith))
+
+-- what a list of rows shows at one of them
+pub shown_at : {X Y : Type 0} (g : X → Y) (rows : List X) (ys : List Y) → map g rows ≡ ys → (i : ℕ) (x : X) (e : Y) → i < length rows → x ≡ get_or rows i x → get_or ys i e ≡ g x
+shown_at g rows ys same i x e l r = sym (ap (λ zs. get_or zs i e) same) ∙ get_or-map g rows i x e l ∙ sym (ap g r)
+
+-- properties: how many, and where
+
+pub declared_count : (k : ℕ) (cs : List ClassDesc) → length (declared_from k cs) ≡ sum_by (λ d. length d.props) cs
+declared_count k [] = refl
+declared_count k (d ∷ ds) = simp (length-append, length-map) (ap (λ n. length d.props + n) (declared_count (k + 1) ds) ∙ sym (sum_by-cons (λ d. length d.props) d ds))
+
+pub prop_total : (desc : MetaDesc) → prop_count desc ≡ sum_by (λ d. length d.props) desc.classes
+prop_total desc = declared_count 0 desc.classes
+
+-- a property that a class owns is one of the properties
+pub own_within : (desc : MetaDesc) (c i : ℕ) → c < class_count desc → i < length (class_at desc c).props → first_own desc c + i < prop_count desc
+own_within desc c i l h = omega (arith, sum_by_more_le (λ d. length d.props) desc.classes c no_class l, prop_total desc)
+
+pub props_fit_of : (desc : MetaDesc) (c : ℕ) → IsTrue (is_within_limits desc) → c < class_count desc → first_own desc c + length (class_at desc c).props ≤ 65536
+props_fit_of desc c h l = omega (arith, sum_by_more_le (λ d. length d.props) desc.classes c no_class l, props_fit desc h)
 
 -- a test that goes through a function finds the same place
 pub position_or_len-map : {X Y : Type 0} (p : Y → Bool) (g : X → Y) (xs : List X) → position_or_len p (map g xs) ≡ position_or_len (λ x. p (g x)) xs
@@ -53,12 +98,40 @@ name_position bytes_of name_of keys xs name utf8 same =
     sym (position-map (bytes_eq name) bytes_of keys) ∙ ap (position (bytes_eq name)) same ∙ position-map (bytes_eq name) (λ x. encode_utf8_all (name_of x)) xs
     ∙ position-agree _ _ (λ x. ap (λ bs. bytes_eq bs (encode_utf8_all (name_of x))) (sym (encodes-chars name utf8)) ∙ sym (equal_encodings (chars name) (name_of x))) xs
 
--- what the limits of a metamodel say
-pub classes_fit : (desc : MetaDesc) → IsTrue (is_within_limits desc) → class_count desc ≤ 4096
-classes_fit desc h = grind (arith, nat_tests)
 
-pub enums_fit : (desc : MetaDesc) → IsTrue (is_within_limits desc) → enum_count desc ≤ 4096
-enums_fit desc h = grind (arith, nat_tests)
+-- ---- one more class
 
-pub props_fit : (desc : MetaDesc) → IsTrue (is_within_limits desc) → sum_by (λ c. length c.props) desc.classes ≤ 65536
-props_fit desc h = grind (arith, nat_tests)
+pub first_own_more : (desc : MetaDesc) (c : ℕ) (x : ClassDesc) → c < class_count desc → x ≡ get_or desc.classes c x → first_own desc (c + 1) ≡ first_own desc c + length x.props
+first_own_more desc c x l r = sum_by_more (λ d. length d.props) desc.classes c x l ∙ ap (λ y. first_own desc c + length y.props) (sym r)
+
+pub class_is : (desc : MetaDesc) (c : ℕ) (x : ClassDesc) → c < class_count desc → x ≡ get_or desc.classes c x → class_at desc c ≡ x
+class_is desc c x l r = get_or_default desc.classes c no_class x l ∙ sym r
+
+declared_from-push : (k : ℕ) (ds : List ClassDesc) (d : ClassDesc) → declared_from k (ds ++ d ∷ []) ≡ declared_from k ds ++ map (λ p. (k + length ds, p)) d.props
+declared_from-push k [] d = append-nil _ ∙ ap (λ n. map (λ p. (n, p)) d.props) (omega arith)
+declared_from-push k (e ∷ ds) d =
+    ap (λ xs. map (λ p. (k, p)) e.props ++ xs) (declared_from-push (k + 1) ds d ∙ ap (λ n. declared_from (k + 1) ds ++ map (λ p. (n, p)) d.props) (omega arith))
+    ∙ sym (append_assoc (map (λ p. (k, p)) e.props) (declared_from (k + 1) ds) _)
+
+pub declared_more : (desc : MetaDesc) (c : ℕ) (x : ClassDesc) → c < class_count desc → x ≡ get_or desc.classes c x
+    → declared_from 0 (take (c + 1) desc.classes) ≡ declared_from 0 (take c desc.classes) ++ map (λ p. (c, p)) x.props
+declared_more desc c x l r =
+    ap (declared_from 0) (take_more desc.classes c x l ∙ ap (λ y. take c desc.classes ++ y ∷ []) (sym r)) ∙ declared_from-push 0 (take c desc.classes) x
+    ∙ ap (λ n. declared_from 0 (take c desc.classes) ++ map (λ p. (n, p)) x.props) (let e = length-take-le c desc.classes (omega (arith, l)) in omega (arith, e))
+
+map-map : {A B C : Type 0} (f : B → C) (g : A → B) (xs : List A) → map f (map g xs) ≡ map (λ x. f (g x)) xs
+map-map f g [] = refl
+map-map f g (x ∷ xs) = ap (λ ys. f (g x) ∷ ys) (map-map f g xs)
+
+-- the places of a class's properties show its properties
+pub placed_own : (desc : MetaDesc) (c : ℕ) (props : List PropDesc) → (class_at desc c).props ≡ props → map (placed desc) (map (place_in c) (range_with_len 0 (length props))) ≡ map (λ p. (c, p)) props
+placed_own desc c props same =
+    map-map (placed desc) (place_in c) _
+    ∙ ap (λ ps. map (λ i. (c, get_or ps i no_prop)) (range_with_len 0 (length props))) same
+    ∙ sym (map-map (λ p. (c, p)) (λ i. get_or props i no_prop) _)
+    ∙ ap (map (λ p. (c, p))) (sym (fill_by_all (λ i. get_or props i no_prop) props (length props) no_prop refl (λ k l. refl)))
+
+pub places_own : (desc : MetaDesc) (c n : ℕ) → c < class_count desc → length (class_at desc c).props ≡ n → All (IsPlace desc) (map (place_in c) (range_with_len 0 n))
+places_own desc c n l same = All-map (IsPlace desc) (place_in c) (range_with_len 0 n) (λ k d h.
+    let short : k < n = omega (arith, length-range_with_len 0 n) in
+    (l, (let at = get_or-range_with_len 0 n k d short in omega (arith, at))))

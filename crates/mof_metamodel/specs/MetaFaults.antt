@@ -1,6 +1,6 @@
 -- When a description is a metamodel, and which fault it has first where it isn't one.
 -- For each kind of fault: the name at the first place where it stands, in the order of the description.
-use Rattle.std.specs.Prelude.{◌≡◌, ℕ, zero, suc, ◌+◌, ◌<◌, ◌≤◌, Bool, true, false, ◌==◌, ◌||◌, ◌&&◌, not, nat_le, List, [], ◌∷◌, ◌++◌, Option, None, Some, map, length, sum_by, nat_eq, codes, is_some, if◌then◌else◌, IsTrue}
+use Rattle.std.specs.Prelude.{◌≡◌, ℕ, zero, suc, ◌+◌, ◌<◌, ◌≤◌, Bool, true, false, ◌==◌, ◌||◌, ◌&&◌, not, nat_le, List, [], ◌∷◌, ◌++◌, Option, None, Some, map, take, length, sum_by, nat_eq, codes, is_some, if◌then◌else◌, IsTrue}
 use Rattle.std.specs.List.{list_any, list_all, range_with_len}
 use Rattle.std.specs.Option.{option_or}
 use Rattle.mof_metamodel.specs.declared.desc.MetaDesc.{MetaDesc}
@@ -51,8 +51,7 @@ abbrev pub is_name_character : ℕ → Bool
 is_name_character c = is_letter c || is_digit c || (c == 95) || (nat_le 128 c && is_storable_character c)
 
 abbrev pub begins_with_digit : List ℕ → Bool
-begins_with_digit [] = false
-begins_with_digit (c ∷ cs) = is_digit c
+begins_with_digit name = list_any is_digit (take 1 name)
 
 abbrev pub is_name : List ℕ → Bool
 is_name name = not (length name == 0) && not (begins_with_digit name) && list_all is_name_character name

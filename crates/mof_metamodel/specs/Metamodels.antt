@@ -119,21 +119,25 @@ owner_of desc p = (declared_at desc p).0
 abbrev pub prop_at : MetaDesc → ℕ → PropDesc
 prop_at desc p = (declared_at desc p).1
 
+-- the number of the first property that the class owns: how many properties the classes before it own
+abbrev pub first_own : MetaDesc → ℕ → ℕ
+first_own desc c = sum_by (λ d. length d.props) (take c desc.classes)
+
 -- the properties that the class owns
 abbrev pub own_props : MetaDesc → ℕ → List ℕ
-own_props desc c = range_with_len (sum_by (λ d. length d.props) (take c desc.classes)) (length (class_at desc c).props)
+own_props desc c = range_with_len (first_own desc c) (length (class_at desc c).props)
 
 -- The properties of the class in class order, inherited ones included: for each superclass in the written order its
 -- properties, each once and at its first place, and then the class's own.
 abbrev pub props_of : MetaDesc → ℕ → List ℕ
 props_of desc c = flat_map (own_props desc) (lineage_of desc c)
 
--- the first property of this name of the class, inherited ones included
-abbrev pub prop_number : MetaDesc → ℕ → List ℕ → Option ℕ
-prop_number desc c name = find (λ p. same_name name (prop_at desc p).name) (props_of desc c)
-
 abbrev pub is_primitive : List ℕ → Bool
 is_primitive name = same_name name (codes "String") || same_name name (codes "Integer") || same_name name (codes "Boolean")
+
+-- the enumeration, or else the class, of this name
+abbrev pub declared_type : MetaDesc → List ℕ → Option PropType
+declared_type desc name = option_or (option_map (λ e. types.Enum (record { 0 = e })) (enum_number desc name)) (option_map (λ c. types.Class (record { 0 = c })) (class_number desc name))
 
 -- the type of this name: a primitive, or else an enumeration, or else a class
 abbrev pub type_named : MetaDesc → List ℕ → Option PropType
@@ -141,14 +145,23 @@ type_named desc name =
     if same_name name (codes "String") then Some types.Str
     else if same_name name (codes "Integer") then Some types.Int
     else if same_name name (codes "Boolean") then Some types.Bool
-    else option_or (option_map (λ e. types.Enum (record { 0 = e })) (enum_number desc name)) (option_map (λ c. types.Class (record { 0 = c })) (class_number desc name))
+    else declared_type desc name
 
 abbrev pub type_of : MetaDesc → ℕ → Option PropType
 type_of desc p = type_named desc (prop_at desc p).type_name
 
 -- the number of the property of this name that the class of this number owns
 abbrev pub own_number : MetaDesc → ℕ → List ℕ → Option ℕ
-own_number desc c name = position (λ d. nat_eq c d.0 && same_name name d.1.name) (declared_props desc)
+own_number desc c name = option_map (λ i. first_own desc c + i) (position (λ p. same_name name p.name) (class_at desc c).props)
+
+-- what is found first for a number of the list
+abbrev pub first_found : (ℕ → Option ℕ) → List ℕ → Option ℕ
+first_found find_in [] = None
+first_found find_in (c ∷ cs) = option_or (find_in c) (first_found find_in cs)
+
+-- the property of this name of the class, inherited ones included: the first in class order
+abbrev pub prop_number : MetaDesc → ℕ → List ℕ → Option ℕ
+prop_number desc c name = first_found (λ a. own_number desc a name) (lineage_of desc c)
 
 abbrev pub opposite_number : MetaDesc → Option OppDesc → Option ℕ
 opposite_number desc None = None

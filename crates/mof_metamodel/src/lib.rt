@@ -5,10 +5,14 @@
 mod boxed;
 mod desc;
 mod fault;
+mod hierarchy;
+mod lineages;
 mod limits;
 mod memory;
-mod meta;
+mod name_table;
+mod named;
 mod names;
+mod numbering;
 mod seq;
 mod span;
 mod text;
@@ -23,7 +27,6 @@ pub use limits::{
     MAX_PROPS, MAX_RESULT, MAX_SCRIPT, MAX_XMI_NESTING,
 };
 pub use memory::NoMemory;
-pub use meta::MetaModel;
 pub use names::{is_identifier, is_storable};
 pub use seq::Seq;
 pub use span::Span;
