@@ -3,14 +3,18 @@ use Rattle.std.proofs.Common.{◌≡◌, ℕ, zero, suc, ◌+◌, ◌<◌, ◌�
 use Rattle.std.specs.Prelude.{nat_eq, Option, Some, None, IsSome, Contains, if◌then◌else◌}
 use Rattle.std.specs.List.{list_any, IsDistinct, AllByRecursion, position, slice_index_or, filter_map, cons_option}
 use Rattle.std.proofs.lemmas.List.Quantifiers.{position-Some}
-use Rattle.std.specs.Option.{option_map, unwrap_or}
+use Rattle.std.specs.Option.{option_map, option_or, unwrap_or, is_some}
+use Rattle.std.specs.Prelude.{All}
+use Rattle.std.proofs.lemmas.List.{get_or-map, length-map}
+use Rattle.std.proofs.lemmas.List.Elements.{Contains-get_or}
+use Rattle.mof_metamodel.specs.declared.desc.ClassId.{ClassId}
 use Rattle.std.proofs.lemmas.Bool.{eqb-true, ne_eqb}
 use Rattle.std.proofs.lemmas.List.Folds.{list_any-append, list_any_at, Any-from_list_any}
 use Rattle.std.proofs.lemmas.Map.Steps.{length-le_from_distinct_below}
 use Rattle.mof_metamodel.specs.declared.desc.MetaDesc.{MetaDesc}
 use Rattle.mof_metamodel.specs.Metamodels.{class_count, class_number, supers_of, IsPath, Conforms, IsCircular, with_item, joined, all_joined, lineage_within, lineage_of, class_at, no_class}
 use Rattle.mof_metamodel.specs.MetaFaults.{IsAcyclic}
-use Rattle.mof_metamodel.specs.Tables.{IsGrounded}
+use Rattle.mof_metamodel.specs.Tables.{IsGrounded, class_numbers, IsClassOf}
 
 -- the list has the number, as a test says
 abbrev pub Has : List ℕ → ℕ → Type 0
@@ -80,14 +84,16 @@ joined-keeps xs (y ∷ ys) q h = joined-keeps (with_item xs y) ys q (with_item-k
 pub joined-right : (xs ys : List ℕ) (q : ℕ) → Has ys q → Has (joined xs ys) q
 joined-right xs [] q h = cc
 joined-right xs (y ∷ ys) q h = elim (or_cases _ _ h) [
-    inl e ↦ joined-keeps (with_item xs y) ys q (let P : ℕ → Type 0 = λ z. Has (with_item xs y) z in subst P (sym (eqb-true q y e)) (with_item-has xs y))
-  | inr e ↦ joined-right (with_item xs y) ys q e ]
+  | inl e ↦ joined-keeps (with_item xs y) ys q (let P : ℕ → Type 0 = λ z. Has (with_item xs y) z in subst P (sym (eqb-true q y e)) (with_item-has xs y))
+  | inr e ↦ joined-right (with_item xs y) ys q e
+]
 
 pub joined-cases : (xs ys : List ℕ) (q : ℕ) → Has (joined xs ys) q → Has xs q ⊎ Has ys q
 joined-cases xs [] q h = inl h
 joined-cases xs (y ∷ ys) q h = elim (joined-cases (with_item xs y) ys q h) [
-    inl e ↦ elim (with_item-cases xs y q e) [ inl f ↦ inl f | inr f ↦ inr (or_left _ _ (eq-eqb q y f)) ]
-  | inr e ↦ inr (or_right _ _ e) ]
+  | inl e ↦ elim (with_item-cases xs y q e) [ inl f ↦ inl f | inr f ↦ inr (or_left _ _ (eq-eqb q y f)) ]
+  | inr e ↦ inr (or_right _ _ e)
+]
 
 -- ---- the items of several lists
 
@@ -110,8 +116,9 @@ module _ (f : ℕ → Option (List ℕ)) where
           → all_joined acc (o ∷ map f ss) ≡ Some out → Has (t ∷ ss) s → (r : List ℕ) × (f s ≡ Some r)
       by None g rest e h = absurd (cc)
       by (Some ys) g rest e h = elim (or_cases _ _ h) [
-          inl k ↦ (ys, ap f (eqb-true s t k) ∙ g)
-        | inr k ↦ rest ys e k ]
+        | inl k ↦ (ys, ap f (eqb-true s t k) ∙ g)
+        | inr k ↦ rest ys e k
+      ]
 
   -- and its items are among the items
   pub all_joined-each : (acc : List ℕ) (ss : List ℕ) (out : List ℕ) (s q : ℕ) (r : List ℕ) → all_joined acc (map f ss) ≡ Some out → Has ss s → f s ≡ Some r → Has r q → Has out q
@@ -122,8 +129,9 @@ module _ (f : ℕ → Option (List ℕ)) where
           → all_joined acc (o ∷ map f ss) ≡ Some out → Has (t ∷ ss) s → f s ≡ Some r → Has r q → Has out q
       by None k rest e h g m = absurd (cc)
       by (Some ys) k rest e h g m = elim (or_cases _ _ h) [
-          inl l ↦ all_joined-keeps (joined acc ys) ss out q e (joined-right acc ys q (let same : r ≡ ys = let fs : f s ≡ f t = ap f (eqb-true s t l) in cc in subst (λ xs. Has xs q) same m))
-        | inr l ↦ rest ys e l g m ]
+        | inl l ↦ all_joined-keeps (joined acc ys) ss out q e (joined-right acc ys q (let same : r ≡ ys = let fs : f s ≡ f t = ap f (eqb-true s t l) in cc in subst (λ xs. Has xs q) same m))
+        | inr l ↦ rest ys e l g m
+      ]
 
   pub all_joined-cases : (acc : List ℕ) (ss : List ℕ) (out : List ℕ) (q : ℕ) → all_joined acc (map f ss) ≡ Some out → Has out q → Has acc q ⊎ ((s : ℕ) × (r : List ℕ) × Has ss s × (f s ≡ Some r) × Has r q)
   all_joined-cases acc [] out q = λ e h. inl (let same : out ≡ acc = cc in subst (λ xs. Has xs q) same h)
@@ -134,8 +142,9 @@ module _ (f : ℕ → Option (List ℕ)) where
           → all_joined acc (o ∷ map f ss) ≡ Some out → Has out q → Has acc q ⊎ ((s : ℕ) × (r : List ℕ) × Has (t ∷ ss) s × (f s ≡ Some r) × Has r q)
       by None k rest e h = absurd (cc)
       by (Some ys) k rest e h = elim (rest ys e h) [
-          inl l ↦ elim (joined-cases acc ys q l) [ inl m ↦ inl m | inr m ↦ inr (t, ys, or_left _ _ (eq-eqb t t refl), k, m) ]
-        | inr l ↦ inr (l.0, l.1, or_right _ _ l.2, l.3, l.4) ]
+        | inl l ↦ elim (joined-cases acc ys q l) [ inl m ↦ inl m | inr m ↦ inr (t, ys, or_left _ _ (eq-eqb t t refl), k, m) ]
+        | inr l ↦ inr (l.0, l.1, or_right _ _ l.2, l.3, l.4)
+      ]
 
   -- where they have no joint list, one of them is missing
   pub all_joined-missing : (acc : List ℕ) (ss : List ℕ) → all_joined acc (map f ss) ≡ None → (s : ℕ) × Has ss s × (f s ≡ None)
@@ -157,6 +166,11 @@ all_joined-agree f g more acc (s ∷ ss) out = by (f s) refl (λ ys. all_joined-
     by None k rest e = absurd (cc)
     by (Some ys) k rest e = ap (λ o. all_joined acc (o ∷ map g ss)) (more s ys k) ∙ rest ys e
 
+-- two functions that agree on the items of a list give one list
+pub map_agree_on : {X : Type 0} (f g : ℕ → X) (ss : List ℕ) → ((s : ℕ) → Has ss s → f s ≡ g s) → map f ss ≡ map g ss
+map_agree_on f g [] same = refl
+map_agree_on f g (s ∷ ss) same = ap (λ x. x ∷ map f ss) (same s (or_left _ _ (eq-eqb s s refl))) ∙ ap (λ xs. g s ∷ xs) (map_agree_on f g ss (λ t h. same t (or_right _ _ h)))
+
 -- ---- class orders
 
 -- the superclasses' joint order, where there is one
@@ -175,10 +189,12 @@ module _ (desc : MetaDesc) where
   lineage_sound (suc n) c q r e h =
       let p = lineage_parts n c r e in
       elim (with_item-cases p.0 c q (subst (λ xs. Has xs q) (sym p.2) h)) [
-          inr same ↦ ([], sym same)
+        | inr same ↦ ([], sym same)
         | inl inside ↦ elim (all_joined-cases (lineage_within desc n) [] (supers_of desc c) p.0 q p.1 inside) [
-              inl none ↦ absurd (cc)
-            | inr m ↦ let rest = lineage_sound n m.0 q m.1 m.3 m.4 in (m.0 ∷ rest.0, (Contains-from_Has (supers_of desc c) m.0 m.2, rest.1)) ] ]
+          | inl none ↦ absurd (cc)
+          | inr m ↦ let rest = lineage_sound n m.0 q m.1 m.3 m.4 in (m.0 ∷ rest.0, (Contains-from_Has (supers_of desc c) m.0 m.2, rest.1))
+        ]
+      ]
 
   -- and each class that it conforms to is in the order
   pub lineage_complete : (n c q : ℕ) (r path : List ℕ) → lineage_within desc n c ≡ Some r → IsPath desc c path q → Has r q
@@ -201,12 +217,12 @@ module _ (desc : MetaDesc) where
   lineage_more (suc n) c r e =
       let p = lineage_parts n c r e in
       let above : all_joined [] (map (lineage_within desc (suc n)) (supers_of desc c)) ≡ Some p.0 =
-          all_joined-agree (lineage_within desc n) (lineage_within desc (suc n)) (lineage_more n) [] (supers_of desc c) p.0 p.1 in
+      all_joined-agree (lineage_within desc n) (lineage_within desc (suc n)) (lineage_more n) [] (supers_of desc c) p.0 p.1 in
       ap (option_map (λ cs. with_item cs c)) above ∙ ap Some p.2
 
   -- ---- circles
 
-  path_snoc : (a b c : ℕ) (path : List ℕ) → IsPath desc a path b → Contains (supers_of desc b) c → IsPath desc a (path ++ c ∷ []) c
+  pub path_snoc : (a b c : ℕ) (path : List ℕ) → IsPath desc a path b → Contains (supers_of desc b) c → IsPath desc a (path ++ c ∷ []) c
   path_snoc a b c [] h s = (let P : ℕ → Type 0 = λ z. Contains (supers_of desc z) c in subst P (sym h) s, refl)
   path_snoc a b c (e ∷ path) h s = (h.0, path_snoc e b c path h.1 s)
 
@@ -255,29 +271,33 @@ module _ (desc : MetaDesc) where
               → Has (cons_option o (filter_map (class_number desc) names)) q → q < class_count desc
           by None e rest h = rest h
           by (Some m) e rest h = elim (or_cases _ _ h) [
-              inl same ↦ let is : q ≡ m = eqb-true q m same in let there : m < class_count desc = (position-Some _ _ m no_class e).0 in omega arith
-            | inr k ↦ rest k ]
+            | inl same ↦ let is : q ≡ m = eqb-true q m same in let there : m < class_count desc = (position-Some _ _ m no_class e).0 in omega arith
+            | inr k ↦ rest k
+          ]
 
-  path_within : (a d : ℕ) (path : List ℕ) → IsPath desc a path d → (q : ℕ) → Has path q → q < class_count desc
+  pub path_within : (a d : ℕ) (path : List ℕ) → IsPath desc a path d → (q : ℕ) → Has path q → q < class_count desc
   path_within a d [] p q h = absurd (cc)
   path_within a d (e ∷ path) p q h = elim (or_cases _ _ h) [
-      inl same ↦ let is : q ≡ e = eqb-true q e same in let there : e < class_count desc = supers_within a e (Has-from_Contains (supers_of desc a) e p.0) in omega arith
-    | inr k ↦ path_within e d path p.1 q k ]
+    | inl same ↦ let is : q ≡ e = eqb-true q e same in let there : e < class_count desc = supers_within a e (Has-from_Contains (supers_of desc a) e p.0) in omega arith
+    | inr k ↦ path_within e d path p.1 q k
+  ]
 
   -- the part of a path up to one of its classes
   path_to : (a d : ℕ) (path : List ℕ) → IsPath desc a path d → (q : ℕ) → Has path q → (e : ℕ) × (front : List ℕ) × Contains (supers_of desc a) e × IsPath desc e front q
   path_to a d [] p q h = absurd (cc)
   path_to a d (e ∷ path) p q h = elim (or_cases _ _ h) [
-      inl same ↦ (e, [], p.0, sym (eqb-true q e same))
-    | inr k ↦ let rest = path_to e d path p.1 q k in (e, rest.0 ∷ rest.1, p.0, (rest.2, rest.3)) ]
+    | inl same ↦ (e, [], p.0, sym (eqb-true q e same))
+    | inr k ↦ let rest = path_to e d path p.1 q k in (e, rest.0 ∷ rest.1, p.0, (rest.2, rest.3))
+  ]
 
   -- a path on which no class reaches itself has each class once
   path_distinct : IsAcyclic desc → (a d : ℕ) (path : List ℕ) → a < class_count desc → IsPath desc a path d → IsDistinct eqb (a ∷ path)
   unfolding IsDistinct
   path_distinct acyclic a d [] l p = (tt, tt)
-  path_distinct acyclic a d (e ∷ path) l p =
-      (apart (e ∷ path) (λ q h same. acyclic a l (let there = path_to a d (e ∷ path) p q h in (there.0, there.1, there.2, (let P : ℕ → Type 0 = λ z. IsPath desc there.0 there.1 z in subst P (sym same) there.3)))),
-       path_distinct acyclic e d path (supers_within a e (Has-from_Contains (supers_of desc a) e p.0)) p.1)
+  path_distinct acyclic a d (e ∷ path) l p = (
+    apart (e ∷ path) (λ q h same. acyclic a l (let there = path_to a d (e ∷ path) p q h in (there.0, there.1, there.2, (let P : ℕ → Type 0 = λ z. IsPath desc there.0 there.1 z in subst P (sym same) there.3)))),
+    path_distinct acyclic e d path (supers_within a e (Has-from_Contains (supers_of desc a) e p.0)) p.1,
+  )
     where
       apart : (qs : List ℕ) → ((q : ℕ) → Has qs q → a ≡ q → ⊥) → AllByRecursion (λ y. eqb a y ≡ false) qs
       apart [] none = tt
@@ -291,8 +311,9 @@ module _ (desc : MetaDesc) where
       by None e = absurd (
           let s = stuck (class_count desc) c e in
           let few = length-le_from_distinct_below (c ∷ s.0) (class_count desc) (path_distinct acyclic c s.1 s.0 l s.3) (λ q h. elim (or_cases _ _ h) [
-              inl same ↦ let is : q ≡ c = eqb-true q c same in omega arith
-            | inr k ↦ path_within c s.1 s.0 s.3 q k ]) in
+            | inl same ↦ let is : q ≡ c = eqb-true q c same in omega arith
+            | inr k ↦ path_within c s.1 s.0 s.3 q k
+          ]) in
           let long : length s.0 ≡ class_count desc = s.2 in
           omega (arith, few))
 
@@ -303,3 +324,31 @@ module _ (desc : MetaDesc) where
       by : (o : Option (List ℕ)) → lineage_within desc (class_count desc) c ≡ o → IsSome o → (Has (unwrap_or o (c ∷ [])) q → Conforms desc c q) × (Conforms desc c q → Has (unwrap_or o (c ∷ [])) q)
       by None e s = absurd (cc)
       by (Some r) e s = (λ h. lineage_sound (class_count desc) c q r e h, λ h. lineage_complete (class_count desc) c q r h.0 e h.1)
+
+  -- superclasses in a table are classes
+  pub supers_are_classes : (c : ℕ) (ids : List ClassId) → class_numbers ids ≡ supers_of desc c → All (IsClassOf desc) ids
+  supers_are_classes c ids same k d l =
+      let at : get_or (class_numbers ids) k d.0 ≡ (get_or ids k d).0 = get_or-map (λ i. i.0) ids k d d.0 l in
+      let long : length (class_numbers ids) ≡ length ids = length-map ids (λ i. i.0) in
+      let inside : Contains (class_numbers ids) (get_or (class_numbers ids) k d.0) = Contains-get_or (class_numbers ids) k d.0 (omega (arith, long)) in
+      let P : List ℕ → Type 0 = λ xs. Contains xs (get_or (class_numbers ids) k d.0) in
+      let within = supers_within c _ (Has-from_Contains (supers_of desc c) _ (subst P same inside)) in
+      omega (arith, within, at)
+
+  -- ---- rounds
+
+  -- an order that was found stays, and a later one is that of one more step
+  pub lineage_later : (n c : ℕ) → option_or (lineage_within desc n c) (cond (is_some (lineage_within desc n c)) None (lineage_within desc (suc n) c)) ≡ lineage_within desc (suc n) c
+  lineage_later n c = by (lineage_within desc n c) refl
+    where
+      by : (o : Option (List ℕ)) → lineage_within desc n c ≡ o → option_or o (cond (is_some o) None (lineage_within desc (suc n) c)) ≡ lineage_within desc (suc n) c
+      by None e = refl
+      by (Some r) e = sym (lineage_more n c r e)
+
+  -- where one more step finds none, no more steps do
+  pub lineage_stays : (n j : ℕ) → ((c : ℕ) → c < class_count desc → lineage_within desc (suc n) c ≡ lineage_within desc n c) → (c : ℕ) → c < class_count desc → lineage_within desc (j + n) c ≡ lineage_within desc n c
+  lineage_stays n zero stays c l = ap (λ m. lineage_within desc m c) (omega arith)
+  lineage_stays n (suc j) stays c l =
+      ap (λ m. lineage_within desc m c) (let e : suc j + n ≡ suc (j + n) = omega arith in e)
+      ∙ ap (λ rows. option_map (λ cs. with_item cs c) (all_joined [] rows)) (map_agree_on _ _ (supers_of desc c) (λ s h. lineage_stays n j stays s (supers_within c s h)))
+      ∙ stays c l

@@ -36,6 +36,10 @@ pub xmlns_characters : chars (codes "xmlns") ≡ codes "xmlns"
 unfolding chars
 xmlns_characters = refl
 
+pub empty_characters : chars [] ≡ []
+unfolding chars
+empty_characters = refl
+
 -- ---- look-ups
 
 pub lookup-view : {K : Type 0} (bytes_of : K → List ℕ) (p : List ℕ → Bool) (es : List (K × ℕ)) → lookup p (map (λ e. (chars (bytes_of e.0), e.1)) es) ≡ lookup (λ k. p (chars (bytes_of k))) es

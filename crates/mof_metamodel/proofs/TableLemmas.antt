@@ -1,11 +1,12 @@
 -- Tables by number, and names looked up in them.
-use Rattle.std.proofs.Common.{◌≡◌, ℕ, ◌+◌, ◌<◌, List, [], ◌∷◌, ◌++◌, Bool, true, false, cond, refl, sym, ◌∙◌, ap, arith, length, get_or, map}
+use Rattle.std.proofs.Common.{◌≡◌, ℕ, zero, suc, ◌+◌, ◌<◌, List, [], ◌∷◌, ◌++◌, Bool, true, false, cond, refl, sym, ◌∙◌, ap, arith, length, get_or, map}
 use Rattle.std.specs.Prelude.{nat_eq, nat_lt, not, Some, None, encode_utf8_all, chars, position, Option}
-use Rattle.std.specs.List.{range_with_len, position_or_len, prefix_len}
+use Rattle.std.specs.List.{range_with_len, position_or_len, prefix_len, filter_map, cons_option, zip}
+use Rattle.std.specs.Option.{option_to_list, option_or}
 use Rattle.std.specs.Cmp.Lexicographic.{pointwise}
 use Rattle.std.specs.Str.{IsUtf8, bytes_eq}
-use Rattle.std.proofs.lemmas.List.{get_or-map, length-map, map-append, length-append, append-nil, append_assoc, take_more, length-take-le, get_or_default}
-use Rattle.std.proofs.lemmas.List.Elements.{All-map}
+use Rattle.std.proofs.lemmas.List.{get_or-map, length-map, map-id, map-append, length-append, append-nil, append_assoc, take_more, length-take-le, get_or_default}
+use Rattle.std.proofs.lemmas.List.Elements.{All-map, filter_map-append}
 use Rattle.std.proofs.lemmas.List.Sums.{sum_by-cons, sum_by_more, sum_by_more_le}
 use Rattle.mof_metamodel.specs.declared.desc.ClassDesc.{ClassDesc}
 use Rattle.std.proofs.lemmas.List.FromFn.{length-range_with_len, get_or-range_with_len, length-map-range_with_len, get_or-map-range_with_len, map-range_with_len_more, fill_by_all}
@@ -98,7 +99,6 @@ name_position bytes_of name_of keys xs name utf8 same =
     sym (position-map (bytes_eq name) bytes_of keys) ∙ ap (position (bytes_eq name)) same ∙ position-map (bytes_eq name) (λ x. encode_utf8_all (name_of x)) xs
     ∙ position-agree _ _ (λ x. ap (λ bs. bytes_eq bs (encode_utf8_all (name_of x))) (sym (encodes-chars name utf8)) ∙ sym (equal_encodings (chars name) (name_of x))) xs
 
-
 -- ---- one more class
 
 pub first_own_more : (desc : MetaDesc) (c : ℕ) (x : ClassDesc) → c < class_count desc → x ≡ get_or desc.classes c x → first_own desc (c + 1) ≡ first_own desc c + length x.props
@@ -119,7 +119,7 @@ declared_more desc c x l r =
     ap (declared_from 0) (take_more desc.classes c x l ∙ ap (λ y. take c desc.classes ++ y ∷ []) (sym r)) ∙ declared_from-push 0 (take c desc.classes) x
     ∙ ap (λ n. declared_from 0 (take c desc.classes) ++ map (λ p. (n, p)) x.props) (let e = length-take-le c desc.classes (omega (arith, l)) in omega (arith, e))
 
-map-map : {A B C : Type 0} (f : B → C) (g : A → B) (xs : List A) → map f (map g xs) ≡ map (λ x. f (g x)) xs
+pub map-map : {A B C : Type 0} (f : B → C) (g : A → B) (xs : List A) → map f (map g xs) ≡ map (λ x. f (g x)) xs
 map-map f g [] = refl
 map-map f g (x ∷ xs) = ap (λ ys. f (g x) ∷ ys) (map-map f g xs)
 
@@ -135,3 +135,24 @@ pub places_own : (desc : MetaDesc) (c n : ℕ) → c < class_count desc → leng
 places_own desc c n l same = All-map (IsPlace desc) (place_in c) (range_with_len 0 n) (λ k d h.
     let short : k < n = omega (arith, length-range_with_len 0 n) in
     (l, (let at = get_or-range_with_len 0 n k d short in omega (arith, at))))
+
+-- one more item of a filtered list
+pub filter_map_more : {X Y : Type 0} (f : X → Option Y) (xs : List X) (i : ℕ) (x : X) → i < length xs → x ≡ get_or xs i x → filter_map f (take (i + 1) xs) ≡ filter_map f (take i xs) ++ option_to_list (f x)
+filter_map_more {Y = Y} f xs i x l r =
+    ap (filter_map f) (take_more xs i x l ∙ ap (λ y. take i xs ++ y ∷ []) (sym r)) ∙ filter_map-append f (take i xs) (x ∷ []) ∙ ap (λ ys. filter_map f (take i xs) ++ ys) (one (f x))
+  where
+    one : (o : Option Y) → cons_option o [] ≡ option_to_list o
+    one None = refl
+    one (Some y) = refl
+
+-- tables of functions that agree are one
+pub table_agree : {X : Type 0} (f g : ℕ → X) (n : ℕ) → ((c : ℕ) → c < n → f c ≡ g c) → table f n ≡ table g n
+table_agree f g n same = from 0 n (λ c l h. same c (omega (arith, h)))
+  where
+    from : (a m : ℕ) → ((c : ℕ) → a ≤ c → c < a + m → f c ≡ g c) → map f (range_with_len a m) ≡ map g (range_with_len a m)
+    from a zero h = refl
+    from a (suc m) h = ap (λ x. x ∷ map f (range_with_len (a + 1) m)) (h a (omega arith) (omega arith)) ∙ ap (λ xs. g a ∷ xs) (from (a + 1) m (λ c l k. h c (omega arith) (omega arith)))
+
+-- one more number
+pub range_more : (a n j : ℕ) → a + n ≡ j → range_with_len a (n + 1) ≡ range_with_len a n ++ j ∷ []
+range_more a n j e = sym (map-id _) ∙ map-range_with_len_more (λ x. x) a n j e ∙ ap (λ xs. xs ++ j ∷ []) (map-id _)

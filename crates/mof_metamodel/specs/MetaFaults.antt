@@ -233,3 +233,8 @@ IsFirstFault desc kinds.TwoContainers name = PassesOpposites desc × (first_two_
 abbrev pub IsRefusal : MetaDesc → MetaError → Type 0
 IsRefusal desc (errors.Fault fault) = IsFirstFault desc fault.kind fault.name
 IsRefusal desc errors.NoMemory = Unit {0}
+
+-- the refusal is for a fault of this kind at the place of the name
+abbrev pub IsFaultOf : MetaKind → Option (List ℕ) → MetaError → Type 0
+IsFaultOf kind None e = ⊥
+IsFaultOf kind (Some name) e = e ≡ errors.Fault (record { kind = kind; name = name })

@@ -61,9 +61,13 @@ IsPath desc c (e ∷ path) d = Contains (supers_of desc c) e × IsPath desc e pa
 abbrev pub Conforms : MetaDesc → ℕ → ℕ → Type 0
 Conforms desc c d = (path : List ℕ) × IsPath desc c path d
 
+-- c reaches d by one superclass or more
+abbrev pub Reaches : MetaDesc → ℕ → ℕ → Type 0
+Reaches desc c d = (e : ℕ) × (path : List ℕ) × Contains (supers_of desc c) e × IsPath desc e path d
+
 -- the class reaches itself by superclasses
 abbrev pub IsCircular : MetaDesc → ℕ → Type 0
-IsCircular desc c = (e : ℕ) × (path : List ℕ) × Contains (supers_of desc c) e × IsPath desc e path c
+IsCircular desc c = Reaches desc c c
 
 -- Class order
 

@@ -1,8 +1,8 @@
 -- What the tables of a metamodel hold: what its description says, by number.
-use Rattle.std.specs.Prelude.{◌≡◌, ℕ, ◌+◌, ◌<◌, List, [], ◌∷◌, ◌++◌, Option, Some, None, map, length, slice_index_or, position, All, IsSome, IsTrue, is_some, if◌then◌else◌}
-use Rattle.std.specs.List.{range_with_len}
+use Rattle.std.specs.Prelude.{◌≡◌, ℕ, ◌+◌, ◌<◌, List, [], ◌∷◌, ◌++◌, Option, Some, None, map, length, slice_index_or, position, All, IsSome, IsTrue, is_some, nat_eq, if◌then◌else◌}
+use Rattle.std.specs.List.{range_with_len, list_any}
 use Rattle.std.specs.Map.{lookup}
-use Rattle.std.specs.Option.{option_map}
+use Rattle.std.specs.Option.{option_map, unwrap_or}
 use Rattle.indexmap.specs.IndexSet.{IndexSet}
 use Rattle.mof_metamodel.specs.declared.desc.PropDesc.{PropDesc}
 use Rattle.mof_metamodel.specs.declared.named.Place.{Place}
@@ -10,7 +10,7 @@ use Rattle.mof_metamodel.specs.declared.desc.MetaDesc.{MetaDesc}
 use Rattle.mof_metamodel.specs.declared.desc.ClassId.{ClassId}
 use Rattle.mof_metamodel.specs.declared.desc.PropId.{PropId}
 use Rattle.mof_metamodel.specs.declared.desc.Prop.{Prop}
-use Rattle.mof_metamodel.specs.Metamodels.{same_name, class_count, class_at, no_prop, prop_count, declared_props, first_own, supers_of, with_item, all_joined, lineage_within, lineage_of, props_of, IsProp}
+use Rattle.mof_metamodel.specs.Metamodels.{same_name, class_count, class_at, no_prop, prop_count, declared_props, first_own, supers_of, with_item, all_joined, Reaches, IsCircular, lineage_within, lineage_of, props_of, IsProp}
 use Rattle.mof_metamodel.specs.MetaFaults.{WellMeta, is_within_limits}
 
 -- what f says of each number below n
@@ -104,8 +104,25 @@ new_line desc orders c = option_map (λ cs. with_item cs c) (all_joined [] (map 
 abbrev pub later_line : {S : Type 0} → MetaDesc → List (Option (IndexSet ℕ S)) → ℕ → Option (List ℕ)
 later_line desc orders c = if is_some (line_at orders c) then None else new_line desc orders c
 
-pub record IsTabled {S : Type 0} (desc : MetaDesc) (lineages : List (Option (IndexSet ℕ S))) (orders : List (List PropId)) (props : List Prop) : Type 0 where
+-- the classes of a class order; of a class without one the class alone
+abbrev pub lineage_in : {S : Type 0} → Option (IndexSet ℕ S) → ℕ → List ℕ
+lineage_in order c = unwrap_or (line order) (c ∷ [])
+
+pub record IsOrdered {S : Type 0} (desc : MetaDesc) (orders : List (Option (IndexSet ℕ S))) (props : List (List PropId)) : Type 0 where
+  pub lines_are : AreLines desc (class_count desc) orders
+  pub props_are : map prop_numbers props ≡ table (props_of desc) (class_count desc)
+
+-- the classes that the class reaches by one superclass or more
+abbrev pub IsReach : MetaDesc → ℕ → List ℕ → Type 0
+IsReach desc c met = (q : ℕ) → (IsTrue (list_any (nat_eq q) met) → Reaches desc c q) × (Reaches desc c q → IsTrue (list_any (nat_eq q) met))
+
+-- the first class that reaches itself
+pub record IsFirstCircle (desc : MetaDesc) (c : ℕ) : Type 0 where
+  pub within : c < class_count desc
+  pub circular : IsCircular desc c
+  pub first : (d : ℕ) → d < c → IsCircular desc d → ⊥
+
+pub record IsTabled (desc : MetaDesc) (props : List Prop) : Type 0 where
   pub well : WellMeta desc
-  pub lineages_are : AreLines desc (class_count desc) lineages
-  pub orders_are : map prop_numbers orders ≡ table (props_of desc) (class_count desc)
+  pub grounded : IsGrounded desc
   pub props_are : ArePropsOf desc props

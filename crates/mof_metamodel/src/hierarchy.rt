@@ -1,5 +1,6 @@
-ghost use Rattle.std.specs.Prelude.{◌≡◌, ◌<◌, All, IfOk};
+ghost use Rattle.std.specs.Prelude.{◌≡◌, ◌<◌, ◌++◌, All, IfOk, OnOk};
 ghost use Rattle.std.specs.List.{filter_map};
+ghost use Rattle.std.specs.Option.{option_to_list};
 ghost use Rattle.mof_metamodel.specs.Metamodels.{class_number};
 ghost use Rattle.mof_metamodel.specs.Tables.{class_numbers, AreSupers};
 
@@ -58,15 +59,23 @@ impl Hierarchy {
     }
 }
 
+/// Adds a class, if there is one.
+fn add_class(ids: &mut Seq<ClassId>, number: Option<u32>) -> Result<(), NoMemory>
+    ensures { OnOk result (class_numbers ids.new ≡ class_numbers ids.old ++ option_to_list number) }
+{
+    if let Some(number) = number {
+        ids.push(ClassId(number))?;
+    }
+    Ok(())
+}
+
 /// The classes of these names, without the names that name none.
 fn named_classes(alloc: Global, named: &Named, names: &[Text]) -> Result<Seq<ClassId>, NoMemory>
     ensures { IfOk result (λ ids. class_numbers ids ≡ filter_map (class_number named.now) names.now) }
 {
     let mut ids = Seq::new(alloc);
     for name in names {
-        if let Some(number) = named.class_number(name.as_str()) {
-            ids.push(ClassId(number))?;
-        }
+        add_class(&mut ids, named.class_number(name.as_str()))?;
     }
     Ok(ids)
 }

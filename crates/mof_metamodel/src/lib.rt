@@ -3,18 +3,26 @@
 #![tactic(auto)]
 
 mod boxed;
+mod checks;
+mod circles;
 mod desc;
+mod duplicates;
 mod fault;
 mod hierarchy;
-mod lineages;
 mod limits;
+mod lineages;
 mod memory;
+mod meta;
 mod name_table;
 mod named;
 mod names;
 mod numbering;
+mod ordered;
+mod resolved;
 mod seq;
 mod span;
+#[cfg(test)]
+mod tests;
 mod text;
 
 pub use boxed::Boxed;
@@ -27,6 +35,7 @@ pub use limits::{
     MAX_PROPS, MAX_RESULT, MAX_SCRIPT, MAX_XMI_NESTING,
 };
 pub use memory::NoMemory;
+pub use meta::MetaModel;
 pub use names::{is_identifier, is_storable};
 pub use seq::Seq;
 pub use span::Span;

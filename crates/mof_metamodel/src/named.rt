@@ -1,6 +1,6 @@
-ghost use Rattle.std.specs.Prelude.{◌≡◌, ◌<◌, chars, IsTrue, IfOk, IfSome};
+ghost use Rattle.std.specs.Prelude.{◌≡◌, ◌<◌, ◌≤◌, ◌+◌, length, chars, IsTrue, IfOk, IfSome};
 
-use crate::desc::{ClassDesc, ClassId, EnumId, MetaDesc, PropDesc, PropType};
+use crate::desc::{ClassDesc, ClassId, EnumDesc, EnumId, MetaDesc, PropDesc, PropType};
 use crate::memory::NoMemory;
 use crate::name_table::NameTable;
 use crate::names::is_named;
@@ -39,7 +39,7 @@ impl Model for Named {
 }
 
 impl Named {
-    ghost use Rattle.mof_metamodel.specs.Metamodels.{class_count, class_number, class_at, enum_number, prop_count, first_own, own_number, owner_of, prop_at, declared_type, type_named};
+    ghost use Rattle.mof_metamodel.specs.Metamodels.{class_count, class_number, class_at, enum_count, enum_at, enum_number, prop_count, first_own, own_number, owner_of, prop_at, declared_type, type_named};
     ghost use Rattle.mof_metamodel.specs.MetaFaults.{is_within_limits};
 
     /// The tables of a description.
@@ -76,6 +76,21 @@ impl Named {
         self.desc.classes.len() as u32
     }
 
+    /// How many enumerations there are.
+    pub(crate) fn enum_count(&self) -> u32
+        ensures { result ≡ enum_count self.now }
+    {
+        self.desc.enums.len() as u32
+    }
+
+    /// The enumeration of this number.
+    pub(crate) fn enumeration(&self, e: u32) -> &EnumDesc
+        requires { e < enum_count self.now }
+        ensures { result.now ≡ enum_at self.now e }
+    {
+        &self.desc.enums.as_slice()[e as usize]
+    }
+
     /// How many properties there are.
     pub(crate) fn prop_count(&self) -> u32
         ensures { result ≡ prop_count self.now }
@@ -109,7 +124,8 @@ impl Named {
     /// The number of the first property that a class owns.
     pub(crate) fn first_own(&self, c: u32) -> u32
         requires { c < class_count self.now }
-        ensures { result ≡ first_own self.now c }
+        ensures number { result ≡ first_own self.now c }
+        ensures fits { result + length (class_at self.now c).props ≤ 65536 }
     {
         self.firsts[c as usize]
     }

@@ -1,5 +1,5 @@
 ghost use Rattle.mof_metamodel.specs.Metamodels.{same_name, is_primitive as primitive};
-ghost use Rattle.mof_metamodel.specs.MetaFaults.{is_digit as digit, is_name_character as name_character, begins_with_digit as begins, is_name as name_text, is_prop_name as prop_name_text, qualified as qualified_text};
+ghost use Rattle.mof_metamodel.specs.MetaFaults.{is_digit as digit, is_name_character as name_character, begins_with_digit as begins, is_name as name_text, is_prop_name as prop_name_text, qualified as qualified_text, is_number as same_number};
 ghost use Rattle.std.specs.Prelude.{◌≡◌, IfOk, ◌==◌, not, length, chars};
 ghost use Rattle.std.specs.List.{list_any, list_all};
 ghost use Rattle.mof_metamodel.specs.Characters.{is_storable_text, is_identifier_text, is_storable_character as stored, is_blank as blank};
@@ -124,4 +124,14 @@ pub(crate) fn qualified(alloc: Global, outer: &Text, inner: &Text) -> Result<Tex
     name.push('.')?;
     name.push_str(inner.as_str())?;
     Ok(name)
+}
+
+/// Whether a number is there, and is this one.
+pub(crate) fn is_number(found: Option<u32>, number: u32) -> bool
+    ensures { result ≡ same_number found number }
+{
+    match found {
+        Some(found) => found == number,
+        None => false,
+    }
 }

@@ -15,12 +15,11 @@ loop-c-preserved c =
     let short : c.loop-c.c < class_count c.args.desc.now = rw (← c.as_slice-class-items.ensures) (omega arith) in
     let is : class_at c.args.desc.now c.loop-c.c ≡ c.class-item.result = class_is c.args.desc.now c.loop-c.c c.class-item.result short at in
     let added : c.add_places.new.places.items ≡ c.loop-c.places.items ++ map (place_in c.loop-c.c) (range_with_len 0 (length c.class-item.result.props)) =
-        c.in_ok-add_places.ensures ∙ ap (λ n. c.loop-c.places.items ++ map (place_in c.loop-c.c) (range_with_len 0 n)) c.len.ensures in
-    (
+    c.in_ok-add_places.ensures ∙ ap (λ n. c.loop-c.places.items ++ map (place_in c.loop-c.c) (range_with_len 0 n)) c.len.ensures in (
       ap (map (placed c.args.desc.now)) added ∙ map-append (placed c.args.desc.now) c.loop-c.places.items _
-      ∙ ap (λ xs. xs ++ map (placed c.args.desc.now) (map (place_in c.loop-c.c) (range_with_len 0 (length c.class-item.result.props)))) c.loop-c.invariant.0
-      ∙ ap (λ xs. declared_from 0 (take c.loop-c.c c.args.desc.now.classes) ++ xs) (placed_own c.args.desc.now c.loop-c.c c.class-item.result.props (ap (λ x. x.props) is))
-      ∙ sym (declared_more c.args.desc.now c.loop-c.c c.class-item.result short at),
+          ∙ ap (λ xs. xs ++ map (placed c.args.desc.now) (map (place_in c.loop-c.c) (range_with_len 0 (length c.class-item.result.props)))) c.loop-c.invariant.0
+          ∙ ap (λ xs. declared_from 0 (take c.loop-c.c c.args.desc.now.classes) ++ xs) (placed_own c.args.desc.now c.loop-c.c c.class-item.result.props (ap (λ x. x.props) is))
+          ∙ sym (declared_more c.args.desc.now c.loop-c.c c.class-item.result short at),
       let P : List Place → Type 0 = λ xs. All (IsPlace c.args.desc.now) xs in
-      subst P (sym added) (All-append (IsPlace c.args.desc.now) c.loop-c.places.items _ c.loop-c.invariant.1 (places_own c.args.desc.now c.loop-c.c _ short (ap (λ x. length x.props) is))),
+          subst P (sym added) (All-append (IsPlace c.args.desc.now) c.loop-c.places.items _ c.loop-c.invariant.1 (places_own c.args.desc.now c.loop-c.c _ short (ap (λ x. length x.props) is))),
     )

@@ -17,21 +17,21 @@ none_from (Some x) e = absurd (cc)
 pub returns-then-contains_key : goal.returns-then-contains_key
 returns-then-contains_key c =
     let found : is_some (number_in c.args.self.now c.args.name.now) ≡ true =
-        ap is_some (
-            ap (number_in c.args.self.now) (sym c.as_str.ensures.characters) ∙ ap (λ names. number_in names (chars c.as_str.result.now)) (sym c.self.view_is)
-            ∙ sym (string_lookup c.as_str.result.now c.self.inside.numbers.entries c.as_str.utf8)) ∙ sym c.contains_key.ensures ∙ c.if-contains_key.true in
+    ap is_some (
+    ap (number_in c.args.self.now) (sym c.as_str.ensures.characters) ∙ ap (λ names. number_in names (chars c.as_str.result.now)) (sym c.self.view_is)
+    ∙ sym (string_lookup c.as_str.result.now c.self.inside.numbers.entries c.as_str.utf8)) ∙ sym c.contains_key.ensures ∙ c.if-contains_key.true in
     sym (with_name-there c.args.self.now c.args.name.now c.args.number found)
 
 pub returns : goal.returns
 returns c =
     let unseen : is_some (number_in c.args.self.now c.args.name.now) ≡ false =
-        ap is_some (
-            ap (number_in c.args.self.now) (sym c.as_str.ensures.characters) ∙ ap (λ names. number_in names (chars c.as_str.result.now)) (sym c.self.view_is)
-            ∙ sym (string_lookup c.as_str.result.now c.self.inside.numbers.entries c.as_str.utf8)) ∙ sym c.contains_key.ensures ∙ c.if-contains_key.false in
+    ap is_some (
+    ap (number_in c.args.self.now) (sym c.as_str.ensures.characters) ∙ ap (λ names. number_in names (chars c.as_str.result.now)) (sym c.self.view_is)
+    ∙ sym (string_lookup c.as_str.result.now c.self.inside.numbers.entries c.as_str.utf8)) ∙ sym c.contains_key.ensures ∙ c.if-contains_key.false in
     let key_bytes : string_bytes c.in_ok-key.key ≡ c.as_str.result.now = c.in_ok-key.ensures.ok ∙ c.as_str-2.ensures.bytes ∙ sym c.as_str.ensures.bytes in
     let absent : lookup (λ k. bytes_eq (string_bytes c.in_ok-key.key) (string_bytes k)) c.self.inside.numbers.entries ≡ None =
-        ap (λ bs. lookup (λ k. bytes_eq bs (string_bytes k)) c.self.inside.numbers.entries) key_bytes
-        ∙ none_from _ (sym c.contains_key.ensures ∙ c.if-contains_key.false) in
+    ap (λ bs. lookup (λ k. bytes_eq bs (string_bytes k)) c.self.inside.numbers.entries) key_bytes
+    ∙ none_from _ (sym c.contains_key.ensures ∙ c.if-contains_key.false) in
     let shown = λ (es : List (String Global × ℕ)). map (λ e. (chars (string_bytes e.0), e.1)) es in
     ap shown (c.in_ok-insert.ensures.entries ∙ insert_entry-new _ c.self.inside.numbers c.in_ok-key.key c.args.number absent)
     ∙ map-append _ c.self.inside.numbers.entries ((c.in_ok-key.key, c.args.number) ∷ [])

@@ -8,6 +8,6 @@ use Rattle.mof_metamodel.proofs.named.Named.prop_count.Goals as goal
 pub overflow_cast-result : goal.overflow_cast-result
 overflow_cast-result c =
     let count : length c.self.inside.places.items ≡ prop_count c.self.inside.desc =
-        sym (length-map c.self.inside.places.items (placed c.self.inside.desc)) ∙ ap length c.self.invariant.places_are in
+    sym (length-map c.self.inside.places.items (placed c.self.inside.desc)) ∙ ap length c.self.invariant.places_are in
     let few : prop_count c.self.inside.desc ≤ 65536 = omega (arith, prop_total c.self.inside.desc, props_fit c.self.inside.desc c.self.invariant.limits) in
     search (arith, rules, count, few)
