@@ -1,0 +1,4 @@
+pub mod ByteClass
+pub mod UtfEight
+pub mod References
+pub mod AttrNames

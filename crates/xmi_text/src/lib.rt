@@ -1,0 +1,13 @@
+//! The markup of model files: a profile of XML 1.0 (Fifth Edition) in UTF-8, without document types, read in
+//! any pieces and written.
+#![tactic(auto)]
+
+mod attributes;
+mod byte_class;
+mod error;
+mod mark;
+mod reference;
+mod utf_eight;
+
+pub use error::{TextError, TextFault, TextKind};
+pub use mark::{Attr, Mark, Step};
