@@ -7,3 +7,7 @@ use Rattle.xmi_text.specs.declared.mark.Attr.{Attr}
 abbrev pub has_name : List Attr → List ℕ → Bool
 has_name [] name = false
 has_name (a ∷ rest) name = pointwise nat_eq a.name name || has_name rest name
+
+-- an attribute without its name and value
+abbrev pub emptied : Attr → Attr
+emptied a = record { name = []; value = []; at = a.at }

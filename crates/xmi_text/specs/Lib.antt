@@ -2,3 +2,6 @@ pub mod ByteClass
 pub mod UtfEight
 pub mod References
 pub mod AttrNames
+pub mod States
+pub mod Steps
+pub mod Automaton

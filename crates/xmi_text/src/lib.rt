@@ -3,10 +3,13 @@
 #![tactic(auto)]
 
 mod attributes;
+mod automaton;
 mod byte_class;
 mod error;
 mod mark;
 mod reference;
+mod state;
+mod steps;
 mod utf_eight;
 
 pub use error::{TextError, TextFault, TextKind};
