@@ -1,1 +1,2 @@
 pub mod AttrLemmas
+pub mod Reached

@@ -5,3 +5,4 @@ pub mod AttrNames
 pub mod States
 pub mod Steps
 pub mod Automaton
+pub mod Reading

@@ -7,6 +7,7 @@ mod automaton;
 mod byte_class;
 mod error;
 mod mark;
+mod reader;
 mod reference;
 mod state;
 mod steps;
@@ -14,3 +15,4 @@ mod utf_eight;
 
 pub use error::{TextError, TextFault, TextKind};
 pub use mark::{Attr, Mark, Step};
+pub use reader::Reader;

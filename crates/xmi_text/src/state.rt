@@ -1,4 +1,4 @@
-ghost use Rattle.std.specs.Prelude.{◌≡◌, ◌<◌, [], ◌∷◌, ◌++◌, OnOk, OnErr, IfOk, option_to_list};
+ghost use Rattle.std.specs.Prelude.{◌≡◌, ◌<◌, [], ◌∷◌, ◌++◌, OnOk, OnErr, IfOk, IfNone, IsTrue, ◌↔◌, option_to_list};
 ghost use Rattle.xmi_text.specs.States as states;
 
 use crate::attributes::{Attributes, empty_text};
@@ -353,10 +353,19 @@ impl State {
         });
     }
 
+    /// Whether no mark is complete.
+    pub(crate) fn is_idle(&self) -> bool
+        ensures { IsTrue result ↔ (self.now.ready ≡ Ready.Nothing) }
+    {
+        matches!(self.ready, Ready::Nothing)
+    }
+
     /// Moves the first complete mark out.
     pub(crate) fn take_mark(&mut self, alloc: Global) -> Option<Mark>
         ensures marks { states.complete self.old ≡ option_to_list result ++ states.complete self.new }
         ensures rest { states.cleared self.new ≡ states.cleared self.old }
+        ensures idle { IfNone result (self.old.ready ≡ Ready.Nothing) }
+        ensures kept { IfNone result (self.new ≡ self.old) }
     {
         match self.ready {
             Ready::Nothing => None,
