@@ -1,2 +1,3 @@
 pub mod AttrLemmas
 pub mod Reached
+pub mod Literals

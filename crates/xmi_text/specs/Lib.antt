@@ -6,3 +6,5 @@ pub mod States
 pub mod Steps
 pub mod Automaton
 pub mod Reading
+pub mod Names
+pub mod Writing

@@ -12,7 +12,12 @@ mod reference;
 mod state;
 mod steps;
 mod utf_eight;
+mod writer;
 
 pub use error::{TextError, TextFault, TextKind};
 pub use mark::{Attr, Mark, Step};
 pub use reader::Reader;
+pub use writer::Writer;
+
+#[cfg(test)]
+mod tests;
