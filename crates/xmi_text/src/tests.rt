@@ -330,7 +330,7 @@ fn what_is_written_is_read(rt: HostRuntime) -> Result<(), Fail> {
     let bytes = writer.into_bytes();
     let text = "<m:a b=\"&amp;&lt;&gt;&quot;&apos;&#9;&#10;&#13;.\" c=\"\">]]&gt;&amp;&lt;&gt;&quot;&apos;&#9;&#10;&#13;\u{e9}<d/><e>x</e></m:a>";
     assert!(rt; bytes.as_slice() == text.as_bytes());
-    let marks = "(m:a b='&<>\"'[9][A][D].' c='' @0) ']]>&<>\"'[9][A][D][E9]'@56 (d@104) /104 (e@108) 'x'@111 /112 /116 END";
+    let marks = "(m:a b='&<>\"'[9][A][D].' c='' @0) ']]>&<>\"'[9][A][D][E9]'@55 (d@102) /102 (e@106) 'x'@109 /110 /114 END";
     assert_eq!(rt; outcome(alloc, bytes.as_slice(), 5)?.as_str(), marks);
     Ok(())
 }
@@ -347,16 +347,27 @@ fn wide(alloc: Global) -> Result<Vec<u8>, Fail> {
 }
 
 #[test]
-fn hostile_texts_take_seconds(rt: HostRuntime) -> Result<(), Fail> {
+fn many_attributes_take_seconds(rt: HostRuntime) -> Result<(), Fail> {
     let alloc = rt.alloc();
     let found = outcome(alloc, wide(alloc)?.as_slice(), 4096)?;
-    assert_eq!(rt; found.as_str(), "DuplicateAttribute 2088893");
-    let mut long = Vec::new(alloc);
-    long.extend_from_slice(b"<x>")?;
-    for _ in 0..4_000_000u32 {
-        long.extend_from_slice(b"<!---")?;
+    assert_eq!(rt; found.as_str(), "DuplicateAttribute 1788893");
+    Ok(())
+}
+
+/// A text of 16 MiB that opens one comment and never ends it.
+fn long(alloc: Global) -> Result<Vec<u8>, Fail> {
+    let mut bytes = Vec::new(alloc);
+    bytes.extend_from_slice(b"<x>")?;
+    for _ in 0..4_194_304u32 {
+        bytes.extend_from_slice(b"<!--")?;
     }
-    let found = outcome(alloc, long.as_slice(), 1)?;
-    assert_eq!(rt; found.as_str(), "(x@0) OpenTag 20000003");
+    Ok(bytes)
+}
+
+#[test]
+fn single_bytes_take_seconds(rt: HostRuntime) -> Result<(), Fail> {
+    let alloc = rt.alloc();
+    let found = outcome(alloc, long(alloc)?.as_slice(), 1)?;
+    assert_eq!(rt; found.as_str(), "(x@0) OpenTag 16777219");
     Ok(())
 }
