@@ -171,6 +171,7 @@ given_few bytes at given s r = omega (arith, r.counted, length-marks_of (take at
 
 -- the answer is the complete mark
 pub answered : (fed : Fed) (at : ℕ) (s : State) (mark : Mark) (more : List Mark) → complete s ≡ mark ∷ more → Reached fed.bytes at fed.given s → Ok (answers.Mark mark) ≡ answer fed
+unfolding answer
 answered fed at s mark more e r = sym (ap (answer_by fed) (Reached-next fed.bytes at fed.given s mark more e r).1)
 
 pub Answers-same : (result expected : Result Step TextError) → result ≡ expected → Answers result expected
@@ -180,6 +181,7 @@ Answers-same (Err (errors.Fault f)) expected e = e
 
 -- the answer behind the last mark
 pub answered_last : (fed : Fed) (at : ℕ) (s : State) (result : Result Step TextError) → at ≡ length fed.bytes → s.ready ≡ Nothing → result ≡ last_by fed.finished s (length fed.bytes) → Reached fed.bytes at fed.given s → Answers result (answer fed)
+unfolding answer
 answered_last fed at s result e none was r =
     let through = Reached-all fed.bytes at fed.given s e none r in
     Answers-same result (answer fed)
@@ -197,3 +199,24 @@ behind_open fed (Some f) = refl
 pub behind_last : (fed : Fed) (finished : Bool) (s : State) (n : ℕ) → behind (last_by finished s n) fed ≡ fed
 behind_last fed true s n = behind_end fed (end_fault s n)
 behind_last fed false s n = behind_open fed (fault s)
+
+not_last : (o : Option TextFault) (mark : Mark) → ((mark ≡ marks.End) → ⊥) → Ok (answers.Mark mark) ≡ or_fault (answers.Mark marks.End) o → ⊥
+not_last None mark other e = let same : mark ≡ marks.End = cc in other same
+not_last (Some f) mark other e = cc
+
+not_open : (o : Option TextFault) (mark : Mark) → Ok (answers.Mark mark) ≡ or_fault answers.NotYet o → ⊥
+not_open None mark e = cc
+not_open (Some f) mark e = cc
+
+no_last : (finished : Bool) (s : State) (n : ℕ) (mark : Mark) → ((mark ≡ marks.End) → ⊥) → Ok (answers.Mark mark) ≡ last_by finished s n → ⊥
+no_last true s n mark other e = not_last (end_fault s n) mark other e
+no_last false s n mark other e = not_open (fault s) mark e
+
+answered_by : (fed : Fed) (left : List Mark) (mark : Mark) → ((mark ≡ marks.End) → ⊥) → Ok (answers.Mark mark) ≡ answer_by fed left → (rest : List Mark) × (left ≡ mark ∷ rest)
+answered_by fed [] mark other e = absurd (no_last fed.finished (state_of fed.bytes) (length fed.bytes) mark other e)
+answered_by fed (m ∷ left) mark other e = let same : m ≡ mark = cc in (left, ap (λ x. x ∷ left) same)
+
+-- what an answer says of the marks
+pub answer_mark : (fed : Fed) (mark : Mark) → ((mark ≡ marks.End) → ⊥) → Ok (answers.Mark mark) ≡ answer fed → (rest : List Mark) × (drop fed.given (marks_of fed.bytes) ≡ mark ∷ rest)
+unfolding answer
+answer_mark fed mark other e = answered_by fed (drop fed.given (marks_of fed.bytes)) mark other e

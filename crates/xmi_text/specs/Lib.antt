@@ -8,3 +8,4 @@ pub mod Automaton
 pub mod Reading
 pub mod Names
 pub mod Writing
+pub mod Trees

@@ -30,11 +30,11 @@ unfoldable pub marks_of : List ℕ → List Mark
 marks_of bytes = marks_from 0 start bytes
 
 -- the fault that bytes have however they go on
-abbrev pub fault_of : List ℕ → Option TextFault
+unfoldable pub fault_of : List ℕ → Option TextFault
 fault_of bytes = automaton.fault (state_of bytes)
 
 -- the fault of bytes that end here
-abbrev pub end_fault_of : List ℕ → Option TextFault
+unfoldable pub end_fault_of : List ℕ → Option TextFault
 end_fault_of bytes = automaton.end_fault (state_of bytes) (length bytes)
 
 -- what a reader was fed, whether that is all, and how many marks before the end it has given
@@ -60,8 +60,9 @@ abbrev pub answer_by : Fed → List Mark → Result Step TextError
 answer_by fed [] = last_answer fed
 answer_by fed (mark ∷ more) = Ok (answers.Mark mark)
 
--- the next answer
-abbrev pub answer : Fed → Result Step TextError
+-- the next answer: the first mark that wasn't given, or the end or the fault behind all marks, or that there is no
+-- more to say yet
+unfoldable pub answer : Fed → Result Step TextError
 answer fed = answer_by fed (drop fed.given (marks_of fed.bytes))
 
 -- one more mark was given, unless it is the end

@@ -6,6 +6,7 @@ mod attributes;
 mod automaton;
 mod byte_class;
 mod error;
+mod laws;
 mod mark;
 mod reader;
 mod reference;
@@ -15,6 +16,7 @@ mod utf_eight;
 mod writer;
 
 pub use error::{TextError, TextFault, TextKind};
+pub use laws::{faults_stay, marks_stay, one_tree};
 pub use mark::{Attr, Mark, Step};
 pub use reader::Reader;
 pub use writer::Writer;

@@ -194,8 +194,12 @@ fn drain(alloc: Global, reader: &mut Reader, out: &mut String) -> Result<(), Fai
 {
     for _ in 0..u64::MAX {
         match reader.next() {
-            Ok(Step::Mark(Mark::End)) => return Ok(()),
-            Ok(Step::Mark(mark)) => out.push_str(shown_mark(alloc, &mark)?.as_str())?,
+            Ok(Step::Mark(mark)) => {
+                if mark == Mark::End {
+                    return Ok(());
+                }
+                out.push_str(shown_mark(alloc, &mark)?.as_str())?;
+            }
             Ok(Step::NotYet) => return Ok(()),
             Err(TextError::Fault(_)) => return Ok(()),
             Err(TextError::NoMemory) => return Err(Fail::new("no memory")),
