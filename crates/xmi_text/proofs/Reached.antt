@@ -1,6 +1,6 @@
 -- What a reader has reached, through a byte, a mark and a piece.
-use Rattle.std.proofs.Common.{◌≡◌, ℕ, ◌+◌, ◌*◌, ◌≤◌, ◌<◌, List, [], ◌∷◌, ◌++◌, length, take, drop, get_or, refl, sym, ◌∙◌, ap, append_assoc, append-nil, arith, zero, suc, Bool, true, false, Option, None, Some, Err, subst, zero-add, add-zero, length-append, add_assoc, Ok, Result}
-use Rattle.std.proofs.Math.Seq.{take-suc, take-length}
+use Rattle.std.proofs.Common.{◌≡◌, ℕ, ◌+◌, ◌*◌, ◌≤◌, ◌<◌, List, [], ◌∷◌, ◌++◌, length, take, drop, get_or, refl, sym, ◌∙◌, ap, append_assoc, append-nil, arith, zero, suc, Bool, true, false, Option, None, Some, Err, subst, zero-add, add-zero, length-append, Ok, Result}
+use Rattle.std.proofs.Math.Seq.{take-length}
 use Rattle.std.proofs.lemmas.List.{take-append-le, drop-append-le, length-take-le, take-append-drop, take_more}
 use Rattle.xmi_text.specs.States.{start, complete, complete_by, cleared, cleared_by}
 use Rattle.xmi_text.specs.Automaton.{step}
@@ -30,8 +30,8 @@ marks_from-append [] ys at s = ap (λ n. marks_from n s ys) (sym (add-zero at))
 marks_from-append (x ∷ xs) ys at s =
     let more : at + 1 + length xs ≡ at + length (x ∷ xs) = omega arith in
     ap (λ ms. complete (step s at x) ++ ms)
-      (marks_from-append xs ys (at + 1) (cleared (step s at x))
-      ∙ ap (λ n. marks_from (at + 1) (cleared (step s at x)) xs ++ marks_from n (state_from (at + 1) (cleared (step s at x)) xs) ys) more)
+    (marks_from-append xs ys (at + 1) (cleared (step s at x))
+    ∙ ap (λ n. marks_from (at + 1) (cleared (step s at x)) xs ++ marks_from n (state_from (at + 1) (cleared (step s at x)) xs) ys) more)
     ∙ sym (append_assoc (complete (step s at x)) _ _)
 
 -- the same from the start
@@ -94,7 +94,7 @@ Reached-byte bytes at given b s t none lt e was r =
     let same : state_of front ≡ s = r.state ∙ cleared_nothing s s.ready none in
     let stepped : step (state_of front) (length front) b ≡ t = ap (λ q. step q (length front) b) same ∙ ap (λ n. step s n b) many ∙ sym was in
     let told : marks_of (take (at + 1) bytes) ≡ marks_of front ++ complete t =
-        ap marks_of split ∙ marks_of-append front (b ∷ []) ∙ ap (λ ms. marks_of front ++ ms) (append-nil _ ∙ ap complete stepped) in
+    ap marks_of split ∙ marks_of-append front (b ∷ []) ∙ ap (λ ms. marks_of front ++ ms) (append-nil _ ∙ ap complete stepped) in
     record {
       within = omega arith;
       counted = rw told (omega (arith, length-append (marks_of front) (complete t), r.counted));
@@ -138,12 +138,13 @@ pub Reached-next : (bytes : List ℕ) (at given : ℕ) (s : State) (mark : Mark)
 Reached-next bytes at given s mark more e r =
     let front : List ℕ = take at bytes in
     let back : List ℕ = drop at bytes in
-    let rest : List Mark = marks_from (length front) (state_of front) back in
-    (more ++ rest,
+    let rest : List Mark = marks_from (length front) (state_of front) back in (
+      more ++ rest,
       ap (λ xs. drop given (marks_of xs)) (sym (take-append-drop at bytes))
-      ∙ ap (drop given) (marks_of-append front back)
-      ∙ drop-append-le given (marks_of front) rest r.counted
-      ∙ ap (λ ms. ms ++ rest) (r.marks ∙ e))
+          ∙ ap (drop given) (marks_of-append front back)
+          ∙ drop-append-le given (marks_of front) rest r.counted
+          ∙ ap (λ ms. ms ++ rest) (r.marks ∙ e),
+    )
 
 -- all bytes were stepped over, and nothing is complete
 pub record IsThrough (bytes : List ℕ) (given : ℕ) (s : State) : Type 0 where
@@ -185,7 +186,7 @@ unfolding answer
 answered_last fed at s result e none was r =
     let through = Reached-all fed.bytes at fed.given s e none r in
     Answers-same result (answer fed)
-      (was ∙ ap (λ q. last_by fed.finished q (length fed.bytes)) (sym through.state) ∙ sym (ap (answer_by fed) through.marks))
+    (was ∙ ap (λ q. last_by fed.finished q (length fed.bytes)) (sym through.state) ∙ sym (ap (answer_by fed) through.marks))
 
 behind_end : (fed : Fed) (o : Option TextFault) → behind (or_fault (answers.Mark marks.End) o) fed ≡ fed
 behind_end fed None = ap (λ n. record fed { given = n }) (add-zero fed.given)

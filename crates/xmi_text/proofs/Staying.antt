@@ -1,11 +1,10 @@
 -- What more bytes change, and that bytes are read as one tree at most.
-use Rattle.std.proofs.Common.{◌≡◌, ℕ, ◌+◌, List, [], ◌∷◌, ◌++◌, length, refl, sym, ◌∙◌, ap, subst, append_assoc, append-nil, Option, None, Some}
+use Rattle.std.proofs.Common.{◌≡◌, ℕ, ◌+◌, List, [], ◌∷◌, ◌++◌, length, refl, sym, ◌∙◌, ap, subst, append_assoc, append-nil, Some}
 use Rattle.xmi_text.specs.States.{start, complete, complete_by, cleared, cleared_by}
 use Rattle.xmi_text.specs.Automaton.{step, step_by, fault, fault_by}
 use Rattle.xmi_text.specs.Reading.{state_from, marks_from, state_of, marks_of, fault_of}
-use Rattle.xmi_text.specs.Trees.{Nodes, Ends, Run, Element, Tree, Event, Opens, Says, Closes, events_of, events, told, Spells}
+use Rattle.xmi_text.specs.Trees.{Nodes, Ends, Run, Element, Tree, Event, Opens, Says, Closes, events_of, Spells}
 use Rattle.xmi_text.specs.declared.error.TextFault.{TextFault}
-use Rattle.xmi_text.specs.declared.mark.Mark.{Mark}
 use Rattle.xmi_text.specs.declared.state.State.{State}
 use Rattle.xmi_text.specs.declared.state.Mode.{Mode}
 use Rattle.xmi_text.specs.declared.state.Mode.TheVariants.{Failed}
@@ -100,7 +99,7 @@ one_reading (Run cs f) (Run ds g) x y p q e =
 one_reading (Element n ps i f) (Element m bs j g) x y p q e =
     let tails : (events_of i ++ Closes ∷ events_of f) ++ x ≡ (events_of j ++ Closes ∷ events_of g) ++ y = cc in
     let inner = one_reading i j (Closes ∷ (events_of f ++ x)) (Closes ∷ (events_of g ++ y)) tt tt
-      (sym (append_assoc (events_of i) (Closes ∷ events_of f) x) ∙ tails ∙ append_assoc (events_of j) (Closes ∷ events_of g) y) in
+    (sym (append_assoc (events_of i) (Closes ∷ events_of f) x) ∙ tails ∙ append_assoc (events_of j) (Closes ∷ events_of g) y) in
     let second : Closes ∷ (events_of f ++ x) ≡ Closes ∷ (events_of g ++ y) = inner.1 in
     let rest : events_of f ++ x ≡ events_of g ++ y = cc in
     let outer = one_reading f g x y p q rest in

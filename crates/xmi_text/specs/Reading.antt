@@ -1,5 +1,5 @@
 -- What a reader of bytes answers: a function of all bytes that were fed, whatever the pieces.
-use Rattle.std.specs.Prelude.{ℕ, Bool, true, false, ◌≡◌, ◌+◌, ◌≤◌, List, [], ◌∷◌, ◌++◌, length, take, drop, Option, Some, None, Result, Ok, Err, if◌then◌else◌}
+use Rattle.std.specs.Prelude.{ℕ, Bool, ◌≡◌, ◌+◌, ◌≤◌, List, [], ◌∷◌, ◌++◌, length, take, drop, Option, Some, None, Result, Ok, Err, if◌then◌else◌}
 use Rattle.xmi_text.specs.States.{start, complete, cleared}
 use Rattle.xmi_text.specs.Automaton as automaton
 use Rattle.xmi_text.specs.declared.error.TextError.{TextError}

@@ -1,6 +1,6 @@
 -- References to characters, byte by byte: `&amp; &lt; &gt; &quot; &apos;`, `&#` with decimal digits and `&#x` with
 -- hexadecimal ones.
-use Rattle.std.specs.Prelude.{ℕ, Bool, ◌+◌, ◌-◌, ◌*◌, ◌==◌, nat_lt, Option, Some, None, option_and_then, if◌then◌else◌}
+use Rattle.std.specs.Prelude.{ℕ, ◌+◌, ◌-◌, ◌*◌, ◌==◌, nat_lt, Option, Some, None, if◌then◌else◌}
 use Rattle.mof_metamodel.specs.Characters.{is_storable_character}
 use Rattle.xmi_text.specs.ByteClass.{within}
 use Rattle.xmi_text.specs.UtfEight.{scalar}

@@ -1,7 +1,6 @@
 -- What the bytes so far leave to know, and how it changes.
-use Rattle.std.specs.Prelude.{ℕ, Bool, true, false, ◌+◌, ◌-◌, ◌==◌, nat_lt, List, [], ◌∷◌, ◌++◌, length, take, None, if◌then◌else◌}
+use Rattle.std.specs.Prelude.{ℕ, Bool, true, false, ◌+◌, ◌-◌, nat_lt, List, [], ◌∷◌, ◌++◌, length, take, None, if◌then◌else◌}
 use Rattle.xmi_text.specs.AttrNames.{emptied}
-use Rattle.xmi_text.specs.declared.error.TextFault.{TextFault}
 use Rattle.xmi_text.specs.declared.error.TextKind.{TextKind}
 use Rattle.xmi_text.specs.declared.mark.Mark.{Mark}
 use Rattle.xmi_text.specs.declared.mark.Mark.TheVariants as marks
@@ -17,9 +16,18 @@ use Rattle.xmi_text.specs.declared.state.Brackets.TheVariants as bracket
 -- no byte came yet
 abbrev pub start : State
 start = record {
-  mode = modes.Start; partial = None; returned = false; rooted = false; elements = [];
-  run = []; run_at = 0; tag = []; tag_at = 0; attrs = [];
-  attr = record { name = []; value = []; at = 0 }; ready = ready.Nothing
+  mode = modes.Start;
+  partial = None;
+  returned = false;
+  rooted = false;
+  elements = [];
+  run = [];
+  run_at = 0;
+  tag = [];
+  tag_at = 0;
+  attrs = [];
+  attr = record { name = []; value = []; at = 0 };
+  ready = ready.Nothing;
 }
 
 -- on in another mode
@@ -80,13 +88,23 @@ due (c ∷ cs) = ready.Data
 -- an element begins
 abbrev pub begin_tag : State → ℕ → ℕ → State
 begin_tag s less c = record s {
-  ready = due s.run; tag = c ∷ []; tag_at = less; attrs = []; rooted = true; mode = modes.TagName false; returned = false
+  ready = due s.run;
+  tag = c ∷ [];
+  tag_at = less;
+  attrs = [];
+  rooted = true;
+  mode = modes.TagName false;
+  returned = false;
 }
 
 -- a start tag ends
 abbrev pub open_tag : State → ℕ → State
 open_tag s at = record s {
-  elements = s.elements ++ s.tag ∷ []; ready = ready.Open; run_at = at + 1; mode = modes.Inside; returned = false
+  elements = s.elements ++ s.tag ∷ [];
+  ready = ready.Open;
+  run_at = at + 1;
+  mode = modes.Inside;
+  returned = false;
 }
 
 -- an empty element's tag ends

@@ -1,5 +1,5 @@
 -- Characters of several bytes, byte by byte.
-use Rattle.std.specs.Prelude.{ℕ, Bool, ◌+◌, ◌*◌, ◌%◌, ◌==◌, ◌||◌, ◌&&◌, nat_le, nat_lt, Option, Some, None, if◌then◌else◌}
+use Rattle.std.specs.Prelude.{ℕ, ◌+◌, ◌*◌, ◌%◌, ◌==◌, ◌||◌, ◌&&◌, nat_le, nat_lt, Option, Some, None, if◌then◌else◌}
 use Rattle.xmi_text.specs.ByteClass.{within}
 use Rattle.xmi_text.specs.declared.utf_eight.Partial.{Partial}
 use Rattle.xmi_text.specs.declared.utf_eight.Rest.{Rest}

@@ -1,5 +1,5 @@
 -- What a writer writes, as characters.
-use Rattle.std.specs.Prelude.{ℕ, Bool, true, false, ◌==◌, ◌-◌, ◌||◌, ◌&&◌, not, nat_lt, nat_eq, List, [], ◌∷◌, ◌++◌, length, take, codes, slice_get, Option, None, Some, if◌then◌else◌}
+use Rattle.std.specs.Prelude.{ℕ, Bool, true, false, ◌==◌, ◌-◌, ◌||◌, ◌&&◌, not, nat_lt, nat_eq, List, [], ◌∷◌, ◌++◌, length, codes, slice_get, Option, None, Some, if◌then◌else◌}
 use Rattle.std.specs.Cmp.Lexicographic.{pointwise}
 use Rattle.xmi_text.specs.States.{front}
 
@@ -84,7 +84,7 @@ abbrev pub opened : Written → List ℕ → Written
 opened w name = record {
   text = w.text ++ (tag_end (is_tag w.names) ++ 60 ∷ [] ++ name);
   elements = w.elements ++ name ∷ [];
-  names = Some []
+  names = Some [];
 }
 
 abbrev pub attr_text : List ℕ → List ℕ → List ℕ
@@ -99,7 +99,7 @@ abbrev pub with_attr : Written → List ℕ → List ℕ → Written
 with_attr w name value = record {
   text = w.text ++ attr_text name value;
   elements = w.elements;
-  names = more_names w.names name
+  names = more_names w.names name;
 }
 
 -- characters in the innermost element; none write nothing
@@ -113,5 +113,5 @@ abbrev pub closed : Written → Written
 closed w = record {
   text = w.text ++ element_end (is_tag w.names) w.elements;
   elements = front w.elements;
-  names = None
+  names = None;
 }

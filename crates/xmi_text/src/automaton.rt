@@ -18,7 +18,9 @@ impl State {
     {
         match self.mode {
             Mode::Failed(_) => Ok(()),
-            Mode::Reference { at, within, part } => self.step_reference(alloc, at, within, part, byte),
+            Mode::Reference { at, within, part } => self.step_reference(
+                alloc, at, within, part, byte,
+            ),
             Mode::Doctype {
                 at,
                 word_at,
@@ -288,13 +290,7 @@ impl State {
     }
 
     /// An ASCII byte, elsewhere than in a reference, in `<!DOCTYPE` and in an end tag's name.
-    fn step_ascii(
-        &mut self,
-        alloc: Global,
-        mode: Mode,
-        at: u64,
-        byte: u8,
-    ) -> Result<(), NoMemory>
+    fn step_ascii(&mut self, alloc: Global, mode: Mode, at: u64, byte: u8) -> Result<(), NoMemory>
         requires { at < u64.MAX }
         ensures ok { OnOk result (self.new ≡ automaton.ascii self.old mode at byte) }
         ensures err { OnErr result (self.new ≡ self.old) }

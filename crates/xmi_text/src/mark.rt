@@ -19,9 +19,14 @@ pub enum Mark {
         at: u64,
     },
     /// The characters between two tags. Their place is the first byte behind the tag before them.
-    Data { text: Text, at: u64 },
+    Data {
+        text: Text,
+        at: u64,
+    },
     /// An end tag, or the end of an empty element's tag. Its place is that of its `<`.
-    Close { at: u64 },
+    Close {
+        at: u64,
+    },
     /// The text is whole.
     End,
 }

@@ -69,7 +69,12 @@ impl Reader {
         ensures answer { Answers result (answer self.old) }
         ensures behind { self.new ≡ behind result self.old }
     {
-        advance(self.alloc, &mut self.state, self.bytes.as_slice(), &mut self.at)?;
+        advance(
+            self.alloc,
+            &mut self.state,
+            self.bytes.as_slice(),
+            &mut self.at,
+        )?;
         match self.state.take_mark(self.alloc) {
             Some(mark) => {
                 self.given += 1;
@@ -81,12 +86,7 @@ impl Reader {
 }
 
 /// Steps over bytes until a mark is complete. What was reached is true after `NoMemory` too.
-fn advance(
-    alloc: Global,
-    state: &mut State,
-    bytes: &[u8],
-    at: &mut usize,
-) -> Result<(), NoMemory>
+fn advance(alloc: Global, state: &mut State, bytes: &[u8], at: &mut usize) -> Result<(), NoMemory>
     requires { at.old ≤ length bytes.now }
     ensures reached { (given : ℕ) → Reached bytes.now at.old given state.old → Reached bytes.now at.new given state.new }
     ensures stopped { OnOk result (state.new.ready ≡ ready.Nothing → at.new ≡ length bytes.now) }

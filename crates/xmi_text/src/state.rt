@@ -53,7 +53,11 @@ pub(crate) enum Mode {
     CommentDash,
     CommentDashes,
     /// Behind so many bytes of `DOCTYPE`, with the places of `<` and of `D`.
-    Doctype { at: u64, word_at: u64, matched: u8 },
+    Doctype {
+        at: u64,
+        word_at: u64,
+        matched: u8,
+    },
     /// Behind so many bytes of `[CDATA[`.
     CdataStart(u8),
     /// In a CDATA section.
@@ -82,7 +86,10 @@ pub(crate) enum Mode {
     /// Behind the `/` of an empty element's tag.
     Slash,
     /// In an end tag, behind so many bytes of the element's name.
-    EndName { at: u64, matched: usize },
+    EndName {
+        at: u64,
+        matched: usize,
+    },
     /// Behind the name of an end tag and a blank.
     EndTail(u64),
     /// In the reference whose `&` stands at this place.

@@ -1,9 +1,7 @@
 ghost use Rattle.std.specs.Prelude.{◌≡◌, ◌<◌, OnOk, OnErr};
 ghost use Rattle.xmi_text.specs.Steps as steps;
 
-use crate::byte_class::{
-    begins_name, continues_name, is_blank, is_storable_byte,
-};
+use crate::byte_class::{begins_name, continues_name, is_blank, is_storable_byte};
 use crate::error::TextKind;
 use crate::reference::Reference;
 use crate::state::{Brackets, Mode, Quote, State, Within};
@@ -82,7 +80,13 @@ impl State {
     }
 
     /// Behind a `<`.
-    pub(crate) fn step_less(&mut self, alloc: Global, less: u64, at: u64, byte: u8) -> Result<(), NoMemory>
+    pub(crate) fn step_less(
+        &mut self,
+        alloc: Global,
+        less: u64,
+        at: u64,
+        byte: u8,
+    ) -> Result<(), NoMemory>
         ensures ok { OnOk result (self.new ≡ steps.less self.old less at byte) }
         ensures err { OnErr result (self.new ≡ self.old) }
     {

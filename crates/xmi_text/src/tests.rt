@@ -192,7 +192,7 @@ fn shown_mark(alloc: Global, mark: &Mark) -> Result<String, Fail> {
 fn drain(alloc: Global, reader: &mut Reader, out: &mut String) -> Result<(), Fail>
     ensures { OnOk result (reader.new.finished ≡ reader.old.finished) }
 {
-    for _ in 0..u64::MAX {
+    'marks: for _ in 0..u64::MAX {
         match reader.next() {
             Ok(Step::Mark(mark)) => {
                 if mark == Mark::End {
@@ -219,7 +219,7 @@ fn fed(
     requires some { 0 < size }
     requires goes_on { reader.old.finished ≡ false }
 {
-    for piece in bytes.chunks(size) {
+    'pieces: for piece in bytes.chunks(size) {
         reader.feed(piece)?;
         drain(alloc, reader, out)?;
     }
@@ -332,9 +332,11 @@ fn what_is_written_is_read(rt: HostRuntime) -> Result<(), Fail> {
     writer.close()?;
     writer.close()?;
     let bytes = writer.into_bytes();
-    let text = "<m:a b=\"&amp;&lt;&gt;&quot;&apos;&#9;&#10;&#13;.\" c=\"\">]]&gt;&amp;&lt;&gt;&quot;&apos;&#9;&#10;&#13;\u{e9}<d/><e>x</e></m:a>";
+    let text =
+        "<m:a b=\"&amp;&lt;&gt;&quot;&apos;&#9;&#10;&#13;.\" c=\"\">]]&gt;&amp;&lt;&gt;&quot;&apos;&#9;&#10;&#13;\u{e9}<d/><e>x</e></m:a>";
     assert!(rt; bytes.as_slice() == text.as_bytes());
-    let marks = "(m:a b='&<>\"'[9][A][D].' c='' @0) ']]>&<>\"'[9][A][D][E9]'@55 (d@102) /102 (e@106) 'x'@109 /110 /114 END";
+    let marks =
+        "(m:a b='&<>\"'[9][A][D].' c='' @0) ']]>&<>\"'[9][A][D][E9]'@55 (d@102) /102 (e@106) 'x'@109 /110 /114 END";
     assert_eq!(rt; outcome(alloc, bytes.as_slice(), 5)?.as_str(), marks);
     Ok(())
 }

@@ -156,12 +156,7 @@ fn end(alloc: Global, in_tag: bool, elements: &[Text]) -> Result<Text, NoMemory>
 }
 
 /// Adds a name to a list and a piece to a text, both or neither.
-fn put(
-    names: &mut Vec<Text>,
-    name: Text,
-    text: &mut Text,
-    piece: &Text,
-) -> Result<(), NoMemory>
+fn put(names: &mut Vec<Text>, name: Text, text: &mut Text, piece: &Text) -> Result<(), NoMemory>
     ensures named { OnOk result (names.new.items ≡ names.old.items ++ name ∷ []) }
     ensures written { OnOk result (text.new ≡ text.old ++ piece.now) }
     ensures same_names { OnErr result (names.new.items ≡ names.old.items) }

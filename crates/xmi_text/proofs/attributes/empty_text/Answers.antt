@@ -1,4 +1,4 @@
-use Rattle.std.proofs.Common.{◌≡◌, [], refl, ap, ◌∙◌, List, ℕ}
+use Rattle.std.proofs.Common.{◌≡◌, [], refl, ap, ◌∙◌}
 use Rattle.std.specs.Str.{chars}
 use Rattle.xmi_text.proofs.attributes.empty_text.Goals as goal
 

@@ -1,4 +1,4 @@
-use Rattle.std.proofs.Common.{◌≡◌, refl, arith}
+use Rattle.std.proofs.Common.{refl, arith}
 use Rattle.xmi_text.proofs.Reached.{Reached-byte}
 use Rattle.xmi_text.proofs.reader.advance.Goals as goal
 

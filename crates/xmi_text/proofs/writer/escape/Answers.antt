@@ -1,5 +1,4 @@
-use Rattle.std.proofs.Common.{◌≡◌, ◌++◌, sym, ◌∙◌, ap, append_assoc}
-use Rattle.std.specs.Str.{chars}
+use Rattle.std.proofs.Common.{◌++◌, sym, ◌∙◌, ap, append_assoc}
 use Rattle.std.proofs.lemmas.List.{map-id}
 use Rattle.std.proofs.lemmas.Iterator.{YieldsList-from_chars}
 use Rattle.std.proofs.lemmas.Iterator.Consumers.{YieldsList-end}

@@ -1,4 +1,3 @@
-use Rattle.std.proofs.Common.{◌≡◌, ◌∷◌, ◌++◌, [], refl}
 use Rattle.xmi_text.proofs.AttrLemmas.{has_after}
 use Rattle.xmi_text.proofs.attributes.Attributes.take_in.Goals as goal
 

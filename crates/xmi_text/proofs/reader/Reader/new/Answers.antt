@@ -1,4 +1,3 @@
-use Rattle.std.proofs.Common.{◌≡◌, refl}
 use Rattle.xmi_text.proofs.Reached.{Reached-none}
 use Rattle.xmi_text.proofs.reader.Reader.new.Goals as goal
 

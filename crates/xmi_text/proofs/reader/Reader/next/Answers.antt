@@ -1,5 +1,5 @@
-use Rattle.std.proofs.Common.{◌≡◌, ◌∙◌, refl, sym, ap, length, arith}
-use Rattle.xmi_text.specs.Reading.{Reached, behind, last_by}
+use Rattle.std.proofs.Common.{◌∙◌, sym, ap, length, arith}
+use Rattle.xmi_text.specs.Reading.{behind, last_by}
 use Rattle.xmi_text.proofs.Reached.{Reached-moved, Reached-mark, given_few, answered, answered_last, behind_last}
 use Rattle.xmi_text.proofs.reader.Reader.next.Goals as goal
 
@@ -22,11 +22,11 @@ pub returns-in-None-clause-answer : goal.returns-in-None-clause-answer
 returns-in-None-clause-answer c =
     rw (← c.self.view_is)
     (answered_last _ c.advance.new.at c.advance.new.state c.last_answer.result
-      (c.in_ok-advance.ensures.stopped c.in-None.ensures.idle ∙ ap length c.as_slice.ensures.value)
-      c.in-None.ensures.idle
-      (c.last_answer.ensures ∙ ap (λ s. last_by c.self.inside.finished s c.advance.new.at) c.in-None.ensures.kept
-        ∙ ap (λ n. last_by c.self.inside.finished c.advance.new.state n) (c.in_ok-advance.ensures.stopped c.in-None.ensures.idle ∙ ap length c.as_slice.ensures.value))
-      (Reached-moved _ _ _ _ _ c.self.inside.state _ c.as_slice.ensures.value c.advance.ensures.reached c.self.invariant))
+    (c.in_ok-advance.ensures.stopped c.in-None.ensures.idle ∙ ap length c.as_slice.ensures.value)
+    c.in-None.ensures.idle
+    (c.last_answer.ensures ∙ ap (λ s. last_by c.self.inside.finished s c.advance.new.at) c.in-None.ensures.kept
+    ∙ ap (λ n. last_by c.self.inside.finished c.advance.new.state n) (c.in_ok-advance.ensures.stopped c.in-None.ensures.idle ∙ ap length c.as_slice.ensures.value))
+    (Reached-moved _ _ _ _ _ c.self.inside.state _ c.as_slice.ensures.value c.advance.ensures.reached c.self.invariant))
 
 pub returns-in-None-clause-behind : goal.returns-in-None-clause-behind
 returns-in-None-clause-behind c =
