@@ -1,0 +1,4 @@
+pub mod AttrLemmas
+pub mod Reached
+pub mod Literals
+pub mod Staying

@@ -1,0 +1,5 @@
+use Rattle.xmi_text.proofs.Staying.{one_spelled}
+use Rattle.xmi_text.proofs.laws.one_tree.Goals as goal
+
+pub returns : goal.returns
+returns c = one_spelled

@@ -1,0 +1,25 @@
+//! The markup of model files: a profile of XML 1.0 (Fifth Edition) in UTF-8, without document types, read in
+//! any pieces and written.
+#![tactic(auto)]
+
+mod attributes;
+mod automaton;
+mod byte_class;
+mod error;
+mod laws;
+mod mark;
+mod reader;
+mod reference;
+mod state;
+mod steps;
+mod utf_eight;
+mod writer;
+
+pub use error::{TextError, TextFault, TextKind};
+pub use laws::{faults_stay, marks_stay, one_tree};
+pub use mark::{Attr, Mark, Step};
+pub use reader::Reader;
+pub use writer::Writer;
+
+#[cfg(test)]
+mod tests;
