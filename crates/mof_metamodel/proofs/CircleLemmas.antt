@@ -1,12 +1,12 @@
 -- The classes that a class reaches, as a walk over superclasses finds them.
-use Rattle.std.proofs.Common.{◌≡◌, ℕ, zero, suc, ◌+◌, ◌-◌, ◌<◌, ◌≤◌, List, [], ◌∷◌, ◌++◌, Bool, true, false, cond, refl, sym, ◌∙◌, ap, subst, arith, length, get_or, inl, inr, ◌⊎◌, eqb, length-append}
+use Rattle.std.proofs.Common.{◌≡◌, ℕ, ◌<◌, ◌≤◌, List, [], ◌∷◌, ◌++◌, Bool, true, false, cond, refl, sym, ◌∙◌, subst, arith, length, get_or, inl, inr, eqb, length-append}
 use Rattle.std.specs.Prelude.{nat_eq, Contains}
 use Rattle.std.specs.List.{list_any, IsDistinct}
 use Rattle.std.proofs.lemmas.List.{get_or_append_left, get_or_default}
 use Rattle.std.proofs.lemmas.Map.Steps.{length-le_from_distinct_below}
 use Rattle.mof_metamodel.specs.declared.desc.MetaDesc.{MetaDesc}
 use Rattle.mof_metamodel.specs.Metamodels.{class_count, supers_of, IsPath, Reaches, with_item, joined}
-use Rattle.mof_metamodel.proofs.LineageLemmas.{Has, Has-from_Contains, Contains-from_Has, joined-keeps, joined-right, joined-cases, supers_within, path_within, path_snoc}
+use Rattle.mof_metamodel.proofs.LineageLemmas.{Has, Has-from_Contains, Contains-from_Has, joined-cases, supers_within, path_snoc}
 
 with_item-longer : (xs : List ℕ) (x : ℕ) → length xs ≤ length (with_item xs x)
 with_item-longer xs x = by (list_any (nat_eq x) xs)

@@ -1,12 +1,12 @@
 -- The first name that a walk over a list finds.
-use Rattle.std.proofs.Common.{◌≡◌, ℕ, ◌+◌, ◌<◌, ◌≤◌, List, [], ◌∷◌, ◌++◌, Bool, true, false, cond, refl, sym, ◌∙◌, ap, arith, length, get_or, drop, take, map, true≢false}
-use Rattle.std.specs.Prelude.{Option, Some, None, is_some, position, nat_lt}
-use Rattle.std.specs.List.{range_with_len, list_any, position_or_len}
+use Rattle.std.proofs.Common.{◌≡◌, ℕ, ◌+◌, ◌<◌, ◌≤◌, List, ◌∷◌, true, false, refl, sym, ◌∙◌, ap, arith, length, get_or, drop, true≢false}
+use Rattle.std.specs.Prelude.{Option, Some, None, is_some}
+use Rattle.std.specs.List.{range_with_len}
 use Rattle.std.specs.Option.{option_or}
-use Rattle.std.proofs.lemmas.List.{drop_more, drop_all, take_more}
+use Rattle.std.proofs.lemmas.List.{drop_more, drop_all}
 use Rattle.std.proofs.lemmas.List.FromFn.{get_or-range_with_len, length-range_with_len}
-use Rattle.mof_metamodel.specs.Metamodels.{first_found, same_name}
-use Rattle.mof_metamodel.specs.MetaFaults.{first_of, unless, first_repeat}
+use Rattle.mof_metamodel.specs.Metamodels.{first_found}
+use Rattle.mof_metamodel.specs.MetaFaults.{first_of}
 
 module _ {X : Type 0} (f : X → Option (List ℕ)) (xs : List X) where
   pub first_step : (i : ℕ) (x : X) → i < length xs → x ≡ get_or xs i x → first_of f (drop i xs) ≡ option_or (f x) (first_of f (drop (i + 1) xs))

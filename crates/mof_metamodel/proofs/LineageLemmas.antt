@@ -1,7 +1,7 @@
 -- Who stands in a class order: exactly the classes that the class conforms to. And every class has one where none reaches itself.
-use Rattle.std.proofs.Common.{◌≡◌, ℕ, zero, suc, ◌+◌, ◌<◌, ◌≤◌, List, [], ◌∷◌, ◌++◌, Bool, true, false, cond, ◌||◌, refl, sym, ◌∙◌, ap, subst, arith, rules, length, get_or, map, inl, inr, ◌⊎◌, eqb, eq-eqb}
-use Rattle.std.specs.Prelude.{nat_eq, Option, Some, None, IsSome, Contains, if◌then◌else◌}
-use Rattle.std.specs.List.{list_any, IsDistinct, AllByRecursion, position, slice_index_or, filter_map, cons_option}
+use Rattle.std.proofs.Common.{◌≡◌, ℕ, zero, suc, ◌+◌, ◌<◌, List, [], ◌∷◌, ◌++◌, Bool, true, false, cond, ◌||◌, refl, sym, ◌∙◌, ap, subst, arith, length, get_or, map, inl, inr, ◌⊎◌, eqb, eq-eqb}
+use Rattle.std.specs.Prelude.{nat_eq, Option, Some, None, IsSome, Contains}
+use Rattle.std.specs.List.{list_any, IsDistinct, AllByRecursion, slice_index_or, filter_map, cons_option}
 use Rattle.std.proofs.lemmas.List.Quantifiers.{position-Some}
 use Rattle.std.specs.Option.{option_map, option_or, unwrap_or, is_some}
 use Rattle.std.specs.Prelude.{All}

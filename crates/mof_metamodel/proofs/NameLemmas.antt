@@ -1,15 +1,15 @@
 -- Names: by characters and by bytes, and the numbers that are found for them.
-use Rattle.std.proofs.Common.{◌≡◌, ℕ, ◌+◌, ◌<◌, ◌≤◌, List, [], ◌∷◌, ◌++◌, Bool, true, false, cond, refl, sym, ◌∙◌, ap, subst, arith, length, get_or, map, take, not, suc, ◌||◌, ◌&&◌, true≢false}
-use Rattle.std.specs.Prelude.{nat_eq, encode_utf8_all, position, Option, Some, None, is_some, codes, nat_lt, ◌==◌}
+use Rattle.std.proofs.Common.{◌≡◌, ℕ, ◌+◌, ◌<◌, ◌≤◌, List, [], ◌∷◌, ◌++◌, Bool, true, false, cond, refl, sym, ◌∙◌, ap, arith, length, get_or, map, take, not, suc, true≢false}
+use Rattle.std.specs.Prelude.{nat_eq, encode_utf8_all, position, Option, Some, None, is_some, codes}
 use Rattle.std.specs.Str.{chars, IsUtf8, bytes_eq}
-use Rattle.std.specs.List.{position_or_len, prefix_len}
+use Rattle.std.specs.List.{position_or_len}
 use Rattle.std.specs.Map.{lookup}
 use Rattle.std.specs.Option.{option_or}
 use Rattle.std.proofs.lemmas.Bool.Decides.{nat_tests}
 use Rattle.std.specs.Cmp.Lexicographic.{pointwise, same_text}
 use Rattle.std.specs.Prelude.{string_bytes, String}
 use Rattle.std.proofs.lemmas.Str.{encodes-chars, IsUtf8-string_bytes}
-use Rattle.std.proofs.lemmas.List.{length-map, map-append, length-take-le, take_more, length_push}
+use Rattle.std.proofs.lemmas.List.{length-take-le, take_more, length_push}
 use Rattle.std.proofs.lemmas.List.Folds.{position_or_len_push}
 use Rattle.mof_metamodel.specs.TextLaws.{equal_encodings}
 use Rattle.mof_metamodel.specs.Metamodels.{same_name}

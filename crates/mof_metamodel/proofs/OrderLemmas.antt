@@ -1,17 +1,17 @@
 -- The properties of a class in class order, and the names that stand twice.
-use Rattle.std.proofs.Common.{◌≡◌, ℕ, zero, suc, ◌+◌, ◌-◌, ◌<◌, ◌≤◌, List, [], ◌∷◌, ◌++◌, Bool, true, false, cond, ◌&&◌, ◌||◌, refl, sym, ◌∙◌, ap, subst, arith, length, get_or, map, take, drop, inl, inr, ◌⊎◌, true≢false}
-use Rattle.std.specs.Prelude.{nat_eq, nat_lt, Contains, All, Option, Some, None, IsSome, position}
-use Rattle.std.specs.List.{list_any, list_all, flat_map, range_with_len, position_or_len}
-use Rattle.std.specs.Option.{option_or, unwrap_or, is_some}
+use Rattle.std.proofs.Common.{◌≡◌, ℕ, zero, suc, ◌<◌, List, [], ◌∷◌, true, refl, sym, ◌∙◌, ap, subst, arith, length, get_or, inl, inr, true≢false}
+use Rattle.std.specs.Prelude.{All, Option, Some, None}
+use Rattle.std.specs.List.{list_all, flat_map}
+use Rattle.std.specs.Option.{unwrap_or, is_some}
 use Rattle.std.proofs.lemmas.Bool.{cases_lt}
-use Rattle.std.proofs.lemmas.List.{get_or_past, get_or-map, length-map, take_more, append-nil, append_assoc}
+use Rattle.std.proofs.lemmas.List.{get_or_past, get_or-map, length-map}
 use Rattle.std.proofs.lemmas.List.Elements.{All-nil, All-cons, All-append, Contains-get_or}
 use Rattle.std.proofs.lemmas.List.FromFn.{length-range_with_len, get_or-range_with_len}
 use Rattle.indexmap.specs.IndexSet.{IndexSet}
 use Rattle.mof_metamodel.specs.declared.desc.MetaDesc.{MetaDesc}
 use Rattle.mof_metamodel.specs.declared.desc.PropId.{PropId}
-use Rattle.mof_metamodel.specs.Metamodels.{class_count, class_at, no_class, prop_count, first_own, own_props, props_of, lineage_within, lineage_of, IsPath, first_found}
-use Rattle.mof_metamodel.specs.Tables.{line, lines, line_at, lineage_in, AreLines, IsGrounded, IsPropOf, prop_numbers}
+use Rattle.mof_metamodel.specs.Metamodels.{class_count, class_at, no_class, prop_count, first_own, own_props, props_of, lineage_within, lineage_of, IsPath}
+use Rattle.mof_metamodel.specs.Tables.{line, line_at, lineage_in, AreLines, IsGrounded, IsPropOf, prop_numbers}
 use Rattle.mof_metamodel.proofs.TableLemmas.{own_within}
 use Rattle.mof_metamodel.proofs.LineageLemmas.{Has, Has-from_Contains, lineage_sound, supers_within}
 use Rattle.mof_metamodel.proofs.RoundLemmas.{line_at_is, line_at_read, lines_count}

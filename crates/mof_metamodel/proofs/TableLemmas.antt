@@ -1,9 +1,8 @@
 -- Tables by number, and names looked up in them.
-use Rattle.std.proofs.Common.{◌≡◌, ℕ, zero, suc, ◌+◌, ◌<◌, List, [], ◌∷◌, ◌++◌, Bool, true, false, cond, refl, sym, ◌∙◌, ap, arith, length, get_or, map}
-use Rattle.std.specs.Prelude.{nat_eq, nat_lt, not, Some, None, encode_utf8_all, chars, position, Option}
-use Rattle.std.specs.List.{range_with_len, position_or_len, prefix_len, filter_map, cons_option, zip}
-use Rattle.std.specs.Option.{option_to_list, option_or}
-use Rattle.std.specs.Cmp.Lexicographic.{pointwise}
+use Rattle.std.proofs.Common.{◌≡◌, ℕ, zero, suc, ◌+◌, ◌<◌, List, [], ◌∷◌, ◌++◌, Bool, cond, refl, sym, ◌∙◌, ap, arith, length, get_or, map}
+use Rattle.std.specs.Prelude.{nat_lt, not, Some, None, encode_utf8_all, chars, position, Option}
+use Rattle.std.specs.List.{range_with_len, position_or_len, filter_map, cons_option}
+use Rattle.std.specs.Option.{option_to_list}
 use Rattle.std.specs.Str.{IsUtf8, bytes_eq}
 use Rattle.std.proofs.lemmas.List.{get_or-map, length-map, map-id, map-append, length-append, append-nil, append_assoc, take_more, length-take-le, get_or_default}
 use Rattle.std.proofs.lemmas.List.Elements.{All-map, filter_map-append}
@@ -14,7 +13,7 @@ use Rattle.std.proofs.lemmas.Str.{encodes-chars}
 use Rattle.std.proofs.lemmas.Bool.Decides.{nat_tests}
 use Rattle.std.specs.Prelude.{◌≤◌, IsTrue, sum_by, All, take}
 use Rattle.mof_metamodel.specs.declared.desc.MetaDesc.{MetaDesc}
-use Rattle.mof_metamodel.specs.Metamodels.{same_name, class_count, enum_count, class_at, no_class, no_prop, declared_from, declared_props, prop_count, first_own}
+use Rattle.mof_metamodel.specs.Metamodels.{same_name, class_count, enum_count, class_at, no_class, no_prop, declared_from, prop_count, first_own}
 use Rattle.mof_metamodel.specs.MetaFaults.{is_within_limits}
 use Rattle.mof_metamodel.specs.Tables.{table, place_in, placed, IsPlace}
 use Rattle.mof_metamodel.specs.declared.desc.PropDesc.{PropDesc}

@@ -1,6 +1,6 @@
 -- A description without faults is refused for want of memory alone.
-use Rattle.std.proofs.Common.{◌≡◌, List, ℕ, true, false, refl, sym, ◌∙◌, ap, true≢false}
-use Rattle.std.specs.Prelude.{Option, Some, None, Result, Ok, Err, IfErr, IsOkUnless, IsTrue}
+use Rattle.std.proofs.Common.{◌≡◌, List, ℕ, refl, sym, ◌∙◌, true≢false}
+use Rattle.std.specs.Prelude.{Option, Some, None, Result, Ok, Err, IfErr, IsOkUnless}
 use Rattle.mof_metamodel.specs.declared.desc.MetaDesc.{MetaDesc}
 use Rattle.mof_metamodel.specs.declared.fault.MetaError.{MetaError}
 use Rattle.mof_metamodel.specs.declared.fault.MetaError.TheVariants as errors

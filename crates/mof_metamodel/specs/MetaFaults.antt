@@ -1,6 +1,6 @@
 -- When a description is a metamodel, and which fault it has first where it isn't one.
 -- For each kind of fault: the name at the first place where it stands, in the order of the description.
-use Rattle.std.specs.Prelude.{◌≡◌, ℕ, zero, suc, ◌+◌, ◌<◌, ◌≤◌, Bool, true, false, ◌==◌, ◌||◌, ◌&&◌, not, nat_le, List, [], ◌∷◌, ◌++◌, Option, None, Some, map, take, length, sum_by, nat_eq, codes, is_some, if◌then◌else◌, IsTrue}
+use Rattle.std.specs.Prelude.{◌≡◌, ℕ, ◌<◌, Bool, true, false, ◌==◌, ◌||◌, ◌&&◌, not, nat_le, List, [], ◌∷◌, ◌++◌, Option, None, Some, map, take, length, sum_by, codes, is_some, if◌then◌else◌, IsTrue}
 use Rattle.std.specs.List.{list_any, list_all, range_with_len}
 use Rattle.std.specs.Option.{option_or}
 use Rattle.mof_metamodel.specs.declared.desc.MetaDesc.{MetaDesc}
@@ -16,7 +16,7 @@ use Rattle.mof_metamodel.specs.declared.fault.MetaKind.{MetaKind}
 use Rattle.mof_metamodel.specs.declared.fault.MetaKind.TheVariants as kinds
 use Rattle.mof_metamodel.specs.declared.limits.TheConstants.{MAX_CLASSES, MAX_ENUMS, MAX_PROPS, MAX_LITERALS}
 use Rattle.mof_metamodel.specs.Characters.{is_storable_character}
-use Rattle.mof_metamodel.specs.Metamodels.{same_name, class_count, enum_count, class_number, enum_number, class_at, enum_at, supers_of, IsCircular, props_of, prop_count, owner_of, prop_at, is_primitive, type_named, type_of, own_number, opposite_number, opposite_of}
+use Rattle.mof_metamodel.specs.Metamodels.{same_name, class_count, enum_count, class_number, enum_number, class_at, enum_at, IsCircular, props_of, prop_count, owner_of, prop_at, is_primitive, type_named, type_of, opposite_number, opposite_of}
 
 -- the first name that is found for an item of the list
 abbrev pub first_of : {X : Type 0} → (X → Option (List ℕ)) → List X → Option (List ℕ)

@@ -1,7 +1,7 @@
 -- What the description of a metamodel says of its classes, enumerations and properties: the class part of MOF.
 -- They go by numbers. Those of classes and of enumerations are their places in the description, from 0, and those of
 -- properties their places among the properties of all classes, class by class. A number past the end has nothing.
-use Rattle.std.specs.Prelude.{◌≡◌, ℕ, zero, suc, ◌+◌, ◌<◌, Bool, true, false, ◌==◌, ◌||◌, ◌&&◌, List, [], ◌∷◌, ◌++◌, Option, None, Some, map, take, length, sum_by, find, position, nat_eq, codes, Contains, is_some, if◌then◌else◌, slice_index_or, filter_map}
+use Rattle.std.specs.Prelude.{◌≡◌, ℕ, zero, suc, ◌+◌, Bool, false, ◌||◌, List, [], ◌∷◌, ◌++◌, Option, None, Some, map, take, length, sum_by, position, nat_eq, codes, Contains, if◌then◌else◌, slice_index_or, filter_map}
 use Rattle.std.specs.List.{list_any, flat_map, range_with_len}
 use Rattle.std.specs.Option.{option_map, option_or, unwrap_or, option_and_then}
 use Rattle.std.specs.Cmp.Lexicographic.{pointwise}

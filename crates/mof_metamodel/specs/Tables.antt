@@ -1,5 +1,5 @@
 -- What the tables of a metamodel hold: what its description says, by number.
-use Rattle.std.specs.Prelude.{◌≡◌, ℕ, ◌+◌, ◌<◌, List, [], ◌∷◌, ◌++◌, Option, Some, None, map, length, slice_index_or, position, All, IsSome, IsTrue, is_some, nat_eq, if◌then◌else◌}
+use Rattle.std.specs.Prelude.{◌≡◌, ℕ, ◌<◌, List, [], ◌∷◌, ◌++◌, Option, None, map, length, slice_index_or, position, All, IsSome, IsTrue, is_some, nat_eq, if◌then◌else◌}
 use Rattle.std.specs.List.{range_with_len, list_any}
 use Rattle.std.specs.Map.{lookup}
 use Rattle.std.specs.Option.{option_map, unwrap_or}
@@ -10,7 +10,7 @@ use Rattle.mof_metamodel.specs.declared.desc.MetaDesc.{MetaDesc}
 use Rattle.mof_metamodel.specs.declared.desc.ClassId.{ClassId}
 use Rattle.mof_metamodel.specs.declared.desc.PropId.{PropId}
 use Rattle.mof_metamodel.specs.declared.desc.Prop.{Prop}
-use Rattle.mof_metamodel.specs.Metamodels.{same_name, class_count, class_at, no_prop, prop_count, declared_props, first_own, supers_of, with_item, all_joined, Reaches, IsCircular, lineage_within, lineage_of, props_of, IsProp}
+use Rattle.mof_metamodel.specs.Metamodels.{same_name, class_count, class_at, no_prop, prop_count, declared_props, first_own, supers_of, with_item, all_joined, Reaches, IsCircular, lineage_within, props_of, IsProp}
 use Rattle.mof_metamodel.specs.MetaFaults.{WellMeta, is_within_limits}
 
 -- what f says of each number below n

@@ -21,8 +21,6 @@ mod ordered;
 mod resolved;
 mod seq;
 mod span;
-#[cfg(test)]
-mod tests;
 mod text;
 
 pub use boxed::Boxed;

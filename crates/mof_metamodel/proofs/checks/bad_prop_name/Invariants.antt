@@ -1,5 +1,5 @@
 use Rattle.std.proofs.Common.{◌≡◌, drop}
-use Rattle.mof_metamodel.specs.MetaFaults.{first_of, unless, is_name, is_prop_name, is_known_prop, qualified, bad_name_in_class, bad_name_in_enum, bad_bounds_in_class}
+use Rattle.mof_metamodel.specs.MetaFaults.{first_of, unless, is_prop_name, qualified}
 use Rattle.mof_metamodel.proofs.checks.bad_prop_name.Given as goal
 
 -- nothing is found so far

@@ -1,4 +1,4 @@
-use Rattle.std.proofs.Common.{◌≡◌, ap, ◌∙◌, sym, arith, true≢false, below_more}
+use Rattle.std.proofs.Common.{ap, ◌∙◌, sym, arith, true≢false, below_more}
 use Rattle.mof_metamodel.specs.Metamodels.{class_count, IsCircular}
 use Rattle.mof_metamodel.proofs.circles.first_circle.Goals as goal
 

@@ -1,8 +1,8 @@
-use Rattle.std.proofs.Common.{◌≡◌, ◌<◌, ◌≤◌, ◌+◌, ℕ, List, [], ap, ◌∙◌, sym, subst, arith, length, get_or, inl, inr}
+use Rattle.std.proofs.Common.{◌≡◌, ◌<◌, [], ap, ◌∙◌, sym, subst, arith, length, get_or, inl, inr}
 use Rattle.std.specs.Prelude.{Contains}
 use Rattle.std.proofs.lemmas.Bool.{cases_lt}
 use Rattle.std.proofs.lemmas.Option.{get_or_from_slice_get}
-use Rattle.mof_metamodel.specs.Metamodels.{class_count, supers_of, Reaches, joined}
+use Rattle.mof_metamodel.specs.Metamodels.{class_count, supers_of, joined}
 use Rattle.mof_metamodel.specs.Tables.{class_numbers}
 use Rattle.mof_metamodel.proofs.LineageLemmas.{Has, Has-from_Contains, joined-keeps, joined-right, joined-cases}
 use Rattle.mof_metamodel.proofs.CircleLemmas.{joined-longer, joined-front, reach_first, reach_within, sound_more, complete, met_few}

@@ -1,4 +1,4 @@
-use Rattle.std.proofs.Common.{◌≡◌, ◌<◌, ◌≤◌, ◌-◌, ℕ, length, get_or}
+use Rattle.std.proofs.Common.{◌<◌, ◌≤◌, ◌-◌, ℕ, length, get_or}
 use Rattle.std.specs.Prelude.{Contains, nat_eq, IsTrue}
 use Rattle.std.specs.List.{list_any}
 use Rattle.mof_metamodel.specs.Metamodels.{class_count, supers_of, Reaches}

@@ -1,4 +1,4 @@
-use Rattle.std.proofs.Common.{◌≡◌, List, ℕ, true, false, ap, ◌∙◌, sym, subst, arith, map, take}
+use Rattle.std.proofs.Common.{◌≡◌, true, false, ap, ◌∙◌, sym, arith, map, take}
 use Rattle.std.specs.Prelude.{Some, is_some}
 use Rattle.std.specs.List.{list_any}
 use Rattle.mof_metamodel.specs.Metamodels.{same_name}

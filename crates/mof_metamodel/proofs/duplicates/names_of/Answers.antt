@@ -1,4 +1,4 @@
-use Rattle.std.proofs.Common.{◌≡◌, ap, ◌∙◌, sym, map, arith}
+use Rattle.std.proofs.Common.{ap, ◌∙◌, sym, map, arith}
 use Rattle.std.proofs.lemmas.List.{take_all}
 use Rattle.mof_metamodel.specs.Metamodels.{prop_at}
 use Rattle.mof_metamodel.proofs.TableLemmas.{map-map}

@@ -1,4 +1,4 @@
-use Rattle.std.proofs.Common.{◌≡◌, ◌++◌, ap, ◌∙◌, arith, sym, take}
+use Rattle.std.proofs.Common.{◌++◌, ap, ◌∙◌, arith, sym, take}
 use Rattle.std.specs.List.{filter_map}
 use Rattle.std.specs.Option.{option_to_list}
 use Rattle.mof_metamodel.specs.Metamodels.{class_number}

@@ -1,8 +1,8 @@
-use Rattle.std.proofs.Common.{◌≡◌, ◌+◌, ℕ, List, ap, ◌∙◌, sym, subst, arith, length}
+use Rattle.std.proofs.Common.{◌≡◌, ap, ◌∙◌, sym, arith, length}
 use Rattle.std.specs.Option.{option_or, is_some}
 use Rattle.std.specs.List.{list_any}
 use Rattle.mof_metamodel.specs.Metamodels.{class_count}
-use Rattle.mof_metamodel.specs.Tables.{line_at, later_line, table, AreLines}
+use Rattle.mof_metamodel.specs.Tables.{line_at, later_line, table}
 use Rattle.mof_metamodel.proofs.RoundLemmas.{lines_count, round_more, round_last, put_back}
 use Rattle.mof_metamodel.proofs.lineages.all_lines.Goals as goal
 

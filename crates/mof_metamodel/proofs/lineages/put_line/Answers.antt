@@ -1,4 +1,4 @@
-use Rattle.std.proofs.Common.{◌≡◌, ap, ◌∙◌, sym, arith, not}
+use Rattle.std.proofs.Common.{ap, ◌∙◌, sym, arith, not}
 use Rattle.std.specs.Option.{option_or, is_some}
 use Rattle.mof_metamodel.specs.Tables.{line, line_at}
 use Rattle.mof_metamodel.proofs.RoundLemmas.{line_at-set_same, line_at-set_other, line_at_read, line_none}

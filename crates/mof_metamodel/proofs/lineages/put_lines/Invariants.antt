@@ -1,4 +1,4 @@
-use Rattle.std.proofs.Common.{◌≡◌, ◌<◌, ◌≤◌, ℕ, length}
+use Rattle.std.proofs.Common.{◌≡◌, ◌<◌, ◌≤◌, ℕ}
 use Rattle.std.specs.Option.{option_or}
 use Rattle.mof_metamodel.specs.Tables.{line_at}
 use Rattle.mof_metamodel.proofs.lineages.put_lines.Given as goal

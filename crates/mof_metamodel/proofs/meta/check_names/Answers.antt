@@ -1,4 +1,4 @@
-use Rattle.std.proofs.Common.{◌≡◌, ap, ◌∙◌, sym, subst, false, []}
+use Rattle.std.proofs.Common.{◌≡◌, ◌∙◌, sym, subst, false, []}
 use Rattle.std.proofs.lemmas.Result.{MatchResult-weaker}
 use Rattle.mof_metamodel.specs.declared.fault.MetaError.{MetaError}
 use Rattle.mof_metamodel.specs.MetaFaults.{IsRefusal, is_within_limits}

@@ -1,4 +1,4 @@
-use Rattle.std.proofs.Common.{◌≡◌, ◌<◌, ◌+◌, ap, ◌∙◌, arith, subst, sym, get_or}
+use Rattle.std.proofs.Common.{◌≡◌, ◌<◌, ◌∙◌, arith, get_or}
 use Rattle.mof_metamodel.specs.Metamodels.{first_own, class_count}
 use Rattle.mof_metamodel.proofs.TableLemmas.{first_own_more, entry_more}
 use Rattle.mof_metamodel.proofs.numbering.first_numbers.Goals as goal

@@ -1,6 +1,6 @@
-use Rattle.std.proofs.Common.{◌≡◌, ◌<◌, ◌≤◌, ap, ◌∙◌, sym, arith}
-use Rattle.mof_metamodel.specs.Metamodels.{class_count, enum_count, prop_count, opposite_of}
-use Rattle.mof_metamodel.specs.MetaFaults.{unless, agree, has_one_container, prop_name, duplicate_in_class, duplicate_in_enum}
+use Rattle.std.proofs.Common.{◌∙◌, sym, arith}
+use Rattle.mof_metamodel.specs.Metamodels.{prop_count, opposite_of}
+use Rattle.mof_metamodel.specs.MetaFaults.{unless, agree, prop_name}
 use Rattle.mof_metamodel.proofs.FirstLemmas.{number_here, number_past, number_none}
 use Rattle.mof_metamodel.proofs.resolved.first_bad_opposite.Goals as goal
 

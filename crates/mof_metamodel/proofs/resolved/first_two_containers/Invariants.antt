@@ -1,7 +1,7 @@
 use Rattle.std.proofs.Common.{◌≡◌, drop}
 use Rattle.std.specs.List.{range_with_len}
-use Rattle.mof_metamodel.specs.Metamodels.{class_count, enum_count, prop_count, opposite_of}
-use Rattle.mof_metamodel.specs.MetaFaults.{first_of, unless, agree, has_one_container, prop_name, duplicate_in_class, duplicate_in_enum}
+use Rattle.mof_metamodel.specs.Metamodels.{prop_count, opposite_of}
+use Rattle.mof_metamodel.specs.MetaFaults.{first_of, unless, has_one_container, prop_name}
 use Rattle.mof_metamodel.proofs.resolved.first_two_containers.Given as goal
 
 -- nothing is found so far

@@ -1,7 +1,7 @@
-use Rattle.std.proofs.Common.{◌≡◌, ◌<◌, ◌+◌, ◌++◌, ◌∷◌, [], ℕ, List, ap, ◌∙◌, sym, subst, arith, length, length-append}
+use Rattle.std.proofs.Common.{◌<◌, ◌+◌, ◌∷◌, [], ℕ, List, ap, ◌∙◌, sym, subst, arith, length, length-append}
 use Rattle.std.specs.Prelude.{slice_index_or}
 use Rattle.mof_metamodel.specs.declared.desc.Prop.{Prop}
-use Rattle.mof_metamodel.specs.Metamodels.{prop_count, IsProp}
+use Rattle.mof_metamodel.specs.Metamodels.{IsProp}
 use Rattle.mof_metamodel.proofs.KnownLemmas.{known_at, each_more}
 use Rattle.mof_metamodel.proofs.resolved.resolved_props.Goals as goal
 

@@ -1,4 +1,4 @@
-use Rattle.std.proofs.Common.{◌≡◌, ◌<◌, length, arith, rules, ap, ◌∙◌, List}
+use Rattle.std.proofs.Common.{◌≡◌, ◌<◌, length, rules, ap, ◌∙◌}
 use Rattle.mof_metamodel.specs.Metamodels.{class_count, supers_of}
 use Rattle.mof_metamodel.specs.Tables.{class_numbers}
 use Rattle.mof_metamodel.proofs.TableLemmas.{rows_count, row_is}

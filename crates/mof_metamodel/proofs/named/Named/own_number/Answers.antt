@@ -1,4 +1,4 @@
-use Rattle.std.proofs.Common.{◌≡◌, ◌<◌, ◌+◌, arith, ap, ◌∙◌, sym, subst, ℕ, List, length, get_or, rules}
+use Rattle.std.proofs.Common.{◌≡◌, ◌<◌, ◌+◌, arith, ap, ◌∙◌, sym, subst, get_or}
 use Rattle.std.specs.Prelude.{chars, position, Some}
 use Rattle.std.proofs.lemmas.List.Quantifiers.{position-Some}
 use Rattle.mof_metamodel.specs.declared.desc.MetaDesc.{MetaDesc}

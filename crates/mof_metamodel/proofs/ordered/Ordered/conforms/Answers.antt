@@ -1,5 +1,5 @@
-use Rattle.std.proofs.Common.{◌≡◌, ◌<◌, ℕ, List, length, arith, rules, ap, ◌∙◌, sym, subst}
-use Rattle.std.specs.Prelude.{IsTrue, ◌↔◌, false}
+use Rattle.std.proofs.Common.{◌≡◌, ◌<◌, length, rules, ap, ◌∙◌, sym, subst}
+use Rattle.std.specs.Prelude.{IsTrue, ◌↔◌}
 use Rattle.mof_metamodel.specs.declared.desc.MetaDesc.{MetaDesc}
 use Rattle.mof_metamodel.specs.Metamodels.{class_count, lineage_of, Conforms}
 use Rattle.mof_metamodel.specs.Tables.{IsGrounded, lineage_in}

@@ -1,4 +1,4 @@
-use Rattle.std.proofs.Common.{◌≡◌, ◌<◌, length, arith, rules, ap, ◌∙◌}
+use Rattle.std.proofs.Common.{◌≡◌, ◌<◌, length, rules, ap, ◌∙◌}
 use Rattle.mof_metamodel.specs.Metamodels.{class_count, props_of}
 use Rattle.mof_metamodel.specs.Tables.{prop_numbers}
 use Rattle.mof_metamodel.proofs.TableLemmas.{rows_count, row_is}
