@@ -1,20 +1,41 @@
 //! Metamodels: the class part of MOF (EMOF's `Class`, `Property` and `Enumeration`), and the small types in which
+//! every crate above keeps texts, lists and boxed values.
 #![tactic(auto)]
 
 mod boxed;
+mod checks;
+mod circles;
+mod desc;
+mod duplicates;
+mod fault;
+mod hierarchy;
 mod limits;
+mod lineages;
 mod memory;
+mod meta;
+mod name_table;
+mod named;
 mod names;
+mod numbering;
+mod ordered;
+mod resolved;
 mod seq;
 mod span;
+#[cfg(test)]
+mod tests;
 mod text;
 
 pub use boxed::Boxed;
+pub use desc::{
+    ClassDesc, ClassId, EnumDesc, EnumId, MetaDesc, OppDesc, Prop, PropDesc, PropId, PropType,
+};
+pub use fault::{MetaError, MetaFault, MetaKind};
 pub use limits::{
-    MAX_CALLS, MAX_DEPTH, MAX_FILE, MAX_NESTING, MAX_OBJECTS, MAX_RESULT, MAX_SCRIPT,
-    MAX_XMI_NESTING,
+    MAX_CALLS, MAX_CLASSES, MAX_DEPTH, MAX_ENUMS, MAX_FILE, MAX_LITERALS, MAX_NESTING, MAX_OBJECTS,
+    MAX_PROPS, MAX_RESULT, MAX_SCRIPT, MAX_XMI_NESTING,
 };
 pub use memory::NoMemory;
+pub use meta::MetaModel;
 pub use names::{is_identifier, is_storable};
 pub use seq::Seq;
 pub use span::Span;

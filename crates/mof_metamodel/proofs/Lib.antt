@@ -1,0 +1,10 @@
+pub mod CircleLemmas
+pub mod FirstLemmas
+pub mod KnownLemmas
+pub mod LineageLemmas
+pub mod NameLemmas
+pub mod OrderLemmas
+pub mod RepeatLemmas
+pub mod RoundLemmas
+pub mod TableLemmas
+pub mod WellLemmas

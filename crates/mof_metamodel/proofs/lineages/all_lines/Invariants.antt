@@ -1,0 +1,6 @@
+use Rattle.mof_metamodel.specs.Tables.{AreLines}
+use Rattle.mof_metamodel.proofs.lineages.all_lines.Given as goal
+
+-- after so many rounds
+abbrev pub invariant-loop-round : goal.invariant-loop-round
+invariant-loop-round l = AreLines l.hierarchy l._round l.orders.items

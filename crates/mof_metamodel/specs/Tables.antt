@@ -1,0 +1,128 @@
+-- What the tables of a metamodel hold: what its description says, by number.
+use Rattle.std.specs.Prelude.{◌≡◌, ℕ, ◌+◌, ◌<◌, List, [], ◌∷◌, ◌++◌, Option, Some, None, map, length, slice_index_or, position, All, IsSome, IsTrue, is_some, nat_eq, if◌then◌else◌}
+use Rattle.std.specs.List.{range_with_len, list_any}
+use Rattle.std.specs.Map.{lookup}
+use Rattle.std.specs.Option.{option_map, unwrap_or}
+use Rattle.indexmap.specs.IndexSet.{IndexSet}
+use Rattle.mof_metamodel.specs.declared.desc.PropDesc.{PropDesc}
+use Rattle.mof_metamodel.specs.declared.named.Place.{Place}
+use Rattle.mof_metamodel.specs.declared.desc.MetaDesc.{MetaDesc}
+use Rattle.mof_metamodel.specs.declared.desc.ClassId.{ClassId}
+use Rattle.mof_metamodel.specs.declared.desc.PropId.{PropId}
+use Rattle.mof_metamodel.specs.declared.desc.Prop.{Prop}
+use Rattle.mof_metamodel.specs.Metamodels.{same_name, class_count, class_at, no_prop, prop_count, declared_props, first_own, supers_of, with_item, all_joined, Reaches, IsCircular, lineage_within, lineage_of, props_of, IsProp}
+use Rattle.mof_metamodel.specs.MetaFaults.{WellMeta, is_within_limits}
+
+-- what f says of each number below n
+abbrev pub table : {X : Type 0} → (ℕ → X) → ℕ → List X
+table f n = map f (range_with_len 0 n)
+
+abbrev pub class_numbers : List ClassId → List ℕ
+class_numbers ids = map (λ c. c.0) ids
+
+abbrev pub prop_numbers : List PropId → List ℕ
+prop_numbers ids = map (λ p. p.0) ids
+
+abbrev pub IsClassOf : MetaDesc → ClassId → Type 0
+IsClassOf desc c = c.0 < class_count desc
+
+abbrev pub IsPropOf : MetaDesc → PropId → Type 0
+IsPropOf desc p = p.0 < prop_count desc
+
+-- each class has a class order
+abbrev pub IsGrounded : MetaDesc → Type 0
+IsGrounded desc = (c : ℕ) → c < class_count desc → IsSome (lineage_within desc (class_count desc) c)
+
+-- the properties by number
+pub record ArePropsOf (desc : MetaDesc) (props : List Prop) : Type 0 where
+  pub count : length props ≡ prop_count desc
+  pub each : (p : ℕ) (d : Prop) → p < prop_count desc → IsProp desc p (slice_index_or props p d)
+
+-- names with numbers, the first number of each
+abbrev pub Names : Type 0
+Names = List (List ℕ × ℕ)
+
+abbrev pub number_in : Names → List ℕ → Option ℕ
+number_in names name = lookup (same_name name) names
+
+-- the names with one more, unless it stands among them
+abbrev pub with_name : Names → List ℕ → ℕ → Names
+with_name names name number = if is_some (number_in names name) then names else names ++ (name, number) ∷ []
+
+-- the names number the items of the list, each by its first place
+abbrev pub Numbers : {X : Type 0} → (X → List ℕ) → List X → Names → Type 0
+Numbers name_of xs names = (name : List ℕ) → number_in names name ≡ position (λ x. same_name name (name_of x)) xs
+
+abbrev pub place_in : ℕ → ℕ → Place
+place_in c i = record { class = c; index = i }
+
+-- the property at a place
+abbrev pub placed : MetaDesc → Place → ℕ × PropDesc
+placed desc place = (place.class, slice_index_or (class_at desc place.class).props place.index no_prop)
+
+-- there is a property at the place
+abbrev pub IsPlace : MetaDesc → Place → Type 0
+IsPlace desc place = (place.class < class_count desc) × (place.index < length (class_at desc place.class).props)
+
+-- the names of a class's own properties, by their places in it
+abbrev pub OwnNames : MetaDesc → List Names → Type 0
+OwnNames desc own = (length own ≡ class_count desc) × ((c : ℕ) (d : Names) → c < class_count desc → Numbers (λ p. p.name) (class_at desc c).props (slice_index_or own c d))
+
+pub record IsNamed (desc : MetaDesc) (classes enums : Names) (own : List Names) (firsts : List ℕ) (places : List Place) : Type 0 where
+  pub limits : IsTrue (is_within_limits desc)
+  pub classes_are : Numbers (λ c. c.name) desc.classes classes
+  pub enums_are : Numbers (λ e. e.name) desc.enums enums
+  pub own_are : OwnNames desc own
+  pub firsts_are : firsts ≡ table (first_own desc) (class_count desc)
+  pub places_are : map (placed desc) places ≡ declared_props desc
+  pub places_within : All (IsPlace desc) places
+
+-- each class's superclasses, in a table
+abbrev pub AreSupers : MetaDesc → List (List ClassId) → Type 0
+AreSupers desc supers = map class_numbers supers ≡ table (supers_of desc) (class_count desc)
+
+-- a class order, if there is one
+abbrev pub line : {S : Type 0} → Option (IndexSet ℕ S) → Option (List ℕ)
+line order = option_map (λ s. s.keys) order
+
+abbrev pub lines : {S : Type 0} → List (Option (IndexSet ℕ S)) → List (Option (List ℕ))
+lines orders = map line orders
+
+-- the class orders that are found within so many steps
+abbrev pub AreLines : {S : Type 0} → MetaDesc → ℕ → List (Option (IndexSet ℕ S)) → Type 0
+AreLines desc n orders = lines orders ≡ table (lineage_within desc n) (class_count desc)
+
+-- the order of a class among those that were found
+abbrev pub line_at : {S : Type 0} → List (Option (IndexSet ℕ S)) → ℕ → Option (List ℕ)
+line_at orders c = slice_index_or (lines orders) c None
+
+-- what a class's superclasses give: their joint order, and the class behind it
+abbrev pub new_line : {S : Type 0} → MetaDesc → List (Option (IndexSet ℕ S)) → ℕ → Option (List ℕ)
+new_line desc orders c = option_map (λ cs. with_item cs c) (all_joined [] (map (line_at orders) (supers_of desc c)))
+
+-- the same, for a class that has none yet
+abbrev pub later_line : {S : Type 0} → MetaDesc → List (Option (IndexSet ℕ S)) → ℕ → Option (List ℕ)
+later_line desc orders c = if is_some (line_at orders c) then None else new_line desc orders c
+
+-- the classes of a class order; of a class without one the class alone
+abbrev pub lineage_in : {S : Type 0} → Option (IndexSet ℕ S) → ℕ → List ℕ
+lineage_in order c = unwrap_or (line order) (c ∷ [])
+
+pub record IsOrdered {S : Type 0} (desc : MetaDesc) (orders : List (Option (IndexSet ℕ S))) (props : List (List PropId)) : Type 0 where
+  pub lines_are : AreLines desc (class_count desc) orders
+  pub props_are : map prop_numbers props ≡ table (props_of desc) (class_count desc)
+
+-- the classes that the class reaches by one superclass or more
+abbrev pub IsReach : MetaDesc → ℕ → List ℕ → Type 0
+IsReach desc c met = (q : ℕ) → (IsTrue (list_any (nat_eq q) met) → Reaches desc c q) × (Reaches desc c q → IsTrue (list_any (nat_eq q) met))
+
+-- the first class that reaches itself
+pub record IsFirstCircle (desc : MetaDesc) (c : ℕ) : Type 0 where
+  pub within : c < class_count desc
+  pub circular : IsCircular desc c
+  pub first : (d : ℕ) → d < c → IsCircular desc d → ⊥
+
+pub record IsTabled (desc : MetaDesc) (props : List Prop) : Type 0 where
+  pub well : WellMeta desc
+  pub grounded : IsGrounded desc
+  pub props_are : ArePropsOf desc props

@@ -1,0 +1,177 @@
+ghost use Rattle.std.specs.Prelude.{◌≡◌, ◌<◌, ◌↔◌, ◌++◌, All, map, chars, is_some, IsTrue, IfOk, IfSome, OnOk};
+ghost use Rattle.std.specs.List.{flat_map, list_all};
+ghost use Rattle.mof_metamodel.specs.Metamodels.{class_count, prop_count, own_props, own_number, first_found, props_of};
+ghost use Rattle.mof_metamodel.specs.Tables.{prop_numbers, lineage_in, table, AreLines};
+
+use crate::desc::PropId;
+use crate::hierarchy::Hierarchy;
+use crate::lineages::{Line, all_lines};
+use crate::memory::NoMemory;
+use crate::named::Named;
+use crate::seq::Seq;
+use std::alloc::Global;
+use std::marker::Model;
+
+/// A description with its class orders, and the properties of each class in class order. Contracts see it as the description.
+#[derive(Debug, Drop)]
+pub(crate) struct Ordered {
+    hierarchy: Hierarchy,
+    lines: Vec<Line>,
+    orders: Vec<Seq<PropId>>,
+}
+
+impl Model for Ordered {
+    ghost use Rattle.mof_metamodel.specs.declared.desc.MetaDesc.{MetaDesc};
+    ghost use Rattle.mof_metamodel.specs.Tables.{IsOrdered};
+
+    ghost Value = { MetaDesc };
+
+    ghost view = { λ o. o.hierarchy };
+
+    ghost invariant = { λ o. IsOrdered o.hierarchy o.lines.items o.orders.items };
+}
+
+impl Ordered {
+    ghost use Rattle.mof_metamodel.specs.Tables.{IsPropOf, IsGrounded};
+    ghost use Rattle.mof_metamodel.specs.Metamodels.{Conforms, prop_number};
+
+    /// The orders of a description.
+    pub(crate) fn new(alloc: Global, hierarchy: Hierarchy) -> Result<Ordered, NoMemory>
+        ensures { IfOk result (λ o. o ≡ hierarchy) }
+    {
+        let lines = all_lines(alloc, &hierarchy)?;
+        let orders = prop_orders(alloc, hierarchy.named(), lines.as_slice())?;
+        Ok(Ordered {
+            hierarchy,
+            lines,
+            orders,
+        })
+    }
+
+    /// The description with its superclasses.
+    pub(crate) fn hierarchy(&self) -> &Hierarchy
+        ensures { result.now ≡ self.now }
+    {
+        &self.hierarchy
+    }
+
+    /// The description.
+    pub(crate) fn named(&self) -> &Named
+        ensures { result.now ≡ self.now }
+    {
+        self.hierarchy.named()
+    }
+
+    /// The properties of a class in class order.
+    pub(crate) fn props(&self, c: u32) -> &[PropId]
+        requires { c < class_count self.now }
+        ensures numbers { prop_numbers result.now ≡ props_of self.now c }
+        ensures within { All (IsPropOf self.now) result.now }
+    {
+        self.orders[c as usize].as_slice()
+    }
+
+    /// Whether each class has a class order.
+    pub(crate) fn is_grounded(&self) -> bool
+        ensures { IsTrue result → IsGrounded self.now }
+    {
+        all_found(self.lines.as_slice())
+    }
+
+    /// Whether a class is another, or reaches it by superclasses.
+    pub(crate) fn conforms(&self, c: u32, d: u32) -> bool
+        requires class { c < class_count self.now }
+        requires grounded { IsGrounded self.now }
+        ensures { IsTrue result ↔ Conforms self.now c d }
+    {
+        match &self.lines[c as usize] {
+            Some(line) => line.contains(&d),
+            None => false,
+        }
+    }
+
+    /// The property of this name of a class, inherited ones included.
+    pub(crate) fn prop_number(&self, c: u32, name: &str) -> Option<u32>
+        requires class { c < class_count self.now }
+        requires grounded { IsGrounded self.now }
+        ensures number { result ≡ prop_number self.now c (chars name.now) }
+        ensures within { IfSome result (λ p. p < prop_count self.now) }
+    {
+        match &self.lines[c as usize] {
+            Some(line) => first_own_of(self.named(), line.as_slice(), name),
+            None => None,
+        }
+    }
+}
+
+/// Whether each class has an order.
+fn all_found(lines: &[Line]) -> bool
+    ensures { result ≡ list_all (λ o. is_some o) lines.now }
+{
+    lines.iter().all(|line| line.is_some())
+}
+
+/// The first property of this name that one of the classes owns.
+fn first_own_of(named: &Named, classes: &[u32], name: &str) -> Option<u32>
+    requires { All (λ a. a < class_count named.now) classes.now }
+    ensures number { result ≡ first_found (λ a. own_number named.now a (chars name.now)) classes.now }
+    ensures within { IfSome result (λ p. p < prop_count named.now) }
+{
+    for a in classes {
+        let found = named.own_number(*a, name);
+        if found.is_some() {
+            return found;
+        }
+    }
+    None
+}
+
+/// Adds the properties that a class owns.
+fn add_own(order: &mut Seq<PropId>, named: &Named, c: u32) -> Result<(), NoMemory>
+    requires { c < class_count named.now }
+    ensures { OnOk result (prop_numbers order.new ≡ prop_numbers order.old ++ own_props named.now c) }
+{
+    let first = named.first_own(c);
+    let count = named.class(c).props.len() as u32;
+    for p in first..first + count {
+        order.push(PropId(p))?;
+    }
+    Ok(())
+}
+
+/// The properties of the classes of a class order.
+fn props_in(alloc: Global, named: &Named, classes: &[u32]) -> Result<Seq<PropId>, NoMemory>
+    requires { All (λ c. c < class_count named.now) classes.now }
+    ensures { IfOk result (λ order. prop_numbers order ≡ flat_map (own_props named.now) classes.now) }
+{
+    let mut order = Seq::new(alloc);
+    for c in classes {
+        add_own(&mut order, named, *c)?;
+    }
+    Ok(order)
+}
+
+/// The properties of a class in class order. A class without a class order has its own alone.
+fn prop_order(alloc: Global, named: &Named, line: &Line, c: u32) -> Result<Seq<PropId>, NoMemory>
+    requires class { c < class_count named.now }
+    requires within { All (λ a. a < class_count named.now) (lineage_in line.now c) }
+    ensures { IfOk result (λ order. prop_numbers order ≡ flat_map (own_props named.now) (lineage_in line.now c)) }
+{
+    match line {
+        Some(classes) => props_in(alloc, named, classes.as_slice()),
+        None => props_in(alloc, named, &[c]),
+    }
+}
+
+/// The properties of each class in class order.
+fn prop_orders(alloc: Global, named: &Named, lines: &[Line]) -> Result<Vec<Seq<PropId>>, NoMemory>
+    requires { AreLines named.now (class_count named.now) lines.now }
+    ensures { IfOk result (λ orders. map prop_numbers orders.items ≡ table (props_of named.now) (class_count named.now)) }
+{
+    let mut orders = Vec::new(alloc);
+    for c in 0..named.class_count() {
+        let order = prop_order(alloc, named, &lines[c as usize], c)?;
+        orders.push(order)?;
+    }
+    Ok(orders)
+}
