@@ -1,5 +1,5 @@
 -- Lemmas on one changed element of a list.
-use Rattle.std.proofs.Common.{◌≡◌, ◌≢◌, ℕ, ◌+◌, ◌<◌, ◌≤◌, zero, suc, List, [], ◌∷◌, ◌++◌, length, get_or, set, map, refl, ap, sym, ◌∙◌, arith, subst, Bool, true, false, cond, filter}
+use Rattle.std.proofs.Common.{◌≡◌, ◌≢◌, ℕ, ◌+◌, ◌<◌, ◌≤◌, zero, suc, List, [], ◌∷◌, length, get_or, set, map, refl, ap, sym, ◌∙◌, arith, subst, Bool, true, false, cond, filter}
 use Rattle.std.specs.Prelude.{count_by, Contains, OnOk, Result, Ok, Err}
 use Rattle.std.proofs.lemmas.List.{length-map, get_or-map}
 use Rattle.std.proofs.lemmas.List.Sums.{sum_by-cons}
@@ -110,7 +110,7 @@ count_by-update_at p (x ∷ xs) (suc n) f h =
 pub Contains-filter : {X : Type 0} (p : X → Bool) (xs : List X) (x : X) → Contains (filter p xs) x → Contains xs x
 Contains-filter p [] x c = c
 Contains-filter p (y ∷ ys) x c = by_test (λ d. Contains-filter p ys x d) (p y) c where
-    by_test : (Contains (filter p ys) x → Contains ys x) → (b : Bool) → Contains (cond b (y ∷ filter p ys) (filter p ys)) x → Contains (y ∷ ys) x
-    by_test rest true (zero, l, e) = (0, omega arith, e)
-    by_test rest true (suc k, l, e) = Contains-cons y ys x (rest (k, omega arith, e))
-    by_test rest false d = Contains-cons y ys x (rest d)
+  by_test : (Contains (filter p ys) x → Contains ys x) → (b : Bool) → Contains (cond b (y ∷ filter p ys) (filter p ys)) x → Contains (y ∷ ys) x
+  by_test rest true (zero, l, e) = (0, omega arith, e)
+  by_test rest true (suc k, l, e) = Contains-cons y ys x (rest (k, omega arith, e))
+  by_test rest false d = Contains-cons y ys x (rest d)

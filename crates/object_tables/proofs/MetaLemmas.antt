@@ -1,6 +1,6 @@
 -- What a well-formed metamodel says of properties and their opposites.
-use Rattle.std.proofs.Common.{◌≡◌, ◌≢◌, ℕ, ◌+◌, ◌<◌, ◌≤◌, zero, suc, List, [], ◌∷◌, ◌++◌, length, get_or, map, take, refl, ap, sym, ◌∙◌, arith, subst, Option, Some, None, Bool, true, false, cond, inl, inr, not, eq-eqb}
-use Rattle.std.specs.Prelude.{Contains, sum_by, ◌==◌, ◌&&◌, nat_lt}
+use Rattle.std.proofs.Common.{◌≡◌, ◌≢◌, ℕ, ◌+◌, ◌<◌, ◌≤◌, zero, suc, List, [], ◌∷◌, length, get_or, map, take, refl, ap, sym, ◌∙◌, arith, Option, Some, None, Bool, true, false, inl, inr, not, eq-eqb}
+use Rattle.std.specs.Prelude.{Contains, sum_by, ◌==◌, ◌&&◌}
 use Rattle.std.specs.List.{flat_map, range_with_len}
 use Rattle.std.specs.Option.{option_or}
 use Rattle.std.proofs.lemmas.Bool.{eqb-true, cases_eq, cases_lt}
@@ -9,8 +9,7 @@ use Rattle.std.proofs.lemmas.List.Sums.{sum_by_more, sum_by-take-le, sum_by-cons
 use Rattle.std.proofs.lemmas.List.Elements.{Contains-append_cases}
 use Rattle.mof_metamodel.specs.declared.desc.MetaDesc.{MetaDesc}
 use Rattle.mof_metamodel.specs.declared.desc.ClassDesc.{ClassDesc}
-use Rattle.mof_metamodel.specs.declared.desc.PropDesc.{PropDesc}
-use Rattle.mof_metamodel.specs.Metamodels.{class_count, props_of, own_props, prop_count, no_class, declared_from, lineage_of, opposite_of, prop_at, type_of, owner_of}
+use Rattle.mof_metamodel.specs.Metamodels.{props_of, own_props, prop_count, no_class, declared_from, lineage_of, opposite_of, type_of, owner_of}
 use Rattle.mof_metamodel.specs.MetaFaults.{WellMeta, first_of, unless, agree, is_number, is_class, prop_name}
 
 -- ---- properties of a class are properties
@@ -22,8 +21,9 @@ range-below a (suc n) p (suc k, l, e) = let h = range-below (a + 1) n p (k, omeg
 
 own-fits : (cs : List ClassDesc) (c : ℕ) → sum_by (λ d. length d.props) (take c cs) + length (get_or cs c no_class).props ≤ sum_by (λ d. length d.props) cs
 own-fits cs c = elim (cases_lt c (length cs)) [
-      inl l ↦ (let m = sum_by_more (λ d. length d.props) cs c no_class l in let t = sum_by-take-le (λ d. length d.props) cs (c + 1) in omega arith)
-    | inr le ↦ (let e : length (get_or cs c no_class).props ≡ 0 = ap (λ d. length d.props) (get_or_past cs c no_class le) in let t = sum_by-take-le (λ d. length d.props) cs c in omega arith) ]
+  | inl l ↦ (let m = sum_by_more (λ d. length d.props) cs c no_class l in let t = sum_by-take-le (λ d. length d.props) cs (c + 1) in omega arith)
+  | inr le ↦ (let e : length (get_or cs c no_class).props ≡ 0 = ap (λ d. length d.props) (get_or_past cs c no_class le) in let t = sum_by-take-le (λ d. length d.props) cs c in omega arith)
+]
 
 length-declared : (k : ℕ) (cs : List ClassDesc) → length (declared_from k cs) ≡ sum_by (λ d. length d.props) cs
 length-declared k [] = refl
@@ -36,8 +36,9 @@ length-declared k (x ∷ xs) =
 from_flat_map : {X Y : Type 0} (f : X → List Y) (xs : List X) (y : Y) → Contains (flat_map f xs) y → (x : X) × Contains (f x) y
 from_flat_map f [] y (k, l, e) = absurd (omega arith)
 from_flat_map f (x ∷ xs) y c = elim (Contains-append_cases (f x) (flat_map f xs) y c) [
-      inl a ↦ (x, a)
-    | inr b ↦ from_flat_map f xs y b ]
+  | inl a ↦ (x, a)
+  | inr b ↦ from_flat_map f xs y b
+]
 
 pub prop_known : (desc : MetaDesc) (c p : ℕ) → Contains (props_of desc c) p → p < prop_count desc
 prop_known desc c p h =
@@ -60,8 +61,9 @@ none_second (Some x) y h = absurd cc
 first_of-none : (f : ℕ → Option (List ℕ)) (a n p : ℕ) → first_of f (range_with_len a n) ≡ None → a ≤ p → p < a + n → f p ≡ None
 first_of-none f a zero p h le l = absurd (omega arith)
 first_of-none f a (suc n) p h le l = elim (cases_eq a p) [
-      inl e ↦ ap f (sym e) ∙ none_first (f a) (first_of f (range_with_len (a + 1) n)) h
-    | inr ne ↦ first_of-none f (a + 1) n p (none_second (f a) (first_of f (range_with_len (a + 1) n)) h) (omega arith) (omega arith) ]
+  | inl e ↦ ap f (sym e) ∙ none_first (f a) (first_of f (range_with_len (a + 1) n)) h
+  | inr ne ↦ first_of-none f (a + 1) n p (none_second (f a) (first_of f (range_with_len (a + 1) n)) h) (omega arith) (omega arith)
+]
 
 unless-none : (b : Bool) (name : List ℕ) → unless b name ≡ None → b ≡ true
 unless-none true name h = refl

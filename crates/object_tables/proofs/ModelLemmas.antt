@@ -1,26 +1,27 @@
 -- What a model shows of its tables.
-use Rattle.std.proofs.Common.{◌≡◌, ◌≢◌, ℕ, ◌+◌, ◌<◌, ◌≤◌, ◌^◌, zero, suc, List, [], ◌∷◌, ◌++◌, length, get_or, map, drop, refl, ap, sym, ◌∙◌, arith, subst, Option, Some, None, Bool, true, false, cond, inl, inr, rules}
-use Rattle.std.specs.Prelude.{Contains, option_map, encode_utf8_all, chars, is_some, ◌==◌, IsSome}
+use Rattle.std.proofs.Common.{◌≡◌, ◌≢◌, ℕ, ◌+◌, ◌<◌, ◌^◌, zero, suc, List, [], ◌∷◌, length, get_or, map, drop, refl, ap, sym, ◌∙◌, arith, subst, Option, Some, None, Bool, true, false, cond, inl, inr, rules}
+use Rattle.std.specs.Prelude.{Contains, option_map, encode_utf8_all, chars, ◌==◌, IsSome}
 use Rattle.std.specs.Str.{IsUtf8}
-use Rattle.std.proofs.lemmas.Str.{encodes-chars, encodes_same, chars_from_encodes}
-use Rattle.std.proofs.lemmas.Bool.{cases_lt, cases_eq, eqb-true, ne_eqb}
+use Rattle.std.proofs.lemmas.Str.{encodes-chars, encodes_same}
+use Rattle.std.proofs.lemmas.Bool.{cases_lt, eqb-true}
 use Rattle.std.proofs.Common.{eq-eqb}
 use Rattle.std.proofs.lemmas.List.{get_or-map, get_or_past, length-map, get_or-drop}
 use Rattle.mof_metamodel.specs.declared.desc.MetaDesc.{MetaDesc}
 use Rattle.mof_metamodel.specs.Metamodels.{class_count, props_of}
 use Rattle.object_tables.specs.declared.tables.Named.{Named}
 use Rattle.object_tables.specs.Rows.{Row, Place, row_at, place_at, joined_at, no_row, no_place}
-use Rattle.object_tables.specs.Objects.{Object, Slot, object_of, object_from, slot_of}
-use Rattle.object_tables.specs.Models.{ModelData, object_at, class_at, id_at, slot_in, no_slot, index_of, slot_number, values_at, partners_at}
-use Rattle.object_tables.specs.Tied.{near, far, named_in, class_in, IsShaped, IsTied, IsFarEnd}
+use Rattle.object_tables.specs.Objects.{Object, object_of, object_from, slot_of}
+use Rattle.object_tables.specs.Models.{ModelData, object_at, class_at, id_at, slot_in, index_of, slot_number, values_at, partners_at}
+use Rattle.object_tables.specs.Tied.{near, named_in, class_in, IsTied}
 
 abbrev pub seen : MetaDesc → List Row → ModelData
 seen meta rows = record { meta = meta; objects = map object_of rows }
 
 pub object_seen : (rows : List Row) (o : ℕ) → get_or (map object_of rows) o None ≡ object_of (row_at rows o)
 object_seen rows o = elim (cases_lt o (length rows)) [
-      inl l ↦ get_or-map object_of rows o no_row None l
-    | inr le ↦ get_or_past (map object_of rows) o None (let e = length-map rows object_of in omega arith) ∙ ap object_of (sym (get_or_past rows o no_row le)) ]
+  | inl l ↦ get_or-map object_of rows o no_row None l
+  | inr le ↦ get_or_past (map object_of rows) o None (let e = length-map rows object_of in omega arith) ∙ ap object_of (sym (get_or_past rows o no_row le))
+]
 
 class_from : (named : Option Named) (ps : List Place) → option_map (λ ob. ob.class) (object_from named ps) ≡ option_map (λ n. n.class) named
 class_from None ps = refl
@@ -46,14 +47,15 @@ pub record IsPlaced (meta : MetaDesc) (rows : List Row) (o c : ℕ) : Type 0 whe
 
 named_below : (rows : List Row) (o : ℕ) (n : Named) → named_in rows o ≡ Some n → o < length rows
 named_below rows o n e = elim (cases_lt o (length rows)) [
-      inl l ↦ l
-    | inr le ↦ (let h : named_in rows o ≡ None = ap (λ r. r.named) (get_or_past rows o no_row le) in cc) ]
+  | inl l ↦ l
+  | inr le ↦ (let h : named_in rows o ≡ None = ap (λ r. r.named) (get_or_past rows o no_row le) in cc)
+]
 
 pub class_named : (rows : List Row) (o c : ℕ) → class_in rows o ≡ Some c → (n : Named) × (named_in rows o ≡ Some n) × (n.class ≡ c)
 class_named rows o c e = of_option (named_in rows o) e where
-    of_option : (x : Option Named) → option_map (λ n. n.class) x ≡ Some c → (n : Named) × (x ≡ Some n) × (n.class ≡ c)
-    of_option None h = absurd cc
-    of_option (Some n) h = (n, refl, cc)
+  of_option : (x : Option Named) → option_map (λ n. n.class) x ≡ Some c → (n : Named) × (x ≡ Some n) × (n.class ≡ c)
+  of_option None h = absurd cc
+  of_option (Some n) h = (n, refl, cc)
 
 pub placed : (meta : MetaDesc) (rows : List Row) (number : List ℕ → Option ℕ) (live o c : ℕ) → IsTied meta rows number live → class_in rows o ≡ Some c → IsPlaced meta rows o c
 placed meta rows number live o c t e =
@@ -79,9 +81,9 @@ rest_has q p qs h (suc k, l, e) = (k, omega arith, e)
 pub index-within : (props : List ℕ) (p : ℕ) → Contains props p → index_of props p < length props
 index-within [] p (k, l, e) = absurd (omega arith)
 index-within (q ∷ qs) p c = by_test (λ d. index-within qs p d) (q == p) refl where
-    by_test : (Contains qs p → index_of qs p < length qs) → (b : Bool) → (q == p) ≡ b → cond b 0 (suc (index_of qs p)) < suc (length qs)
-    by_test rest true h = omega arith
-    by_test rest false h = let i = rest (rest_has q p qs h c) in omega arith
+  by_test : (Contains qs p → index_of qs p < length qs) → (b : Bool) → (q == p) ≡ b → cond b 0 (suc (index_of qs p)) < suc (length qs)
+  by_test rest true h = omega arith
+  by_test rest false h = let i = rest (rest_has q p qs h c) in omega arith
 
 get_or-map_default : {X Y : Type 0} (f : X → Y) (xs : List X) (i : ℕ) (d : X) → get_or (map f xs) i (f d) ≡ f (get_or xs i d)
 get_or-map_default f [] i d = refl
@@ -113,22 +115,22 @@ pub id_found : (meta : MetaDesc) (rows : List Row) (number : List ℕ → Option
     → number bytes ≡ Some o → id_at v o ≡ Some (chars bytes)
 id_found meta rows number live o v bytes t e u h =
     ap (λ x. id_at x o) (sym e) ∙ id_seen meta rows o ∙ of_option (named_in rows o) (t.named bytes o h) where
-    of_option : (x : Option Named) → option_map (λ n. encode_utf8_all n.id) x ≡ Some bytes → option_map (λ n. n.id) x ≡ Some (chars bytes)
-    of_option None h = absurd cc
-    of_option (Some n) h =
-        let w : encode_utf8_all n.id ≡ bytes = cc in
-        ap Some (encodes_same n.id (chars bytes) (w ∙ sym (encodes-chars bytes u)))
+      of_option : (x : Option Named) → option_map (λ n. encode_utf8_all n.id) x ≡ Some bytes → option_map (λ n. n.id) x ≡ Some (chars bytes)
+      of_option None h = absurd cc
+      of_option (Some n) h =
+          let w : encode_utf8_all n.id ≡ bytes = cc in
+          ap Some (encodes_same n.id (chars bytes) (w ∙ sym (encodes-chars bytes u)))
 
 pub id_absent : (meta : MetaDesc) (rows : List Row) (number : List ℕ → Option ℕ) (live o : ℕ) (v : ModelData) (bytes : List ℕ) → IsTied meta rows number live → seen meta rows ≡ v → IsUtf8 bytes
     → number bytes ≡ None → id_at v o ≢ Some (chars bytes)
 id_absent meta rows number live o v bytes t e u h g =
     of_option (named_in rows o) refl (sym (ap (λ x. id_at x o) (sym e) ∙ id_seen meta rows o) ∙ g) where
-    of_option : (x : Option Named) → named_in rows o ≡ x → option_map (λ n. n.id) x ≡ Some (chars bytes) → ⊥
-    of_option None en h' = absurd cc
-    of_option (Some n) en h' =
-        let w : n.id ≡ chars bytes = cc in
-        let z : number bytes ≡ Some o = sym (ap number (ap encode_utf8_all w ∙ encodes-chars bytes u)) ∙ t.numbered o n en in
-        absurd cc
+      of_option : (x : Option Named) → named_in rows o ≡ x → option_map (λ n. n.id) x ≡ Some (chars bytes) → ⊥
+      of_option None en h' = absurd cc
+      of_option (Some n) en h' =
+          let w : n.id ≡ chars bytes = cc in
+          let z : number bytes ≡ Some o = sym (ap number (ap encode_utf8_all w ∙ encodes-chars bytes u)) ∙ t.numbered o n en in
+          absurd cc
 
 pub near-within : (meta : MetaDesc) (rows : List Row) (o c p : ℕ) → IsPlaced meta rows o c → Contains (props_of meta c) p → near meta c p < length (row_at rows o).places
 near-within meta rows o c p s h = let i = index-within (props_of meta c) p h in let e = s.places in omega arith
@@ -143,9 +145,9 @@ has_seen meta rows v o p c k e h g d =
 pub index-found : (props : List ℕ) (p d : ℕ) → index_of props p < length props → get_or props (index_of props p) d ≡ p
 index-found [] p d l = absurd (omega arith)
 index-found (q ∷ qs) p d l = by_test (λ h. index-found qs p d h) (q == p) refl l where
-    by_test : (index_of qs p < length qs → get_or qs (index_of qs p) d ≡ p) → (b : Bool) → (q == p) ≡ b → cond b 0 (suc (index_of qs p)) < suc (length qs) → get_or (q ∷ qs) (cond b 0 (suc (index_of qs p))) d ≡ p
-    by_test rest true h l = eqb-true q p h
-    by_test rest false h l = rest (omega arith)
+  by_test : (index_of qs p < length qs → get_or qs (index_of qs p) d ≡ p) → (b : Bool) → (q == p) ≡ b → cond b 0 (suc (index_of qs p)) < suc (length qs) → get_or (q ∷ qs) (cond b 0 (suc (index_of qs p))) d ≡ p
+  by_test rest true h l = eqb-true q p h
+  by_test rest false h l = rest (omega arith)
 
 -- two numbers with one place are one
 pub index-same : (props : List ℕ) (p q : ℕ) → index_of props p < length props → index_of props q < length props → index_of props p ≡ index_of props q → p ≡ q
@@ -153,9 +155,9 @@ index-same props p q l m e = sym (index-found props p 0 l) ∙ ap (λ i. get_or 
 
 pub live_class : (v : ModelData) (o : ℕ) → IsSome (object_at v o) → (c : ℕ) × (class_at v o ≡ Some c)
 live_class v o h = of_option (object_at v o) h where
-    of_option : (x : Option Object) → IsSome x → (c : ℕ) × (option_map (λ ob. ob.class) x ≡ Some c)
-    of_option None g = absurd (search rules)
-    of_option (Some ob) g = (ob.class, refl)
+  of_option : (x : Option Object) → IsSome x → (c : ℕ) × (option_map (λ ob. ob.class) x ≡ Some c)
+  of_option None g = absurd (search rules)
+  of_option (Some ob) g = (ob.class, refl)
 
 pub class_of_rows : (meta : MetaDesc) (rows : List Row) (v : ModelData) (o c : ℕ) → seen meta rows ≡ v → class_at v o ≡ Some c → class_in rows o ≡ Some c
 class_of_rows meta rows v o c e h = sym (class_seen meta rows o) ∙ ap (λ x. class_at x o) e ∙ h
@@ -165,6 +167,6 @@ same_class v o c k h g = cc
 
 pub live_from_class : (v : ModelData) (o c : ℕ) → class_at v o ≡ Some c → IsSome (object_at v o)
 live_from_class v o c h = of_option (object_at v o) h where
-    of_option : (x : Option Object) → option_map (λ ob. ob.class) x ≡ Some c → IsSome x
-    of_option None g = absurd cc
-    of_option (Some ob) g = search rules
+  of_option : (x : Option Object) → option_map (λ ob. ob.class) x ≡ Some c → IsSome x
+  of_option None g = absurd cc
+  of_option (Some ob) g = search rules

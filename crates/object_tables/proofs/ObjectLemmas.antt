@@ -1,8 +1,8 @@
 -- What a change of a row's place does to the objects.
-use Rattle.std.proofs.Common.{◌≡◌, ◌≢◌, ℕ, ◌+◌, ◌<◌, ◌≤◌, zero, suc, List, [], ◌∷◌, ◌++◌, length, get_or, map, drop, refl, ap, sym, ◌∙◌, arith, Option, Some, None}
+use Rattle.std.proofs.Common.{◌≡◌, ℕ, ◌<◌, zero, suc, List, [], ◌∷◌, map, drop, refl, ap, ◌∙◌, arith, Option, Some, None}
 use Rattle.object_tables.specs.Lists.{update_at}
 use Rattle.object_tables.specs.Rows.{Place, Row, with_place}
-use Rattle.object_tables.specs.Objects.{Slot, Object, slot_of, object_of, object_from, with_slots, with_slot}
+use Rattle.object_tables.specs.Objects.{Slot, slot_of, object_of, object_from, with_slots, with_slot}
 use Rattle.object_tables.specs.declared.tables.Named.{Named}
 use Rattle.object_tables.proofs.ListLemmas.{map-update_at, update_at_id}
 

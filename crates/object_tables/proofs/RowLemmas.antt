@@ -1,7 +1,7 @@
 -- How rows are read from flat tables, and what a change of one flat place does to them.
-use Rattle.std.proofs.Common.{◌≡◌, ◌≢◌, ℕ, ◌+◌, ◌<◌, ◌≤◌, zero, suc, List, [], ◌∷◌, ◌++◌, length, get_or, set, map, replicate, refl, ap, sym, ◌∙◌, arith, subst}
+use Rattle.std.proofs.Common.{◌≡◌, ◌≢◌, ℕ, ◌+◌, ◌<◌, zero, suc, List, [], ◌∷◌, length, get_or, map, replicate, refl, ap, sym, ◌∙◌, arith}
 use Rattle.object_tables.specs.Lists.{update_at}
-use Rattle.object_tables.specs.Rows.{Place, Row, no_place, no_row, with_place, with_places}
+use Rattle.object_tables.specs.Rows.{Place, with_place, with_places}
 use Rattle.object_tables.specs.Flat.{block, row_of, entry_at}
 use Rattle.object_tables.specs.declared.tables.Entry.{Entry}
 
@@ -34,8 +34,8 @@ block_update p q f (suc n) (suc k) g l hit miss =
     let ek : suc f + k ≡ f + suc k = omega arith in
     let first : q f ≡ p f = ap q e0 ∙ miss 0 (omega arith) (λ z. absurd (omega arith)) ∙ ap p (sym e0) in
     let rest : block q (suc f) n ≡ update_at (block p (suc f) n) k g =
-        block_update p q (suc f) n k g (omega arith) (ap q ek ∙ hit ∙ ap (λ x. g (p x)) (sym ek))
-            (λ j m ne. let e : suc f + j ≡ f + suc j = omega arith in ap q e ∙ miss (suc j) (omega arith) (λ z. ne (omega arith)) ∙ ap p (sym e)) in
+    block_update p q (suc f) n k g (omega arith) (ap q ek ∙ hit ∙ ap (λ x. g (p x)) (sym ek))
+    (λ j m ne. let e : suc f + j ≡ f + suc j = omega arith in ap q e ∙ miss (suc j) (omega arith) (λ z. ne (omega arith)) ∙ ap p (sym e)) in
     cc
 
 pub rows_same : (p q : ℕ → Place) (entries : List Entry)

@@ -1,6 +1,6 @@
 -- A model as its contracts see it: a metamodel's description and objects by their numbers (MOF 2.5.1, Reflection; links between
 -- objects are pairs of an association, which is a reference without an opposite, or a reference and its opposite).
-use Rattle.std.specs.Prelude.{◌≤◌, ◌⊎◌, ◌&&◌, nat_lt, All, AllPairs, count_by, is_some, ◌≡◌, ◌≢◌, ℕ, zero, suc, ◌==◌, ◌<◌, Bool, true, false, not, if◌then◌else◌, List, [], ◌∷◌, ◌++◌, map, filter, length, replicate, Option, None, Some, IsSome, option_map, slice_index_or, Contains, IsTrue, IsNone}
+use Rattle.std.specs.Prelude.{◌≤◌, ◌⊎◌, ◌&&◌, nat_lt, All, AllPairs, count_by, is_some, ◌≡◌, ◌≢◌, ℕ, suc, ◌==◌, Bool, true, false, not, if◌then◌else◌, List, [], ◌∷◌, ◌++◌, map, filter, length, replicate, Option, None, Some, IsSome, option_map, slice_index_or, Contains, IsTrue}
 use Rattle.mof_metamodel.specs.declared.desc.MetaDesc.{MetaDesc}
 use Rattle.mof_metamodel.specs.declared.desc.PropType.{PropType}
 use Rattle.mof_metamodel.specs.declared.desc.PropType.TheVariants as types

@@ -1,5 +1,5 @@
 -- What a model is seen as: for each number of an object the object, or nothing where it is gone.
-use Rattle.std.specs.Prelude.{ℕ, List, [], ◌∷◌, map, drop, Option, None, Some, option_map}
+use Rattle.std.specs.Prelude.{ℕ, List, map, drop, Option, None, Some}
 use Rattle.object_tables.specs.declared.value.Value.{Value}
 use Rattle.object_tables.specs.declared.tables.Named.{Named}
 use Rattle.object_tables.specs.Lists.{update_at}

@@ -1,6 +1,6 @@
 -- How the tables of a model are tied to its metamodel. The first two places of an object are the far ends of references without
 -- an opposite, the first of composite ones and the second of others; then one place for each property of its class follows.
-use Rattle.std.specs.Prelude.{◌≡◌, ◌≢◌, ℕ, suc, ◌+◌, ◌<◌, ◌≤◌, ◌^◌, Bool, true, false, if◌then◌else◌, nat_lt, List, map, length, count_by, Option, None, Some, is_some, option_map, encode_utf8_all, Contains}
+use Rattle.std.specs.Prelude.{◌≡◌, ℕ, suc, ◌<◌, ◌≤◌, ◌^◌, false, if◌then◌else◌, nat_lt, List, length, count_by, Option, None, Some, is_some, option_map, encode_utf8_all, Contains}
 use Rattle.mof_metamodel.specs.declared.desc.MetaDesc.{MetaDesc}
 use Rattle.mof_metamodel.specs.Metamodels.{class_count, class_at, props_of, prop_at, opposite_of}
 use Rattle.mof_metamodel.specs.MetaFaults.{WellMeta}
@@ -59,7 +59,7 @@ pub record IsTied (meta : MetaDesc) (rows : List Row) (number : List ℕ → Opt
   pub count : live ≡ count_by (λ r. is_some r.named) rows
   pub shaped : (o : ℕ) (n : Named) → named_in rows o ≡ Some n → IsShaped meta (row_at rows o) n
   pub far_ends : (o c p : ℕ) (e : ℕ × ℕ) → class_in rows o ≡ Some c → Contains (props_of meta c) p
-    → Contains (joined_at rows o (near meta c p)) e → IsFarEnd meta rows p e
+      → Contains (joined_at rows o (near meta c p)) e → IsFarEnd meta rows p e
   pub near_ends : (o c k : ℕ) (e : ℕ × ℕ) → class_in rows o ≡ Some c → k < 2 → Contains (joined_at rows o k) e → IsNearEnd meta rows c k e
   pub numbered : (o : ℕ) (n : Named) → named_in rows o ≡ Some n → number (encode_utf8_all n.id) ≡ Some o
   pub named : (bytes : List ℕ) (o : ℕ) → number bytes ≡ Some o → option_map (λ n. encode_utf8_all n.id) (named_in rows o) ≡ Some bytes

@@ -5,7 +5,7 @@ use Rattle.object_tables.proofs.tables.push_homes.Given as goal
 
 abbrev pub invariant-loop-place : goal.invariant-loop-place
 invariant-loop-place l = record {
-    items : l.homes.items ≡ l.initial.homes.items ++ fresh_homes l.object l.place;
-    len : vec_len l.homes ≡ vec_len l.initial.homes + l.place;
-    room : vec_capacity l.homes ≡ vec_capacity l.initial.homes
-  }
+  items : l.homes.items ≡ l.initial.homes.items ++ fresh_homes l.object l.place;
+  len : vec_len l.homes ≡ vec_len l.initial.homes + l.place;
+  room : vec_capacity l.homes ≡ vec_capacity l.initial.homes;
+}

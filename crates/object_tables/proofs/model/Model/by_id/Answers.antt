@@ -1,4 +1,4 @@
-use Rattle.std.proofs.Common.{sym, ◌∙◌, ap}
+use Rattle.std.proofs.Common.{sym}
 use Rattle.object_tables.proofs.ModelLemmas.{id_found, id_absent}
 use Rattle.object_tables.proofs.model.Model.by_id.Goals as goal
 

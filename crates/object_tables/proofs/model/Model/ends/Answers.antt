@@ -1,4 +1,3 @@
-use Rattle.std.proofs.Common.{sym, ◌∙◌, ap, ◌≡◌}
 use Rattle.object_tables.proofs.ModelLemmas.{placed_seen, has_seen}
 use Rattle.object_tables.proofs.MetaLemmas.{prop_known}
 use Rattle.object_tables.proofs.model.Model.ends.Goals as goal

@@ -11,6 +11,7 @@ is_joined-requires-clause-second_place c =
 
 pub returns : goal.returns
 returns c =
-    let s = pair_of _ _ _ _ _ _ _ _ _ _ c.self.invariant c.self.view_is c.requires.reference c.requires.live c.ends-near.ensures.near c.ends-near.ensures.far in
-    ((λ h. pair-linked _ _ _ _ _ _ _ _ c.self.view_is s (c.is_joined.ensures.0 h)),
-     (λ h. c.is_joined.ensures.1 (pair-joined _ _ _ _ _ _ _ _ _ _ c.self.invariant c.self.view_is s h)))
+    let s = pair_of _ _ _ _ _ _ _ _ _ _ c.self.invariant c.self.view_is c.requires.reference c.requires.live c.ends-near.ensures.near c.ends-near.ensures.far in (
+      (λ h. pair-linked _ _ _ _ _ _ _ _ c.self.view_is s (c.is_joined.ensures.0 h)),
+      (λ h. c.is_joined.ensures.1 (pair-joined _ _ _ _ _ _ _ _ _ _ c.self.invariant c.self.view_is s h)),
+    )

@@ -1,4 +1,4 @@
-use Rattle.std.proofs.Common.{sym, ◌∙◌, ap, ◌≡◌}
+use Rattle.std.proofs.Common.{sym, ◌∙◌, ap}
 use Rattle.object_tables.specs.Rows.{joined_at}
 use Rattle.object_tables.specs.Ids.{object_ids}
 use Rattle.std.specs.Prelude.{map}
@@ -14,8 +14,8 @@ near_place-place-requires-clause-small c = (placed_seen _ _ _ _ _ _ _ c.self.inv
 pub joined-requires-clause-place : goal.joined-requires-clause-place
 joined-requires-clause-place c =
     rw c.near_place-place.ensures
-        (near-within _ _ _ _ _ (placed_seen _ _ _ _ _ _ _ c.self.invariant c.self.view_is c.class_of.ensures)
-            (has_seen _ _ _ _ _ _ _ c.self.view_is c.class_of.ensures c.requires.class_is c.requires.has))
+    (near-within _ _ _ _ _ (placed_seen _ _ _ _ _ _ _ c.self.invariant c.self.view_is c.class_of.ensures)
+    (has_seen _ _ _ _ _ _ _ c.self.view_is c.class_of.ensures c.requires.class_is c.requires.has))
 
 pub returns : goal.returns
 returns c =

@@ -1,4 +1,3 @@
-use Rattle.std.proofs.Common.{sym, ◌∙◌, ap, ◌≡◌}
 use Rattle.object_tables.proofs.AddLemmas.{tied-values, seen-values}
 use Rattle.object_tables.proofs.ModelLemmas.{placed_seen, near-within, has_seen, class_of_rows}
 use Rattle.object_tables.proofs.model.Model.set_attr.Goals as goal
@@ -12,8 +11,8 @@ near_place-place-requires-clause-small c = (placed_seen _ _ _ _ _ _ _ c.self.inv
 pub set_values-requires-clause-place : goal.set_values-requires-clause-place
 set_values-requires-clause-place c =
     rw c.near_place-place.ensures
-        (near-within _ _ _ _ _ (placed_seen _ _ _ _ _ _ _ c.self.invariant c.self.view_is c.class_of.ensures)
-            (has_seen _ _ _ _ _ _ _ c.self.view_is c.class_of.ensures c.requires.attribute.class_is c.requires.attribute.has))
+    (near-within _ _ _ _ _ (placed_seen _ _ _ _ _ _ _ c.self.invariant c.self.view_is c.class_of.ensures)
+    (has_seen _ _ _ _ _ _ _ c.self.view_is c.class_of.ensures c.requires.attribute.class_is c.requires.attribute.has))
 
 pub invariant_of-self : goal.invariant_of-self
 invariant_of-self c = tied-values _ _ _ _ _ _ _ _ c.self.invariant c.set_values.ensures

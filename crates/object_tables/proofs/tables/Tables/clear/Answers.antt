@@ -1,5 +1,5 @@
-use Rattle.std.proofs.Common.{◌≡◌, ◌<◌, arith, sym, ◌∙◌, ap, length}
-use Rattle.object_tables.specs.Rows.{row_at, cleared_upto}
+use Rattle.std.proofs.Common.{arith, ap, length}
+use Rattle.object_tables.specs.Rows.{row_at}
 use Rattle.object_tables.proofs.DeleteLemmas.{alike-cleared}
 use Rattle.object_tables.proofs.tables.Tables.clear.Goals as goal
 

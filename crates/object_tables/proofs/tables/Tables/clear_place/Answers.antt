@@ -1,6 +1,6 @@
-use Rattle.std.proofs.Common.{arith, sym, ◌∙◌, ap, ◌≡◌, ◌<◌, length}
+use Rattle.std.proofs.Common.{◌∙◌, ap}
 use Rattle.object_tables.specs.Lists.{update_at}
-use Rattle.object_tables.specs.Flat.{IsSpot, end_at}
+use Rattle.object_tables.specs.Flat.{end_at}
 use Rattle.object_tables.proofs.FlatLemmas.{spot_of, end_small, end_placed, rows-cleared_at, flat-cleared}
 use Rattle.object_tables.proofs.tables.Tables.clear_place.Goals as goal
 
@@ -19,5 +19,5 @@ invariant_of-self c = flat-cleared _ _ _ _ _ _ c.self.invariant c.part_all.ensur
 pub returns : goal.returns
 returns c =
     rows-cleared_at _ _ _ _ _ _ _ _ _ c.self.invariant c.end_count.ensures.simple (spot_of _ _ _ _ _ _ c.self.view_is c.requires.object c.requires.place) c.self.view_is
-        (c.end_of-end.ensures ∙ ap (λ x. end_at x c.args.o c.args.k) c.deref.ensures.value) c.part_all.ensures
-        (c.put_values.ensures ∙ ap (λ vs. update_at c.self.inside.homes.items c.end_of-end.result (λ h. record h { values = vs })) c.new.ensures)
+    (c.end_of-end.ensures ∙ ap (λ x. end_at x c.args.o c.args.k) c.deref.ensures.value) c.part_all.ensures
+    (c.put_values.ensures ∙ ap (λ vs. update_at c.self.inside.homes.items c.end_of-end.result (λ h. record h { values = vs })) c.new.ensures)

@@ -1,5 +1,3 @@
-use Rattle.std.proofs.Common.{arith, sym, ◌∙◌, ap, ◌≡◌, ◌<◌, length}
-use Rattle.object_tables.specs.Flat.{IsSpot, end_at}
 use Rattle.object_tables.proofs.FlatLemmas.{spot_of, end_small, end_placed, contains_ends, contains_seen}
 use Rattle.object_tables.proofs.tables.Tables.is_joined.Goals as goal
 
@@ -19,11 +17,12 @@ is_joined-requires-clause-second_within c =
 
 pub returns : goal.returns
 returns c = (
-    (λ h. contains_seen _ _ _ _ _ _ _ _ c.self.invariant c.self.view_is
-        (spot_of _ _ _ _ _ _ c.self.view_is c.requires.first_object c.requires.first_place)
-        (spot_of _ _ _ _ _ _ c.self.view_is c.requires.second_object c.requires.second_place)
-        (rw (c.end_of-first.ensures, c.deref.ensures.value, c.end_of-second.ensures, c.deref-2.ensures.value) at (c.is_joined.ensures.0 h))),
-    (λ h. c.is_joined.ensures.1
-        (rw (c.end_of-first.ensures, c.deref.ensures.value, c.end_of-second.ensures, c.deref-2.ensures.value)
-            (contains_ends _ _ _ _ _ _ _ _ c.self.invariant c.end_count.ensures.simple c.self.view_is
-                (spot_of _ _ _ _ _ _ c.self.view_is c.requires.first_object c.requires.first_place) h))))
+  (λ h. contains_seen _ _ _ _ _ _ _ _ c.self.invariant c.self.view_is
+      (spot_of _ _ _ _ _ _ c.self.view_is c.requires.first_object c.requires.first_place)
+      (spot_of _ _ _ _ _ _ c.self.view_is c.requires.second_object c.requires.second_place)
+      (rw (c.end_of-first.ensures, c.deref.ensures.value, c.end_of-second.ensures, c.deref-2.ensures.value) at (c.is_joined.ensures.0 h))),
+  (λ h. c.is_joined.ensures.1
+      (rw (c.end_of-first.ensures, c.deref.ensures.value, c.end_of-second.ensures, c.deref-2.ensures.value)
+      (contains_ends _ _ _ _ _ _ _ _ c.self.invariant c.end_count.ensures.simple c.self.view_is
+      (spot_of _ _ _ _ _ _ c.self.view_is c.requires.first_object c.requires.first_place) h))),
+)

@@ -1,5 +1,5 @@
-use Rattle.std.proofs.Common.{arith, sym, ◌∙◌, ap, ◌≡◌, ◌<◌, length, map, subst, get_or, [], List, ℕ}
-use Rattle.object_tables.specs.Flat.{IsSpot, end_at, address}
+use Rattle.std.proofs.Common.{sym, ◌∙◌, ap, map, get_or, []}
+use Rattle.object_tables.specs.Flat.{end_at, address}
 use Rattle.object_tables.proofs.FlatLemmas.{spot_of, end_small, end_placed, joined_seen, others_all}
 use Rattle.object_tables.proofs.tables.Tables.joined.Goals as goal
 

@@ -1,4 +1,4 @@
-use Rattle.std.proofs.Common.{◌≡◌, sym, ◌∙◌, ap, length, arith, ◌<◌}
+use Rattle.std.proofs.Common.{sym, ◌∙◌, ap, length, arith, ◌<◌}
 use Rattle.object_tables.specs.Flat.{entry_at}
 use Rattle.object_tables.specs.Rows.{row_at}
 use Rattle.object_tables.proofs.FlatLemmas.{length-places, length-rows}

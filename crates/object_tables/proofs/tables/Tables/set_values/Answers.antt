@@ -1,5 +1,5 @@
-use Rattle.std.proofs.Common.{arith, sym, ◌∙◌, ap, ◌≡◌, ◌<◌, length}
-use Rattle.object_tables.specs.Flat.{IsSpot, end_at}
+use Rattle.std.proofs.Common.{◌∙◌, ap}
+use Rattle.object_tables.specs.Flat.{end_at}
 use Rattle.object_tables.proofs.FlatLemmas.{spot_of, end_small, end_placed, rows-values_at, flat-values}
 use Rattle.object_tables.proofs.tables.Tables.set_values.Goals as goal
 
@@ -15,4 +15,4 @@ invariant_of-self c = flat-values _ _ _ _ _ _ c.self.invariant c.put_values.ensu
 pub returns : goal.returns
 returns c =
     rows-values_at _ _ _ _ _ _ _ _ _ c.self.invariant (spot_of _ _ _ _ _ _ c.self.view_is c.requires.object c.requires.place) c.self.view_is
-        (c.end_of-end.ensures ∙ ap (λ x. end_at x c.args.o c.args.k) c.deref.ensures.value) c.put_values.ensures
+    (c.end_of-end.ensures ∙ ap (λ x. end_at x c.args.o c.args.k) c.deref.ensures.value) c.put_values.ensures

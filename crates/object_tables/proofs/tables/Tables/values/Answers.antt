@@ -1,5 +1,4 @@
-use Rattle.std.proofs.Common.{arith, sym, ◌∙◌, ap}
-use Rattle.object_tables.specs.Flat.{home_at}
+use Rattle.std.proofs.Common.{sym, ◌∙◌, ap}
 use Rattle.object_tables.proofs.FlatLemmas.{spot_of, place_seen, end_small, end_placed}
 use Rattle.object_tables.proofs.tables.Tables.values.Goals as goal
 
@@ -13,4 +12,4 @@ pub returns : goal.returns
 returns c =
     c.values_at.ensures
     ∙ rw (c.deref-2.ensures.value, c.end_of-end.ensures, c.deref.ensures.value)
-        (sym (ap (λ p. p.values) (place_seen _ _ _ _ _ _ c.self.view_is (spot_of _ _ _ _ _ _ c.self.view_is c.requires.object c.requires.place))))
+    (sym (ap (λ p. p.values) (place_seen _ _ _ _ _ _ c.self.view_is (spot_of _ _ _ _ _ _ c.self.view_is c.requires.object c.requires.place))))
