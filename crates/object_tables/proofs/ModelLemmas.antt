@@ -1,13 +1,15 @@
 -- What a model shows of its tables.
 use Rattle.std.proofs.Common.{◌≡◌, ◌≢◌, ℕ, ◌+◌, ◌<◌, ◌^◌, zero, suc, List, [], ◌∷◌, length, get_or, map, drop, refl, ap, sym, ◌∙◌, arith, subst, Option, Some, None, Bool, true, false, cond, inl, inr, rules}
-use Rattle.std.specs.Prelude.{Contains, option_map, encode_utf8_all, chars, ◌==◌, IsSome}
+use Rattle.std.specs.Prelude.{Contains, option_map, encode_utf8_all, chars, ◌==◌, IsSome, All}
 use Rattle.std.specs.Str.{IsUtf8}
 use Rattle.std.proofs.lemmas.Str.{encodes-chars, encodes_same}
 use Rattle.std.proofs.lemmas.Bool.{cases_lt, eqb-true}
 use Rattle.std.proofs.Common.{eq-eqb}
 use Rattle.std.proofs.lemmas.List.{get_or-map, get_or_past, length-map, get_or-drop}
+use Rattle.std.proofs.lemmas.List.Elements.{Contains-get_or}
+use Rattle.object_tables.proofs.ListLemmas.{Contains-from_map}
 use Rattle.mof_metamodel.specs.declared.desc.MetaDesc.{MetaDesc}
-use Rattle.mof_metamodel.specs.Metamodels.{class_count, props_of}
+use Rattle.mof_metamodel.specs.Metamodels.{class_count, props_of, class_at as meta_class}
 use Rattle.object_tables.specs.declared.tables.Named.{Named}
 use Rattle.object_tables.specs.Rows.{Row, Place, row_at, place_at, joined_at, no_row, no_place}
 use Rattle.object_tables.specs.Objects.{Object, object_of, object_from, slot_of}
@@ -168,5 +170,29 @@ same_class v o c k h g = cc
 pub live_from_class : (v : ModelData) (o c : ℕ) → class_at v o ≡ Some c → IsSome (object_at v o)
 live_from_class v o c h = of_option (object_at v o) h where
   of_option : (x : Option Object) → option_map (λ ob. ob.class) x ≡ Some c → IsSome x
+  of_option None g = absurd cc
+  of_option (Some ob) g = search rules
+
+-- the partners of an object are live
+pub partners_live : (meta : MetaDesc) (rows : List Row) (number : List ℕ → Option ℕ) (live : ℕ) (v : ModelData) (o p c : ℕ) → IsTied meta rows number live → seen meta rows ≡ v → class_at v o ≡ Some c → Contains (props_of meta c) p
+    → All (λ b. IsSome (object_at v b)) (partners_at v o p)
+partners_live meta rows number live v o p c t e h hp k d l =
+    let same : partners_at v o p ≡ map (λ x. x.0) (joined_at rows o (near meta c p)) = partners_seen meta rows v o p c e h in
+    let here : Contains (partners_at v o p) (get_or (partners_at v o p) k d) = Contains-get_or (partners_at v o p) k d l in
+    let (x, cx, ex) = Contains-from_map (λ x. x.0) (joined_at rows o (near meta c p)) _ (subst (λ xs. Contains xs (get_or (partners_at v o p) k d)) same here) in
+    let f = t.far_ends o c p x (class_of_rows meta rows v o c e h) hp cx in
+    subst (λ b. IsSome (object_at v b)) ex (live_from_class v x.0 f.class (ap (λ m. class_at m x.0) (sym e) ∙ class_seen meta rows x.0 ∙ f.class_is))
+
+-- the class of an object is one of the metamodel, and concrete
+pub class_facts : (meta : MetaDesc) (rows : List Row) (number : List ℕ → Option ℕ) (live o : ℕ) (n : Named) (v : ModelData) → IsTied meta rows number live → seen meta rows ≡ v → Some n ≡ named_in rows o
+    → (n.class < class_count v.meta) × ((meta_class v.meta n.class).is_abstract ≡ false)
+class_facts meta rows number live o n v t e h =
+    let s = t.shaped o n (sym h) in
+    let em : meta ≡ v.meta = ap (λ m. m.meta) e in
+    (subst (λ (m : MetaDesc). n.class < class_count m) em s.class, ap (λ m. (meta_class m n.class).is_abstract) (sym em) ∙ s.concrete)
+
+pub live_from_id : (v : ModelData) (o : ℕ) (id : List ℕ) → id_at v o ≡ Some id → IsSome (object_at v o)
+live_from_id v o id h = of_option (object_at v o) h where
+  of_option : (x : Option Object) → option_map (λ ob. ob.id) x ≡ Some id → IsSome x
   of_option None g = absurd cc
   of_option (Some ob) g = search rules

@@ -1,4 +1,5 @@
-ghost use Rattle.std.specs.Prelude.{◌≡◌, ◌≢◌, ℕ, ◌+◌, ◌<◌, ◌≤◌, ◌^◌, List, [], ◌∷◌, ◌++◌, length, map, ◌↔◌, IsTrue, IsSome, IfOk, OnOk, OnErr, IfSome, IfNone, Contains, Option, Some, None, chars, count_by, is_some};
+ghost use Rattle.std.specs.Prelude.{false, ◌≡◌, ◌≢◌, ℕ, ◌+◌, ◌<◌, ◌≤◌, ◌^◌, List, [], ◌∷◌, ◌++◌, length, map, ◌↔◌, IsTrue, IsSome, IfOk, OnOk, OnErr, IfSome, IfNone, Contains, Option, Some, None, chars, count_by, is_some, All};
+ghost use Rattle.mof_metamodel.specs.Metamodels.{class_count, class_at as meta_class};
 ghost use Rattle.object_tables.specs.Ids.{object_ids};
 ghost use Rattle.object_tables.specs.Models.{object_at, IsLive, class_at, id_at, values_at, partners_at, IsLinked, IsReferenceOf, IsAttributeOf, live_count};
 
@@ -83,7 +84,9 @@ impl<'m> Model<'m> {
     /// The class of an object.
     pub fn class_of(&self, o: ObjId) -> ClassId
         requires { IsLive self.now o.0 }
-        ensures { class_at self.now o.0 ≡ Some result.0 }
+        ensures class { class_at self.now o.0 ≡ Some result.0 }
+        ensures within { result.0 < class_count self.now.meta }
+        ensures concrete { (meta_class self.now.meta result.0).is_abstract ≡ false }
     {
         match self.tables.named(o.0) {
             Some(named) => ClassId(named.class),
@@ -105,6 +108,7 @@ impl<'m> Model<'m> {
     /// The object that has the identifier.
     pub fn by_id(&self, id: &str) -> Option<ObjId>
         ensures found { IfSome result (λ o. id_at self.now o.0 ≡ Some (chars id.now)) }
+        ensures live { IfSome result (λ o. IsLive self.now o.0) }
         ensures none { IfNone result ((o : ℕ) → id_at self.now o ≢ Some (chars id.now)) }
     {
         match self.names.get(id) {
@@ -125,7 +129,8 @@ impl<'m> Model<'m> {
     /// The partners of an object at a reference, in their order.
     pub fn partners(&self, o: ObjId, p: PropId) -> Partners<'_>
         requires { IsReferenceOf self.now o.0 p.0 }
-        ensures { result ≡ object_ids (partners_at self.now o.0 p.0) }
+        ensures list { result ≡ object_ids (partners_at self.now o.0 p.0) }
+        ensures live { All (IsLive self.now) (partners_at self.now o.0 p.0) }
     {
         let place = near_place(self.meta, self.class_of(o), p);
         Partners::new(self.tables.joined(o.0, place))
