@@ -148,9 +148,10 @@ impl MetaModel {
         self.ordered.named().desc().name.as_str()
     }
 
-    /// How many classes there are. Their numbers are those below.
+    /// How many classes there are. Their numbers are those below. No fault stands in the description.
     pub fn class_count(&self) -> u32
-        ensures { result ≡ class_count self.now }
+        ensures count { result ≡ class_count self.now }
+        ensures well { WellMeta self.now }
     {
         self.ordered.named().class_count()
     }

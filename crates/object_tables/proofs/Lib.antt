@@ -1,0 +1,9 @@
+pub mod ListLemmas
+pub mod RowLemmas
+pub mod ObjectLemmas
+pub mod FlatLemmas
+pub mod ModelLemmas
+pub mod MetaLemmas
+pub mod EditLemmas
+pub mod AddLemmas
+pub mod DeleteLemmas

@@ -1,0 +1,77 @@
+ghost use Rattle.std.specs.Prelude.{◌≡◌, ◌<◌, ◌≤◌, ◌^◌, suc, length, Some, IfSome};
+ghost use Rattle.mof_metamodel.specs.Metamodels.{class_count, prop_count, props_of};
+ghost use Rattle.mof_metamodel.specs.Tables.{prop_numbers};
+ghost use Rattle.object_tables.specs.Models.{index_of};
+ghost use Rattle.object_tables.specs.Tied.{near, far, nameless, far_among};
+
+use mof_metamodel::{ClassId, MetaModel, PropId};
+
+/// The first place of a property in a list, or the list's length.
+fn index_of(props: &[PropId], p: PropId) -> usize
+    ensures value { result ≡ index_of (prop_numbers props.now) p.0 }
+    ensures within { result ≤ length props.now }
+{
+    for (i, q) in props.iter().enumerate() {
+        if *q == p {
+            return i;
+        }
+    }
+    props.len()
+}
+
+/// The place of a property of an object of the class.
+pub(crate) fn near_place(meta: &MetaModel, class: ClassId, p: PropId) -> u32
+    requires class { class.0 < class_count meta.now }
+    requires small { suc (suc (length (props_of meta.now class.0))) < 2 ^ 32 }
+    ensures { result ≡ near meta.now class.0 p.0 }
+{
+    index_of(meta.props(class), p) as u32 + 2
+}
+
+/// The far end of a reference without an opposite.
+fn nameless_place(meta: &MetaModel, p: PropId) -> u32
+    requires { p.0 < prop_count meta.now }
+    ensures { result ≡ nameless meta.now p.0 }
+{
+    if meta.prop(p).composite { 0 } else { 1 }
+}
+
+/// The place of an object of the class that a link of the property joins.
+pub(crate) fn far_place(meta: &MetaModel, class: ClassId, p: PropId) -> u32
+    requires class { class.0 < class_count meta.now }
+    requires prop { p.0 < prop_count meta.now }
+    requires small { suc (suc (length (props_of meta.now class.0))) < 2 ^ 32 }
+    ensures { result ≡ far meta.now class.0 p.0 }
+{
+    let otherwise = nameless_place(meta, p);
+    match meta.opposite(p) {
+        Some(q) => far_among(meta.props(class), q, otherwise),
+        None => otherwise,
+    }
+}
+
+/// The place of the opposite among the properties of a class.
+fn far_among(props: &[PropId], q: PropId, otherwise: u32) -> u32
+    requires { suc (suc (length props.now)) < 2 ^ 32 }
+    ensures { result ≡ far_among (prop_numbers props.now) (Some q.0) otherwise }
+{
+    let i = index_of(props, q);
+    if i < props.len() {
+        i as u32 + 2
+    } else {
+        otherwise
+    }
+}
+
+/// How many places an object of the class has: the two nameless ones and one for each property. Nothing where they are too
+/// many to be numbered.
+pub(crate) fn place_count(meta: &MetaModel, class: ClassId) -> Option<u32>
+    requires { class.0 < class_count meta.now }
+    ensures { IfSome result (λ n. n ≡ suc (suc (length (props_of meta.now class.0)))) }
+{
+    let count = meta.props(class).len();
+    if count >= u32::MAX as usize - 2 {
+        return None;
+    }
+    Some(count as u32 + 2)
+}

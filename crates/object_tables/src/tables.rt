@@ -1,0 +1,351 @@
+ghost use Rattle.std.specs.Prelude.{◌≡◌, ◌≢◌, ℕ, ◌+◌, ◌-◌, ◌<◌, ◌≤◌, ◌^◌, List, [], ◌∷◌, ◌++◌, length, replicate, ◌↔◌, IsTrue, IfOk, IfErr, OnOk, OnErr, Contains, Option, Some, None};
+ghost use Rattle.std.specs.Option.{option_copied};
+ghost use Rattle.std.specs.Vec.{vec_len, vec_capacity};
+ghost use Rattle.object_tables.specs.Flat.{end_at, entry_at, home_at, address, fresh_homes};
+ghost use Rattle.object_tables.specs.Lists.{update_at};
+ghost use Rattle.object_tables.specs.Rows.{row_at, place_at, joined_at, with_place, with_joined, with_last, without_address, without_join, with_values, fresh_row, cleared_place, cleared_upto, unnamed, IsRanged, IsMutual};
+
+use crate::value::Value;
+use link_arena::{Arena, Others};
+use mof_metamodel::{Seq, Text};
+use std::alloc::{AllocError, Global};
+use std::marker::Model;
+
+/// What an object is: its class and its identifier.
+#[derive(Debug, Drop)]
+pub struct Named {
+    pub class: u32,
+    pub id: Text,
+}
+
+/// An object's part of the table of places: from `first` on, `count` places.
+#[derive(Debug, Drop)]
+pub(crate) struct Entry {
+    named: Option<Named>,
+    first: u32,
+    count: u32,
+}
+
+/// A place: whose it is, which of its places it is, and the values there.
+#[derive(Debug, Drop)]
+pub(crate) struct Home {
+    object: u32,
+    place: u32,
+    values: Seq<Value>,
+}
+
+/// Objects with places that hold values and are joined to each other, in flat tables: an object's places stand one after
+/// another in the table of places, and each is an end of one arena of links.
+#[derive(Debug, Drop)]
+pub(crate) struct Tables {
+    entries: Vec<Entry>,
+    homes: Vec<Home>,
+    arena: Arena,
+    alloc: Global,
+}
+
+impl Model for Tables {
+    ghost use Rattle.std.specs.Prelude.{List};
+    ghost use Rattle.object_tables.specs.Rows.{Row};
+
+    ghost Value = { List Row };
+
+    ghost use Rattle.object_tables.specs.Flat.{rows_of, IsFlat};
+
+    ghost view = { λ t. rows_of t.entries.items t.homes.items t.arena };
+
+    ghost invariant = { λ t. IsFlat t.entries.items t.homes.items t.arena };
+}
+
+impl Tables {
+    /// Tables without an object. They take no memory.
+    pub(crate) fn new(alloc: Global) -> Tables
+        ensures { result ≡ [] }
+    {
+        Tables {
+            entries: Vec::new(alloc),
+            homes: Vec::new(alloc),
+            arena: Arena::new(alloc),
+            alloc,
+        }
+    }
+
+    /// How many numbers have been given out.
+    pub(crate) fn len(&self) -> usize
+        ensures { result ≡ length self.now }
+    {
+        self.entries.len()
+    }
+
+    /// What the object is, or nothing where the number has no object.
+    pub(crate) fn named(&self, o: u32) -> Option<&Named>
+        ensures { option_copied result ≡ (row_at self.now o).named }
+    {
+        match self.entries.get(o as usize) {
+            Some(entry) => entry.named.as_ref(),
+            None => None,
+        }
+    }
+
+    /// The values at a place.
+    pub(crate) fn values(&self, o: u32, k: u32) -> &[Value]
+        requires object { o < length self.now }
+        requires place { k < length (row_at self.now o).places }
+        ensures { result.now ≡ (place_at self.now o k).values }
+    {
+        let end = end_of(&self.entries, o, k);
+        values_at(&self.homes, end)
+    }
+}
+
+impl Tables {
+    /// Joins two places: each stands last at the other. Without memory the tables stay as they were.
+    pub(crate) fn join(&mut self, o: u32, k: u32, other: u32, place: u32) -> Result<(), AllocError>
+        requires first_object { o < length self.old }
+        requires first_place { k < length (row_at self.old o).places }
+        requires second_object { other < length self.old }
+        requires second_place { place < length (row_at self.old other).places }
+        requires apart { o ≡ other → k ≢ place }
+        requires unjoined { ¬ Contains (joined_at self.old o k) (other, place) }
+        ensures ok { OnOk result (self.new ≡ with_last (with_last self.old o k (other, place)) other place (o, k)) }
+        ensures err { OnErr result (self.new ≡ self.old) }
+    {
+        let first = end_of(&self.entries, o, k);
+        let second = end_of(&self.entries, other, place);
+        self.arena.join(first, second)
+    }
+
+    /// Parts two places that are joined. It takes no memory.
+    pub(crate) fn part(&mut self, o: u32, k: u32, other: u32, place: u32)
+        requires first_object { o < length self.old }
+        requires first_place { k < length (row_at self.old o).places }
+        requires second_object { other < length self.old }
+        requires second_place { place < length (row_at self.old other).places }
+        requires joined { Contains (joined_at self.old o k) (other, place) }
+        ensures { self.new ≡ without_join (without_join self.old o k (other, place)) other place (o, k) }
+    {
+        let first = end_of(&self.entries, o, k);
+        let second = end_of(&self.entries, other, place);
+        let _ = self.arena.end_count();
+        self.arena.part(first, second);
+    }
+
+    /// Adds an object with places that hold and are joined to nothing. Without memory it is given back, and the tables stay
+    /// as they were; that the numbers of places have run out counts as that.
+    pub(crate) fn add(&mut self, named: Named, count: u32) -> Result<(), Named>
+        requires { length self.old + 1 < 2 ^ 32 }
+        ensures ok { OnOk result (self.new ≡ self.old ++ fresh_row named count ∷ []) }
+        ensures err { IfErr result (λ back. (self.new ≡ self.old) × (back ≡ named)) }
+    {
+        let first = self.arena.end_count();
+        if count >= u32::MAX - first {
+            return Err(named);
+        }
+        let object = self.entries.len() as u32;
+        if self.entries.reserve(1).is_err() {
+            return Err(named);
+        }
+        if self.homes.reserve(count as usize).is_err() {
+            return Err(named);
+        }
+        match self.arena.add_ends(count) {
+            Ok(()) => {
+                push_homes(&mut self.homes, self.alloc, object, count);
+                self.entries.push_reserved(Entry {
+                    named: Some(named),
+                    first,
+                    count,
+                });
+                Ok(())
+            }
+            Err(_) => Err(named),
+        }
+    }
+
+    /// Parts a place from all others, and drops its values. It takes no memory.
+    pub(crate) fn clear_place(&mut self, o: u32, k: u32)
+        requires object { o < length self.old }
+        requires place { k < length (row_at self.old o).places }
+        ensures { self.new ≡ cleared_place self.old o k }
+    {
+        let end = end_of(&self.entries, o, k);
+        let _ = self.arena.end_count();
+        self.arena.part_all(end);
+        put_values(&mut self.homes, end, Seq::new(self.alloc));
+    }
+
+    /// How many places an object has.
+    fn place_count(&self, o: u32) -> u32
+        requires { o < length self.now }
+        ensures { result ≡ length (row_at self.now o).places }
+    {
+        count_of(&self.entries, o)
+    }
+
+    /// Parts all places of an object from all others, and drops their values. It takes no memory. What a place was joined to
+    /// was a place.
+    pub(crate) fn clear(&mut self, o: u32)
+        requires { o < length self.old }
+        ensures cleared { self.new ≡ cleared_upto self.old o (length (row_at self.old o).places) }
+        ensures ranged { IsRanged self.old }
+    {
+        self.look();
+        for k in 0..self.place_count(o) {
+            self.clear_place(o, k);
+        }
+    }
+
+    /// What a place is joined to is a place, and is joined to it. It does nothing.
+    pub(crate) fn look(&self)
+        ensures ranged { IsRanged self.now }
+        ensures both { IsMutual self.now }
+    {
+        let _ = &self.entries;
+        let _ = self.arena.end_count();
+    }
+
+    /// Takes an object from its number.
+    pub(crate) fn forget(&mut self, o: u32)
+        requires { o < length self.old }
+        ensures { self.new ≡ unnamed self.old o }
+    {
+        forget_at(&mut self.entries, o);
+    }
+
+    /// The places that a place is joined to, in their order.
+    pub(crate) fn joined(&self, o: u32, k: u32) -> Joined<'_>
+        requires object { o < length self.now }
+        requires place { k < length (row_at self.now o).places }
+        ensures { result ≡ joined_at self.now o k }
+    {
+        let end = end_of(&self.entries, o, k);
+        Joined {
+            others: self.arena.others(end),
+            homes: self.homes.as_slice(),
+        }
+    }
+
+    /// Whether two places are joined.
+    pub(crate) fn is_joined(&self, o: u32, k: u32, other: u32, place: u32) -> bool
+        requires first_object { o < length self.now }
+        requires first_place { k < length (row_at self.now o).places }
+        requires second_object { other < length self.now }
+        requires second_place { place < length (row_at self.now other).places }
+        ensures { IsTrue result ↔ Contains (joined_at self.now o k) (other, place) }
+    {
+        let first = end_of(&self.entries, o, k);
+        let second = end_of(&self.entries, other, place);
+        let _ = self.arena.end_count();
+        self.arena.is_joined(first, second)
+    }
+
+    /// Puts values at a place, in the stead of those that were there.
+    pub(crate) fn set_values(&mut self, o: u32, k: u32, values: Seq<Value>)
+        requires object { o < length self.old }
+        requires place { k < length (row_at self.old o).places }
+        ensures { self.new ≡ with_values self.old o k values }
+    {
+        let end = end_of(&self.entries, o, k);
+        put_values(&mut self.homes, end, values);
+    }
+}
+
+/// The places that a place is joined to, each as the number of its object and its own, in their order. Contracts see it as
+/// the list of those that are left.
+#[derive(Drop)]
+pub(crate) struct Joined<'a> {
+    others: Others<'a>,
+    homes: &'a [Home],
+}
+
+impl<'a> Model for Joined<'a> {
+    ghost use Rattle.std.specs.Prelude.{List, ℕ, map, All, ◌<◌, length};
+    ghost use Rattle.object_tables.specs.Flat.{address};
+
+    ghost Value = { List (ℕ × ℕ) };
+
+    ghost view = { λ j. map (address j.homes.now) j.others };
+
+    ghost invariant = { λ j. All (λ e. e < length j.homes.now) j.others };
+}
+
+impl<'a> Iterator for Joined<'a> {
+    type Item = (u32, u32);
+
+    ghost use Rattle.std.specs.Iterator.{YieldsFirst, item_count};
+
+    ghost next_gives = { YieldsFirst (λ j. j) };
+
+    ghost remaining = { item_count (λ j. j) };
+
+    fn next(&mut self) -> Option<(u32, u32)> {
+        match self.others.next() {
+            Some(end) => Some(address_of(self.homes, end)),
+            None => None,
+        }
+    }
+}
+
+/// Whose place an end is, and which of them.
+fn address_of(homes: &[Home], end: u32) -> (u32, u32)
+    requires { end < length homes.now }
+    ensures { result ≡ address homes.now end }
+{
+    let home = &homes[end as usize];
+    (home.object, home.place)
+}
+
+/// The end at which a place stands.
+fn end_of(entries: &[Entry], o: u32, k: u32) -> u32
+    requires object { o < length entries.now }
+    requires small { end_at entries.now o k < 2 ^ 32 }
+    ensures { result ≡ end_at entries.now o k }
+{
+    entries[o as usize].first + k
+}
+
+/// The values at an end.
+fn values_at(homes: &[Home], end: u32) -> &[Value]
+    requires { end < length homes.now }
+    ensures { result.now ≡ (home_at homes.now end).values }
+{
+    homes[end as usize].values.as_slice()
+}
+
+/// Puts values at an end.
+fn put_values(homes: &mut Vec<Home>, end: u32, values: Seq<Value>)
+    requires { end < length homes.old.items }
+    ensures { homes.new.items ≡ update_at homes.old.items end (λ h. record h { values = values }) }
+{
+    homes[end as usize].values = values;
+}
+
+/// Adds the places of an object, for which there is room.
+fn push_homes(homes: &mut Vec<Home>, alloc: Global, object: u32, count: u32)
+    requires { vec_len homes.old + count ≤ vec_capacity homes.old }
+    ensures { homes.new.items ≡ homes.old.items ++ fresh_homes object count }
+{
+    for place in 0..count {
+        homes.push_reserved(Home {
+            object,
+            place,
+            values: Seq::new(alloc),
+        });
+    }
+}
+
+/// How many places an object has.
+fn count_of(entries: &[Entry], o: u32) -> u32
+    requires { o < length entries.now }
+    ensures { result ≡ (entry_at entries.now o).count }
+{
+    entries[o as usize].count
+}
+
+/// Takes an object from its number.
+fn forget_at(entries: &mut Vec<Entry>, o: u32)
+    requires { o < length entries.old.items }
+    ensures { entries.new.items ≡ update_at entries.old.items o (λ e. record e { named = None }) }
+{
+    entries[o as usize].named = None;
+}
