@@ -8,3 +8,5 @@ pub mod Moves
 pub mod Dense
 pub mod Swaps
 pub mod Orders
+pub mod Leads
+pub mod Columns

@@ -15,6 +15,7 @@ mod others;
 mod pairs;
 mod places;
 mod row;
+mod slot;
 
 pub use arena::Arena;
 pub use others::Others;
