@@ -3,7 +3,7 @@ use Rattle.std.proofs.Common.{◌≡◌, ◌≢◌, ℕ, ◌<◌, ◌≤◌, ◌
 use Rattle.std.proofs.lemmas.Bool.{cases_eq}
 use Rattle.std.proofs.lemmas.List.{get_or-set_same, get_or-set_other, reverse-append, reverse-reverse, append_assoc, length-set}
 use Rattle.link_arena.specs.Links.{without}
-use Rattle.link_arena.specs.Threads.{walk, LeadsThrough, IsIn, IsDistinct, start_past, step_past, start_onto, step_onto, last_or, first_or}
+use Rattle.link_arena.specs.Threads.{walk, LeadsThrough, IsThread, IsIn, IsDistinct, start_past, step_past, start_onto, step_onto, last_or, first_or}
 
 -- membership
 
@@ -124,12 +124,6 @@ leads-beside step start (y ∷ ys) at zs before leads apart is other xs out ther
     leads-by (step_past step start before at) (set step before (get_or step at 0)) other other xs (step_past-away step start before at away) refl (leads-set step other xs before (get_or step at 0) none there)
 
 -- a list, and the same backwards
-
-pub record IsThread (nexts previouses : List ℕ) (first last : ℕ) (xs : List ℕ) : Type 0 where
-  pub ahead : LeadsThrough nexts first xs
-  pub back : LeadsThrough previouses last (reverse xs)
-  pub apart : IsDistinct xs
-  pub within : (x : ℕ) → IsIn x xs → (x < length nexts) × (x < length previouses)
 
 pub IsIn-reverse : (x : ℕ) (xs : List ℕ) → IsIn x (reverse xs) → IsIn x xs
 IsIn-reverse x [] has = has

@@ -10,3 +10,4 @@ pub mod Swaps
 pub mod Orders
 pub mod Leads
 pub mod Columns
+pub mod Threaded

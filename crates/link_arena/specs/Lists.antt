@@ -2,7 +2,7 @@
 use Rattle.std.specs.Prelude.{◌≡◌, ℕ, ◌<◌, List, map, length, slice_index, slice_index_or, []}
 use Rattle.link_arena.specs.declared.slot.Slot.{Slot}
 use Rattle.link_arena.specs.declared.slot.Head.{Head}
-use Rattle.link_arena.specs.Threads.{walk}
+use Rattle.link_arena.specs.Threads.{walk, IsThread, IsIn}
 
 abbrev pub nexts : List Slot → List ℕ
 nexts slots = map (λ slot. slot.next) slots
@@ -18,3 +18,15 @@ list_of slots head = walk (nexts slots) head.len head.first
 
 abbrev pub lists : List Head → List Slot → List (List ℕ)
 lists heads slots = map (list_of slots) heads
+
+abbrev pub head_at : List Head → ℕ → Head
+head_at heads id = slice_index_or heads id (record { first = 0; last = 0; len = 0 })
+
+abbrev pub list_at : List Head → List Slot → ℕ → List ℕ
+list_at heads slots id = slice_index_or (lists heads slots) id []
+
+-- each list is threaded through the slots, and its slots name it
+pub record IsThreaded (heads : List Head) (slots : List Slot) : Type 0 where
+  pub thread : (id : ℕ) → id < length heads
+      → IsThread (nexts slots) (previouses slots) (head_at heads id).first (head_at heads id).last (list_at heads slots id)
+  pub owned : (id s : ℕ) → IsIn s (list_at heads slots id) → slice_index (owners slots) s ≡ id

@@ -1,5 +1,5 @@
 -- Lists that are threaded through a table: from a start each number's step leads to the next.
-use Rattle.std.specs.Prelude.{◌≡◌, ℕ, zero, suc, List, [], ◌∷◌, ◌++◌, ◌⊎◌, ◌==◌, cond, reverse, slice_index, slice_set}
+use Rattle.std.specs.Prelude.{◌≡◌, ℕ, zero, suc, List, [], ◌∷◌, ◌++◌, ◌<◌, length, ◌⊎◌, ◌==◌, cond, reverse, slice_index, slice_set}
 
 -- the numbers that the steps lead to from a start on, as many as are asked for
 abbrev pub walk : List ℕ → ℕ → ℕ → List ℕ
@@ -42,3 +42,10 @@ start_onto (suc n) start at = start
 abbrev pub step_onto : List ℕ → ℕ → ℕ → ℕ → List ℕ
 step_onto step zero last at = step
 step_onto step (suc n) last at = slice_set step last at
+
+-- the steps ahead lead from a first number through a list, and the steps back from a last one through the same list backwards
+pub record IsThread (nexts previouses : List ℕ) (first last : ℕ) (xs : List ℕ) : Type 0 where
+  pub ahead : LeadsThrough nexts first xs
+  pub back : LeadsThrough previouses last (reverse xs)
+  pub apart : IsDistinct xs
+  pub within : (x : ℕ) → IsIn x xs → (x < length nexts) × (x < length previouses)
