@@ -11,3 +11,4 @@ pub mod Orders
 pub mod Leads
 pub mod Columns
 pub mod Threaded
+pub mod Filed

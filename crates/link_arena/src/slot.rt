@@ -1,6 +1,7 @@
-ghost use Rattle.std.specs.Prelude.{◌≡◌, ◌<◌, ◌≢◌, ◌-◌, ◌+◌, length, slice_index, slice_set};
-ghost use Rattle.link_arena.specs.Threads.{start_past, step_past, start_onto, step_onto};
-ghost use Rattle.link_arena.specs.Lists.{nexts, previouses, owners};
+ghost use Rattle.std.specs.Prelude.{◌≡◌, ℕ, ◌++◌, ◌∷◌, [], ◌<◌, ◌≢◌, ◌-◌, ◌+◌, length, slice_index, slice_set};
+ghost use Rattle.link_arena.specs.Threads.{start_past, step_past, start_onto, step_onto, IsIn};
+ghost use Rattle.link_arena.specs.Links.{without};
+ghost use Rattle.link_arena.specs.Lists.{nexts, previouses, owners, owner_at, lists, list_at, moved_to, IsThreaded, IsAfter, IsFiled};
 
 /// One side of a row: the number of the list that it stands in, and its neighbours there.
 #[derive(Clone, Copy, Debug, Drop)]
@@ -142,4 +143,63 @@ fn put_last(slots: &mut [Slot], head: Head, at: usize) -> Head
         last: at,
         len: head.len + 1,
     }
+}
+
+/// Takes a slot out of a list that it stands in.
+fn unlink(heads: &mut [Head], slots: &mut [Slot], id: usize, at: usize)
+    requires threaded { IsThreaded heads.old slots.old }
+    requires within { id < length heads.old }
+    requires there { IsIn at (list_at heads.old slots.old id) }
+    ensures after { IsAfter heads.old slots.old heads.new slots.new id (without at (list_at heads.old slots.old id)) }
+    ensures owners { owners slots.new ≡ owners slots.old }
+{
+    heads[id] = take_out(slots, heads[id], at);
+}
+
+/// Puts a slot that stands in no list last in one.
+fn link(heads: &mut [Head], slots: &mut [Slot], id: usize, at: usize)
+    requires threaded { IsThreaded heads.old slots.old }
+    requires within { id < length heads.old }
+    requires slot_within { at < length slots.old }
+    requires out { (other : ℕ) → ¬ IsIn at (list_at heads.old slots.old other) }
+    ensures after { IsAfter heads.old slots.old heads.new slots.new id (list_at heads.old slots.old id ++ at ∷ []) }
+    ensures owners { owners slots.new ≡ slice_set (owners slots.old) at id }
+{
+    heads[id] = put_last(slots, heads[id], at);
+    set_owner(slots, at, id);
+}
+
+/// The list that a slot stands in.
+pub(crate) fn owner_of(slots: &[Slot], at: usize) -> usize
+    requires { at < length slots.now }
+    ensures { result ≡ owner_at slots.now at }
+{
+    slots[at].owner
+}
+
+/// Moves a slot from the list that it stands in to the end of one.
+fn move_from(heads: &mut [Head], slots: &mut [Slot], from: usize, to: usize, at: usize)
+    requires filed { IsFiled heads.old slots.old }
+    requires within { to < length heads.old }
+    requires slot_within { at < length slots.old }
+    requires from { from ≡ owner_at slots.old at }
+    ensures filed { IsFiled heads.new slots.new }
+    ensures lists { lists heads.new slots.new ≡ moved_to (lists heads.old slots.old) from to at }
+    ensures owners { owners slots.new ≡ slice_set (owners slots.old) at to }
+{
+    unlink(heads, slots, from, at);
+    link(heads, slots, to, at);
+}
+
+/// Moves a slot from the list that it stands in to the end of one.
+pub(crate) fn move_to(heads: &mut [Head], slots: &mut [Slot], to: usize, at: usize)
+    requires filed { IsFiled heads.old slots.old }
+    requires within { to < length heads.old }
+    requires slot_within { at < length slots.old }
+    ensures filed { IsFiled heads.new slots.new }
+    ensures lists { lists heads.new slots.new ≡ moved_to (lists heads.old slots.old) (owner_at slots.old at) to at }
+    ensures owners { owners slots.new ≡ slice_set (owners slots.old) at to }
+{
+    let from = owner_of(slots, at);
+    move_from(heads, slots, from, to, at);
 }
