@@ -12,3 +12,4 @@ pub mod Leads
 pub mod Columns
 pub mod Threaded
 pub mod Filed
+pub mod Twins

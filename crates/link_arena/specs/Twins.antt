@@ -1,0 +1,40 @@
+-- The two slots of a row are twins: each names, as the list that it stands in, one end of a join. List 0 has the free slots, and the list of an end comes one later.
+use Rattle.std.specs.Prelude.{◌≡◌, ◌≢◌, ℕ, ◌+◌, ◌-◌, ◌%◌, ◌≤◌, ◌^◌, ◌==◌, cond, List, map, drop, length, slice_index}
+use Rattle.link_arena.specs.declared.slot.Slot.{Slot}
+use Rattle.link_arena.specs.declared.slot.Head.{Head}
+use Rattle.link_arena.specs.Lists.{lists, owners, IsFiled}
+
+-- the other slot of a slot's row
+abbrev pub twin : ℕ → ℕ
+twin s = cond (s % 2 == 0) (s + 1) (s - 1)
+
+-- the end that a slot leads to
+abbrev pub other : List ℕ → ℕ → ℕ
+other owners s = slice_index owners (twin s) - 1
+
+-- at each end the ends that its slots lead to
+abbrev pub shown : List ℕ → List (List ℕ) → List (List ℕ)
+shown owners lists = drop 1 (map (map (other owners)) lists)
+
+abbrev pub links : List Head → List Slot → List (List ℕ)
+links heads slots = shown (owners slots) (lists heads slots)
+
+-- twins are both free, or stand at two ends that no other twins join
+pub record IsTwinned (owners : List ℕ) : Type 0 where
+  pub even : length owners % 2 ≡ 0
+  pub free : (s : ℕ) → slice_index owners s ≡ 0 → slice_index owners (twin s) ≡ 0
+  pub apart : (s : ℕ) → slice_index owners s ≢ 0 → slice_index owners (twin s) ≢ slice_index owners s
+  pub single : (s u : ℕ) → slice_index owners s ≢ 0 → slice_index owners s ≡ slice_index owners u
+      → slice_index owners (twin s) ≡ slice_index owners (twin u) → s ≡ u
+
+pub record IsArena (heads : List Head) (slots : List Slot) : Type 0 where
+  pub filed : IsFiled heads slots
+  pub twinned : IsTwinned (owners slots)
+  pub few : length heads ≤ 2 ^ 32
+
+-- two twins have come to stand in other lists
+pub record IsRewritten (old new : List ℕ) (s a b : ℕ) : Type 0 where
+  pub at_first : slice_index new s ≡ a
+  pub at_second : slice_index new (twin s) ≡ b
+  pub rest : (u : ℕ) → u ≢ s → u ≢ twin s → slice_index new u ≡ slice_index old u
+  pub len : length new ≡ length old
