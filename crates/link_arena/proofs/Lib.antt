@@ -13,3 +13,4 @@ pub mod Columns
 pub mod Threaded
 pub mod Filed
 pub mod Twins
+pub mod Shown
