@@ -14,3 +14,4 @@ pub mod Threaded
 pub mod Filed
 pub mod Twins
 pub mod Shown
+pub mod Arenas

@@ -16,6 +16,7 @@ mod pairs;
 mod places;
 mod row;
 mod slot;
+mod sides;
 
 pub use arena::Arena;
 pub use others::Others;

@@ -1,0 +1,65 @@
+ghost use Rattle.std.specs.Prelude.{◌≡◌, ◌≢◌, ℕ, ◌+◌, ◌-◌, ◌<◌, ◌^◌, [], length, IfSome, IfNone, Contains, slice_index};
+ghost use Rattle.link_arena.specs.Links.{others_of, joined, parted};
+ghost use Rattle.link_arena.specs.Threads.{IsIn};
+ghost use Rattle.link_arena.specs.Lists.{list_of, list_at, nexts, owner_at};
+ghost use Rattle.link_arena.specs.Twins.{twin, links, IsArena};
+
+use crate::slot::{Head, Slot, move_to, owner_of};
+
+/// The other slot of a slot's row.
+pub(crate) fn twin_of(at: usize) -> usize
+    requires { at + 1 < 2 ^ 64 }
+    ensures { result ≡ twin at }
+{
+    if at % 2 == 0 { at + 1 } else { at - 1 }
+}
+
+/// Joins two ends by a free slot and its twin.
+fn join_by(heads: &mut [Head], slots: &mut [Slot], at: usize, first: u32, second: u32)
+    requires arena { IsArena heads.old slots.old }
+    requires slot_within { at < length slots.old }
+    requires free { owner_at slots.old at ≡ 0 }
+    requires first_within { first + 1 < length heads.old }
+    requires second_within { second + 1 < length heads.old }
+    requires apart { first ≢ second }
+    requires unjoined { ¬ Contains (others_of (links heads.old slots.old) first) second }
+    ensures arena { IsArena heads.new slots.new }
+    ensures count { length heads.new ≡ length heads.old }
+    ensures view { links heads.new slots.new ≡ joined (links heads.old slots.old) first second }
+{
+    let twin = twin_of(at);
+    move_to(heads, slots, first as usize + 1, at);
+    move_to(heads, slots, second as usize + 1, twin);
+}
+
+/// Parts the two ends that a slot and its twin join.
+pub(crate) fn part_by(heads: &mut [Head], slots: &mut [Slot], at: usize)
+    requires arena { IsArena heads.old slots.old }
+    requires slot_within { at < length slots.old }
+    requires used { owner_at slots.old at ≢ 0 }
+    ensures arena { IsArena heads.new slots.new }
+    ensures count { length heads.new ≡ length heads.old }
+    ensures view { links heads.new slots.new ≡ parted (links heads.old slots.old) (owner_at slots.old at - 1) (owner_at slots.old (twin at) - 1) }
+{
+    let twin = twin_of(at);
+    move_to(heads, slots, 0, at);
+    move_to(heads, slots, 0, twin);
+}
+
+/// The slot of a list that leads to an end, which has the list of the given number.
+pub(crate) fn find(slots: &[Slot], head: Head, id: usize) -> Option<usize>
+    requires within { (s : ℕ) → IsIn s (list_of slots.now head) → (s < length slots.now) × (twin s < length slots.now) }
+    ensures found { IfSome result (λ s. IsIn s (list_of slots.now head) × (owner_at slots.now (twin s) ≡ id)) }
+    ensures none { IfNone result ((s : ℕ) → IsIn s (list_of slots.now head) → owner_at slots.now (twin s) ≢ id) }
+{
+    let mut at = head.first;
+    let mut left = head.len;
+    while left > 0 {
+        if owner_of(slots, twin_of(at)) == id {
+            return Some(at);
+        }
+        at = slots[at].next;
+        left -= 1;
+    }
+    None
+}
