@@ -15,3 +15,5 @@ pub mod Filed
 pub mod Twins
 pub mod Shown
 pub mod Arenas
+pub mod Walks
+pub mod Simple

@@ -1,10 +1,10 @@
-ghost use Rattle.std.specs.Prelude.{◌≡◌, ◌≢◌, ℕ, ◌+◌, ◌-◌, ◌<◌, ◌^◌, [], length, IfSome, IfNone, Contains, slice_index};
+ghost use Rattle.std.specs.Prelude.{◌≡◌, ◌↔◌, IsTrue, ◌≢◌, ℕ, ◌+◌, ◌-◌, ◌<◌, ◌^◌, [], length, IfSome, IfNone, Contains, slice_index};
 ghost use Rattle.link_arena.specs.Links.{others_of, joined, parted};
 ghost use Rattle.link_arena.specs.Threads.{IsIn};
 ghost use Rattle.link_arena.specs.Lists.{list_of, list_at, nexts, owner_at};
 ghost use Rattle.link_arena.specs.Twins.{twin, links, IsArena};
 
-use crate::slot::{Head, Slot, move_to, owner_of};
+use crate::slot::{Head, Slot, move_to, next_of, owner_of};
 
 /// The other slot of a slot's row.
 pub(crate) fn twin_of(at: usize) -> usize
@@ -58,8 +58,46 @@ pub(crate) fn find(slots: &[Slot], head: Head, id: usize) -> Option<usize>
         if owner_of(slots, twin_of(at)) == id {
             return Some(at);
         }
-        at = slots[at].next;
+        at = next_of(slots, at);
         left -= 1;
     }
     None
+}
+
+/// The slot of an end's list that leads to another end.
+fn find_at(heads: &[Head], slots: &[Slot], end: u32, other: u32) -> Option<usize>
+    requires arena { IsArena heads.now slots.now }
+    requires within { end + 1 < length heads.now }
+    ensures found { IfSome result (λ s. (owner_at slots.now s ≡ end + 1) × (owner_at slots.now (twin s) ≡ other + 1)) }
+    ensures none { IfNone result (¬ Contains (others_of (links heads.now slots.now) end) other) }
+{
+    find(slots, heads[end as usize + 1], other as usize + 1)
+}
+
+/// Parts two ends, found by the list of the first.
+fn part_at(heads: &mut [Head], slots: &mut [Slot], end: u32, other: u32)
+    requires arena { IsArena heads.old slots.old }
+    requires within { end + 1 < length heads.old }
+    requires named { Contains (others_of (links heads.old slots.old) end) other }
+    ensures arena { IsArena heads.new slots.new }
+    ensures count { length heads.new ≡ length heads.old }
+    ensures view { links heads.new slots.new ≡ parted (links heads.old slots.old) end other }
+{
+    if let Some(at) = find_at(heads, slots, end, other) {
+        part_by(heads, slots, at);
+    }
+}
+
+/// Whether two ends are joined, by the shorter of their lists.
+pub(crate) fn are_joined(heads: &[Head], slots: &[Slot], first: u32, second: u32) -> bool
+    requires arena { IsArena heads.now slots.now }
+    requires first_within { first + 1 < length heads.now }
+    requires second_within { second + 1 < length heads.now }
+    ensures { IsTrue result ↔ Contains (others_of (links heads.now slots.now) first) second }
+{
+    if heads[first as usize + 1].len <= heads[second as usize + 1].len {
+        find_at(heads, slots, first, second).is_some()
+    } else {
+        find_at(heads, slots, second, first).is_some()
+    }
 }

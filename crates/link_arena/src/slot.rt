@@ -177,6 +177,14 @@ pub(crate) fn owner_of(slots: &[Slot], at: usize) -> usize
     slots[at].owner
 }
 
+/// The slot after one of a list.
+pub(crate) fn next_of(slots: &[Slot], at: usize) -> usize
+    requires { at < length slots.now }
+    ensures { result ≡ slice_index (nexts slots.now) at }
+{
+    slots[at].next
+}
+
 /// Moves a slot from the list that it stands in to the end of one.
 fn move_from(heads: &mut [Head], slots: &mut [Slot], from: usize, to: usize, at: usize)
     requires filed { IsFiled heads.old slots.old }
