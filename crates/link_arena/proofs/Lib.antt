@@ -17,3 +17,4 @@ pub mod Shown
 pub mod Arenas
 pub mod Walks
 pub mod Simple
+pub mod Found
