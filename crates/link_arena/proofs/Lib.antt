@@ -18,3 +18,4 @@ pub mod Arenas
 pub mod Walks
 pub mod Simple
 pub mod Found
+pub mod Growth
