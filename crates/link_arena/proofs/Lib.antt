@@ -19,3 +19,4 @@ pub mod Walks
 pub mod Simple
 pub mod Found
 pub mod Growth
+pub mod Grown

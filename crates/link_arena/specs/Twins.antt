@@ -1,5 +1,5 @@
 -- The two slots of a row are twins: each names, as the list that it stands in, one end of a join. List 0 has the free slots, and the list of an end comes one later.
-use Rattle.std.specs.Prelude.{◌≡◌, ◌≢◌, ℕ, ◌+◌, ◌-◌, ◌%◌, ◌≤◌, ◌^◌, ◌==◌, cond, List, map, drop, length, slice_index}
+use Rattle.std.specs.Prelude.{◌≡◌, ◌≢◌, ℕ, ◌+◌, ◌-◌, ◌%◌, ◌≤◌, ◌<◌, ◌^◌, ◌==◌, ◌++◌, ◌∷◌, [], cond, List, map, drop, length, slice_index}
 use Rattle.link_arena.specs.declared.slot.Slot.{Slot}
 use Rattle.link_arena.specs.declared.slot.Head.{Head}
 use Rattle.link_arena.specs.Lists.{lists, owners, IsFiled}
@@ -38,3 +38,14 @@ pub record IsRewritten (old new : List ℕ) (s a b : ℕ) : Type 0 where
   pub at_second : slice_index new (twin s) ≡ b
   pub rest : (u : ℕ) → u ≢ s → u ≢ twin s → slice_index new u ≡ slice_index old u
   pub len : length new ≡ length old
+
+-- a row whose slots are both free
+abbrev pub free_row : List Slot
+free_row = record { owner = 0; next = 0; previous = 0 } ∷ record { owner = 0; next = 0; previous = 0 } ∷ []
+
+-- a row stands behind the slots of an arena, in no list yet
+pub record IsGrown (heads : List Head) (slots grown : List Slot) (at : ℕ) : Type 0 where
+  pub arena : IsArena heads slots
+  pub within : 0 < length heads
+  pub is : grown ≡ slots ++ free_row
+  pub len : length slots ≡ at

@@ -16,6 +16,7 @@ mod pairs;
 mod places;
 mod row;
 mod slot;
+mod room;
 mod sides;
 
 pub use arena::Arena;

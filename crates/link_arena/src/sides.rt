@@ -176,3 +176,20 @@ pub(crate) fn part_each(heads: &mut [Head], slots: &mut [Slot], end: u32)
 {
     while part_first(heads, slots, end) {}
 }
+
+/// Joins two ends by the first free slot and its twin.
+pub(crate) fn join_first(heads: &mut [Head], slots: &mut [Slot], first: u32, second: u32)
+    requires arena { IsArena heads.old slots.old }
+    requires first_within { first + 1 < length heads.old }
+    requires second_within { second + 1 < length heads.old }
+    requires apart { first ≢ second }
+    requires unjoined { ¬ Contains (others_of (links heads.old slots.old) first) second }
+    requires room { 0 < length (list_at heads.old slots.old 0) }
+    ensures arena { IsArena heads.new slots.new }
+    ensures count { length heads.new ≡ length heads.old }
+    ensures view { links heads.new slots.new ≡ joined (links heads.old slots.old) first second }
+{
+    if let Some(at) = first_of(heads, slots, 0) {
+        join_by(heads, slots, at, first, second);
+    }
+}

@@ -157,7 +157,7 @@ fn unlink(heads: &mut [Head], slots: &mut [Slot], id: usize, at: usize)
 }
 
 /// Puts a slot that stands in no list last in one.
-fn link(heads: &mut [Head], slots: &mut [Slot], id: usize, at: usize)
+pub(crate) fn link(heads: &mut [Head], slots: &mut [Slot], id: usize, at: usize)
     requires threaded { IsThreaded heads.old slots.old }
     requires within { id < length heads.old }
     requires slot_within { at < length slots.old }
