@@ -8,7 +8,7 @@ use Rattle.link_arena.specs.Links.{with_last, others_of}
 use Rattle.link_arena.specs.Threads.{IsIn}
 use Rattle.link_arena.specs.Lists.{owners, list_of, lists, list_at, owner_at, IsThreaded, IsAfter, IsFiled}
 use Rattle.link_arena.specs.Twins.{twin, other, shown, links, IsTwinned, IsArena, IsGrown, free_row}
-use Rattle.link_arena.proofs.Leads.{IsIn-left, IsIn-right}
+use Rattle.link_arena.proofs.Leads.{IsIn-left, IsIn-right, IsIn-either}
 use Rattle.link_arena.proofs.Shown.{map-same, at_shown, length-shown}
 use Rattle.link_arena.proofs.Filed.{IsIn-with_last}
 use Rattle.link_arena.proofs.Arenas.{owners_count}
@@ -110,3 +110,29 @@ grown_arena heads slots grown at at1 heads1 slots1 heads2 slots2 g next a1 o1 a2
       view = ap (shown (owners slots2)) eq2 ∙ view;
       room = omega (arith, ap length (ap (λ (l : List (List ℕ)). get_or l 0 []) eq2 ∙ zero2), length-append (get_or L1 0 []) (at1 ∷ []));
     }
+
+pub grown_threaded : (heads : List Head) (slots grown : List Slot) (at : ℕ) → IsGrown heads slots grown at → IsThreaded heads grown
+grown_threaded heads slots grown at g = subst (IsThreaded heads) (sym g.is) (threaded-more heads slots free_row g.arena.filed.threaded)
+
+pub grown_out : (heads : List Head) (slots grown : List Slot) (at x : ℕ) → IsGrown heads slots grown at → at ≤ x → (j : ℕ) → ¬ IsIn x (list_at heads grown j)
+grown_out heads slots grown at x g above j h =
+    let above' : length slots ≤ x = omega (arith, g.len) in
+    out-more heads slots free_row g.arena.filed.threaded x above' j (subst (λ (l : List Slot). IsIn x (list_at heads l j)) g.is h)
+
+pub grown_out_next : (heads : List Head) (slots grown : List Slot) (at x : ℕ) (heads1 : List Head) (slots1 : List Slot) → IsGrown heads slots grown at → at < x
+    → IsAfter heads grown heads1 slots1 0 (list_at heads grown 0 ++ at ∷ []) → (j : ℕ) → ¬ IsIn x (list_at heads1 slots1 j)
+grown_out_next heads slots grown at x heads1 slots1 g above a1 j h =
+    let L : List (List ℕ) = lists heads grown in
+    let le : at ≤ x = omega arith in
+    let h1 : IsIn x (get_or (with_last L 0 at) j []) = subst (λ (l : List (List ℕ)). IsIn x (get_or l j [])) a1.lists_are h in
+    let in0 : 0 < length L = omega (arith, g.within, length-map heads (list_of grown)) in
+    elim (cases_eq j 0) [
+      | inl e ↦
+          let h2 : IsIn x (get_or (with_last L 0 at) 0 []) = subst (λ (i : ℕ). IsIn x (get_or (with_last L 0 at) i [])) e h1 in
+          let h3 : IsIn x (get_or L 0 [] ++ at ∷ []) = subst (IsIn x) (get_or-set_same L 0 (others_of L 0 ++ at ∷ []) [] in0) h2 in
+          elim (IsIn-either x (get_or L 0 []) (at ∷ []) h3) [
+            | inl old ↦ grown_out heads slots grown at x g le 0 old
+            | inr new ↦ elim new [ inl same ↦ (let k : x ≡ at = same in omega arith) | inr none ↦ none ]
+          ]
+      | inr n ↦ grown_out heads slots grown at x g le j (subst (IsIn x) (get_or-set_other L 0 j (others_of L 0 ++ at ∷ []) [] n) h1)
+    ]

@@ -20,3 +20,4 @@ pub mod Simple
 pub mod Found
 pub mod Growth
 pub mod Grown
+pub mod Requeue

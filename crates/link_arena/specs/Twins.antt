@@ -2,6 +2,7 @@
 use Rattle.std.specs.Prelude.{◌≡◌, ◌≢◌, ℕ, ◌+◌, ◌-◌, ◌%◌, ◌≤◌, ◌<◌, ◌^◌, ◌==◌, ◌++◌, ◌∷◌, [], cond, List, map, drop, length, slice_index}
 use Rattle.link_arena.specs.declared.slot.Slot.{Slot}
 use Rattle.link_arena.specs.declared.slot.Head.{Head}
+use Rattle.link_arena.specs.Threads.{IsIn}
 use Rattle.link_arena.specs.Lists.{lists, owners, IsFiled}
 
 -- the other slot of a slot's row
@@ -49,3 +50,10 @@ pub record IsGrown (heads : List Head) (slots grown : List Slot) (at : ℕ) : Ty
   pub within : 0 < length heads
   pub is : grown ≡ slots ++ free_row
   pub len : length slots ≡ at
+
+-- slots that lead to ends
+pub record IsListed (slots : List Slot) (xs : List ℕ) : Type 0 where
+  pub within : (s : ℕ) → IsIn s xs → s < length slots
+  pub twin_within : (s : ℕ) → IsIn s xs → twin s < length slots
+  pub some : (s : ℕ) → IsIn s xs → 0 < slice_index (owners slots) (twin s)
+  pub few : (s : ℕ) → IsIn s xs → slice_index (owners slots) (twin s) ≤ 2 ^ 32

@@ -10,6 +10,7 @@
 
 mod arena;
 mod joins;
+mod listed;
 mod order;
 mod others;
 mod pairs;
