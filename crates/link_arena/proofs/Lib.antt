@@ -21,3 +21,4 @@ pub mod Found
 pub mod Growth
 pub mod Grown
 pub mod Requeue
+pub mod Heads
