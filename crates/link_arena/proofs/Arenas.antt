@@ -52,9 +52,9 @@ twice heads slots heads1 slots1 heads2 slots2 at t a b is e1 o1 e2 o2 =
     let own : owner_at slots1 t ≡ owner_at slots t = ap (λ (l : List ℕ). get_or l t 0) o1 ∙ get_or-set_other (owners slots) at t a 0 apart in
     record {
       lists_are = e2
-        ∙ (ap (λ (i : ℕ). moved_to (lists heads1 slots1) i b t) own
-        ∙ (ap (λ (l : List (List ℕ)). moved_to l (owner_at slots t) b t) e1
-        ∙ ap (λ (i : ℕ). moved_to (moved_to (lists heads slots) (owner_at slots at) a at) (owner_at slots i) b i) is));
+          ∙ (ap (λ (i : ℕ). moved_to (lists heads1 slots1) i b t) own
+          ∙ (ap (λ (l : List (List ℕ)). moved_to l (owner_at slots t) b t) e1
+          ∙ ap (λ (i : ℕ). moved_to (moved_to (lists heads slots) (owner_at slots at) a at) (owner_at slots i) b i) is));
       owners_are = o2 ∙ (ap (λ (l : List ℕ). set l t b) o1 ∙ ap (λ (i : ℕ). set (set (owners slots) at a) i b) is);
     }
 
@@ -91,17 +91,17 @@ joined_arena heads slots heads' slots' at a b ok within free a_in b_in differ un
     let b0 : suc b ≢ 0 = omega arith in
     let ab : suc a ≢ suc b = omega arith in
     let unnamed : (u : ℕ) → get_or O u 0 ≡ suc a → get_or O (twin u) 0 ≢ suc b = λ u own names.
-      let has : IsIn u (get_or L (suc a) []) = subst (λ (i : ℕ). IsIn u (get_or L i [])) own (ok.filed.all u (owner_within slots u a own)) in
-      let leads : other O u ≡ b = ap (λ (k : ℕ). k - 1) names ∙ (let k : suc b - 1 ≡ b = omega arith in k) in
-      let shown_has : Contains (map (other O) (get_or L (suc a) [])) b = subst (λ (k : ℕ). Contains (map (other O) (get_or L (suc a) [])) k) leads (contains_mapped (other O) (get_or L (suc a) []) u has) in
-      unjoined (subst (λ (l : List ℕ). Contains l b) (sym (at_shown O L a)) shown_has) in
+    let has : IsIn u (get_or L (suc a) []) = subst (λ (i : ℕ). IsIn u (get_or L i [])) own (ok.filed.all u (owner_within slots u a own)) in
+    let leads : other O u ≡ b = ap (λ (k : ℕ). k - 1) names ∙ (let k : suc b - 1 ≡ b = omega arith in k) in
+    let shown_has : Contains (map (other O) (get_or L (suc a) [])) b = subst (λ (k : ℕ). Contains (map (other O) (get_or L (suc a) [])) k) leads (contains_mapped (other O) (get_or L (suc a) []) u has) in
+    unjoined (subst (λ (l : List ℕ). Contains l b) (sym (at_shown O L a)) shown_has) in
     let view : shown (owners slots') (moved_to (moved_to L 0 (suc a) at) 0 (suc b) (twin at)) ≡ joined (shown O L) a b =
-      view-joined O (owners slots') L at a b ok.filed.threaded.owned r free twin_free
-        (subst (λ (n : ℕ). suc a < n) (sym (length-map heads (list_of slots))) a_in)
-        (subst (λ (n : ℕ). suc b < n) (sym (length-map heads (list_of slots))) b_in) differ in
+    view-joined O (owners slots') L at a b ok.filed.threaded.owned r free twin_free
+    (subst (λ (n : ℕ). suc a < n) (sym (length-map heads (list_of slots))) a_in)
+    (subst (λ (n : ℕ). suc b < n) (sym (length-map heads (list_of slots))) b_in) differ in
     let same_lists : lists heads' slots' ≡ moved_to (moved_to L 0 (suc a) at) 0 (suc b) (twin at) =
-      w.lists_are ∙ (ap (λ (i : ℕ). moved_to (moved_to L i (suc a) at) (owner_at slots (twin at)) (suc b) (twin at)) free
-      ∙ ap (λ (i : ℕ). moved_to (moved_to L 0 (suc a) at) i (suc b) (twin at)) twin_free) in
+    w.lists_are ∙ (ap (λ (i : ℕ). moved_to (moved_to L i (suc a) at) (owner_at slots (twin at)) (suc b) (twin at)) free
+    ∙ ap (λ (i : ℕ). moved_to (moved_to L 0 (suc a) at) i (suc b) (twin at)) twin_free) in
     record {
       arena = record {
         filed = filed;
@@ -125,8 +125,8 @@ parted_arena heads slots heads' slots' at a b ok at_a at_b filed w =
     let a_in : suc a < length L = in_some_list L (suc a) at (subst (λ (i : ℕ). IsIn at (get_or L i [])) at_a (ok.filed.all at within)) in
     let b_in : suc b < length L = in_some_list L (suc b) (twin at) (subst (λ (i : ℕ). IsIn (twin at) (get_or L i [])) at_b (ok.filed.all (twin at) (owner_within slots (twin at) b at_b))) in
     let same_lists : lists heads' slots' ≡ moved_to (moved_to L (suc a) 0 at) (suc b) 0 (twin at) =
-      w.lists_are ∙ (ap (λ (i : ℕ). moved_to (moved_to L i 0 at) (owner_at slots (twin at)) 0 (twin at)) at_a
-      ∙ ap (λ (i : ℕ). moved_to (moved_to L (suc a) 0 at) i 0 (twin at)) at_b) in
+    w.lists_are ∙ (ap (λ (i : ℕ). moved_to (moved_to L i 0 at) (owner_at slots (twin at)) 0 (twin at)) at_a
+    ∙ ap (λ (i : ℕ). moved_to (moved_to L (suc a) 0 at) i 0 (twin at)) at_b) in
     record {
       arena = record {
         filed = filed;
@@ -146,13 +146,13 @@ pub joined_steps : (heads : List Head) (slots : List Slot) (heads1 : List Head) 
     → IsAnswer heads2 slots2 (length heads) (joined (links heads slots) a b)
 joined_steps heads slots heads1 slots1 heads2 slots2 at t a b A B A_is B_is t_is ok within free a_in b_in differ unjoined filed e1 o1 e2 o2 =
     let w : IsTwice heads slots heads2 slots2 at A B (owner_at slots at) (owner_at slots (twin at)) =
-      twice heads slots heads1 slots1 heads2 slots2 at t A B t_is e1 o1 e2 o2 in
+    twice heads slots heads1 slots1 heads2 slots2 at t A B t_is e1 o1 e2 o2 in
     let w1 : IsTwice heads slots heads2 slots2 at (suc a) B (owner_at slots at) (owner_at slots (twin at)) =
-      subst (λ (i : ℕ). IsTwice heads slots heads2 slots2 at i B (owner_at slots at) (owner_at slots (twin at))) A_is w in
+    subst (λ (i : ℕ). IsTwice heads slots heads2 slots2 at i B (owner_at slots at) (owner_at slots (twin at))) A_is w in
     let w2 : IsTwice heads slots heads2 slots2 at (suc a) (suc b) (owner_at slots at) (owner_at slots (twin at)) =
-      subst (λ (i : ℕ). IsTwice heads slots heads2 slots2 at (suc a) i (owner_at slots at) (owner_at slots (twin at))) B_is w1 in
+    subst (λ (i : ℕ). IsTwice heads slots heads2 slots2 at (suc a) i (owner_at slots at) (owner_at slots (twin at))) B_is w1 in
     joined_arena heads slots heads2 slots2 at a b ok within free (subst (λ (i : ℕ). i < length heads) A_is a_in)
-      (subst (λ (i : ℕ). i < length heads) B_is b_in) differ unjoined filed w2
+    (subst (λ (i : ℕ). i < length heads) B_is b_in) differ unjoined filed w2
 
 pub parted_steps : (heads : List Head) (slots : List Slot) (heads1 : List Head) (slots1 : List Slot) (heads2 : List Head) (slots2 : List Slot) (at t : ℕ)
     → t ≡ twin at → IsArena heads slots → owner_at slots at ≢ 0 → IsFiled heads2 slots2
@@ -161,7 +161,7 @@ pub parted_steps : (heads : List Head) (slots : List Slot) (heads1 : List Head) 
     → IsAnswer heads2 slots2 (length heads) (parted (links heads slots) (owner_at slots at - 1) (owner_at slots (twin at) - 1))
 parted_steps heads slots heads1 slots1 heads2 slots2 at t t_is ok used filed e1 o1 e2 o2 =
     let w : IsTwice heads slots heads2 slots2 at 0 0 (owner_at slots at) (owner_at slots (twin at)) =
-      twice heads slots heads1 slots1 heads2 slots2 at t 0 0 t_is e1 o1 e2 o2 in
+    twice heads slots heads1 slots1 heads2 slots2 at t 0 0 t_is e1 o1 e2 o2 in
     let twin_used : owner_at slots (twin at) ≢ 0 = λ z. used (ap (λ (i : ℕ). owner_at slots i) (sym (twin-twin at)) ∙ ok.twinned.free (twin at) z) in
     let a_is : owner_at slots at ≡ suc (owner_at slots at - 1) = omega arith in
     let b_is : owner_at slots (twin at) ≡ suc (owner_at slots (twin at) - 1) = omega arith in

@@ -67,24 +67,24 @@ pub filed-moved : (heads : List Head) (slots : List Slot) (heads' : List Head) (
     → owners slots' ≡ set (owners slots) at to → IsFiled heads' slots'
 filed-moved heads slots heads' slots' to at ok within at_within threaded lists_are owners_are =
     let count : length slots' ≡ length slots =
-      sym (length-map slots' (λ (s : Slot). s.owner)) ∙ (ap length owners_are ∙ (length-set (owners slots) at to ∙ length-map slots (λ (s : Slot). s.owner))) in
+    sym (length-map slots' (λ (s : Slot). s.owner)) ∙ (ap length owners_are ∙ (length-set (owners slots) at to ∙ length-map slots (λ (s : Slot). s.owner))) in
     let mid : List (List ℕ) = without_other (lists heads slots) (owner_at slots at) at in
     record {
       threaded = threaded;
       all = λ s h.
-        let old : s < length slots = subst (λ (n : ℕ). s < n) count h in
-        let in_owners : at < length (owners slots) = subst (λ (n : ℕ). at < n) (sym (length-map slots (λ (s : Slot). s.owner))) at_within in
-        elim (cases_eq s at) [
-          | inl e ↦
-              let owner : owner_at slots' s ≡ to = ap (λ (l : List ℕ). get_or l s 0) owners_are ∙ (ap (λ (i : ℕ). get_or (set (owners slots) at to) i 0) e ∙ get_or-set_same (owners slots) at to 0 in_owners) in
-              let in_mid : to < length mid = subst (λ (n : ℕ). to < n) (sym (length-set (lists heads slots) (owner_at slots at) (without at (list_at heads slots (owner_at slots at))) ∙ length-map heads (list_of slots))) within in
-              let there : IsIn s (get_or (with_last mid to at) to []) = subst (IsIn s) (sym (get_or-set_same mid to (others_of mid to ++ at ∷ []) [] in_mid)) (IsIn-right s (others_of mid to) (at ∷ []) (inl e)) in
-              let there' : IsIn s (list_at heads' slots' to) = subst (λ (l : List (List ℕ)). IsIn s (get_or l to [])) (sym lists_are) there in
-              subst (λ (i : ℕ). IsIn s (list_at heads' slots' i)) (sym owner) there'
-          | inr n ↦
-              let owner : owner_at slots' s ≡ owner_at slots s = ap (λ (l : List ℕ). get_or l s 0) owners_are ∙ get_or-set_other (owners slots) at s to 0 n in
-              let there : IsIn s (get_or (with_last mid to at) (owner_at slots s) []) = IsIn-with_last mid to at (owner_at slots s) s (IsIn-without_other (lists heads slots) (owner_at slots at) at (owner_at slots s) s n (ok.all s old)) in
-              let there' : IsIn s (list_at heads' slots' (owner_at slots s)) = subst (λ (l : List (List ℕ)). IsIn s (get_or l (owner_at slots s) [])) (sym lists_are) there in
-              subst (λ (i : ℕ). IsIn s (list_at heads' slots' i)) (sym owner) there'
-        ];
+          let old : s < length slots = subst (λ (n : ℕ). s < n) count h in
+          let in_owners : at < length (owners slots) = subst (λ (n : ℕ). at < n) (sym (length-map slots (λ (s : Slot). s.owner))) at_within in
+          elim (cases_eq s at) [
+            | inl e ↦
+                let owner : owner_at slots' s ≡ to = ap (λ (l : List ℕ). get_or l s 0) owners_are ∙ (ap (λ (i : ℕ). get_or (set (owners slots) at to) i 0) e ∙ get_or-set_same (owners slots) at to 0 in_owners) in
+                let in_mid : to < length mid = subst (λ (n : ℕ). to < n) (sym (length-set (lists heads slots) (owner_at slots at) (without at (list_at heads slots (owner_at slots at))) ∙ length-map heads (list_of slots))) within in
+                let there : IsIn s (get_or (with_last mid to at) to []) = subst (IsIn s) (sym (get_or-set_same mid to (others_of mid to ++ at ∷ []) [] in_mid)) (IsIn-right s (others_of mid to) (at ∷ []) (inl e)) in
+                let there' : IsIn s (list_at heads' slots' to) = subst (λ (l : List (List ℕ)). IsIn s (get_or l to [])) (sym lists_are) there in
+                subst (λ (i : ℕ). IsIn s (list_at heads' slots' i)) (sym owner) there'
+            | inr n ↦
+                let owner : owner_at slots' s ≡ owner_at slots s = ap (λ (l : List ℕ). get_or l s 0) owners_are ∙ get_or-set_other (owners slots) at s to 0 n in
+                let there : IsIn s (get_or (with_last mid to at) (owner_at slots s) []) = IsIn-with_last mid to at (owner_at slots s) s (IsIn-without_other (lists heads slots) (owner_at slots at) at (owner_at slots s) s n (ok.all s old)) in
+                let there' : IsIn s (list_at heads' slots' (owner_at slots s)) = subst (λ (l : List (List ℕ)). IsIn s (get_or l (owner_at slots s) [])) (sym lists_are) there in
+                subst (λ (i : ℕ). IsIn s (list_at heads' slots' i)) (sym owner) there'
+          ];
     }

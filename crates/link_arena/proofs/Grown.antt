@@ -59,11 +59,11 @@ grown_arena heads slots grown at at1 heads1 slots1 heads2 slots2 g next a1 o1 a2
     let past : (u : ℕ) → at ≤ u → get_or O u 0 ≡ 0 = λ u h. get_or_past O u 0 (let k : length O ≤ u = omega (arith, owners_count slots, g.len) in k) in
     let step0 : (u : ℕ) → get_or (owners grown) u 0 ≡ get_or O u 0 = λ u. ap (λ (l : List ℕ). get_or l u 0) own_grown ∙ zeros O u in
     let step1 : (u : ℕ) → get_or (owners slots1) u 0 ≡ get_or O u 0 = λ u.
-      ap (λ (l : List ℕ). get_or l u 0) o1 ∙ (set_zero (owners grown) at u (step0 at ∙ past at (let k : at ≤ at = omega arith in k)) ∙ step0 u) in
+    ap (λ (l : List ℕ). get_or l u 0) o1 ∙ (set_zero (owners grown) at u (step0 at ∙ past at (let k : at ≤ at = omega arith in k)) ∙ step0 u) in
     let step2 : (u : ℕ) → get_or (owners slots2) u 0 ≡ get_or O u 0 = λ u.
-      ap (λ (l : List ℕ). get_or l u 0) o2 ∙ (set_zero (owners slots1) at1 u (step1 at1 ∙ past at1 (let k : at ≤ at1 = omega arith in k)) ∙ step1 u) in
+    ap (λ (l : List ℕ). get_or l u 0) o2 ∙ (set_zero (owners slots1) at1 u (step1 at1 ∙ past at1 (let k : at ≤ at1 = omega arith in k)) ∙ step1 u) in
     let len_own : length (owners slots2) ≡ length O + 2 =
-      ap length o2 ∙ (length-set (owners slots1) at1 0 ∙ (ap length o1 ∙ (length-set (owners grown) at 0 ∙ (ap length own_grown ∙ length-append O (0 ∷ 0 ∷ []))))) in
+    ap length o2 ∙ (length-set (owners slots1) at1 0 ∙ (ap length o1 ∙ (length-set (owners grown) at 0 ∙ (ap length own_grown ∙ length-append O (0 ∷ 0 ∷ []))))) in
     let even : length (owners slots2) % 2 ≡ 0 = (let k : length O % 2 ≡ 0 = g.arena.twinned.even in omega arith) in
     let cL : length L ≡ length heads = length-map heads (list_of slots) in
     let in0 : 0 < length L = omega (arith, g.within) in
@@ -75,33 +75,33 @@ grown_arena heads slots grown at at1 heads1 slots1 heads2 slots2 g next a1 o1 a2
     let has1 : IsIn at1 (get_or L2 0 []) = subst (IsIn at1) (sym zero2) (IsIn-right at1 (get_or L1 0 []) (at1 ∷ []) (inl refl)) in
     let has0 : IsIn at (get_or L2 0 []) = IsIn-with_last L1 0 at1 0 at (subst (IsIn at) (sym zero1) (IsIn-right at (get_or L 0 []) (at ∷ []) (inl refl))) in
     let count : length heads2 ≡ length heads =
-      sym (length-map heads2 (list_of slots2)) ∙ (ap length eq2 ∙ (len2 ∙ (len1 ∙ cL))) in
+    sym (length-map heads2 (list_of slots2)) ∙ (ap length eq2 ∙ (len2 ∙ (len1 ∙ cL))) in
     let others_same : (xs : List ℕ) → map (other (owners slots2)) xs ≡ map (other O) xs = λ xs.
-      map-same (other (owners slots2)) (other O) xs (λ u h. ap (λ (k : ℕ). k - 1) (step2 (twin u))) in
+    map-same (other (owners slots2)) (other O) xs (λ u h. ap (λ (k : ℕ). k - 1) (step2 (twin u))) in
     let lens : length (shown (owners slots2) L2) ≡ length (shown O L) = length-shown (owners slots2) L2 ∙ (ap (λ (n : ℕ). n - 1) (len2 ∙ len1) ∙ sym (length-shown O L)) in
     let view : shown (owners slots2) L2 ≡ shown O L = ext_get_or [] (shown (owners slots2) L2) (shown O L) lens (λ e h.
-      let n : suc e ≢ 0 = omega arith in
-      at_shown (owners slots2) L2 e
-      ∙ (others_same (get_or L2 (suc e) [])
-      ∙ (ap (map (other O)) (get_or-set_other L1 0 (suc e) (others_of L1 0 ++ at1 ∷ []) [] n ∙ get_or-set_other L 0 (suc e) (others_of L 0 ++ at ∷ []) [] n)
-      ∙ sym (at_shown O L e)))) in
+    let n : suc e ≢ 0 = omega arith in
+    at_shown (owners slots2) L2 e
+    ∙ (others_same (get_or L2 (suc e) [])
+    ∙ (ap (map (other O)) (get_or-set_other L1 0 (suc e) (others_of L1 0 ++ at1 ∷ []) [] n ∙ get_or-set_other L 0 (suc e) (others_of L 0 ++ at ∷ []) [] n)
+    ∙ sym (at_shown O L e)))) in
     record {
       arena = record {
         filed = record {
           threaded = a2.threaded;
           all = λ s h.
-            let bound : s < length slots + 2 = omega (arith, owners_count slots2, owners_count slots, len_own) in
-            let owned : IsIn s (get_or L2 (get_or O s 0) []) = elim (cases_lt s (length slots)) [
-              | inl old ↦ IsIn-with_last L1 0 at1 (get_or O s 0) s (IsIn-with_last L 0 at (get_or O s 0) s (g.arena.filed.all s old))
-              | inr new ↦
-                  let o : get_or O s 0 ≡ 0 = past s (let k : at ≤ s = omega (arith, g.len) in k) in
-                  let here : IsIn s (get_or L2 0 []) = elim (cases_eq s at) [
-                    | inl e ↦ subst (λ (i : ℕ). IsIn i (get_or L2 0 [])) (sym e) has0
-                    | inr n ↦ (let e : s ≡ at1 = omega (arith, g.len) in subst (λ (i : ℕ). IsIn i (get_or L2 0 [])) (sym e) has1)
-                  ] in
-                  subst (λ (i : ℕ). IsIn s (get_or L2 i [])) (sym o) here
-            ] in
-            subst (λ (i : ℕ). IsIn s (list_at heads2 slots2 i)) (sym (step2 s)) (subst (λ (l : List (List ℕ)). IsIn s (get_or l (get_or O s 0) [])) (sym eq2) owned);
+              let bound : s < length slots + 2 = omega (arith, owners_count slots2, owners_count slots, len_own) in
+              let owned : IsIn s (get_or L2 (get_or O s 0) []) = elim (cases_lt s (length slots)) [
+                | inl old ↦ IsIn-with_last L1 0 at1 (get_or O s 0) s (IsIn-with_last L 0 at (get_or O s 0) s (g.arena.filed.all s old))
+                | inr new ↦
+                    let o : get_or O s 0 ≡ 0 = past s (let k : at ≤ s = omega (arith, g.len) in k) in
+                    let here : IsIn s (get_or L2 0 []) = elim (cases_eq s at) [
+                      | inl e ↦ subst (λ (i : ℕ). IsIn i (get_or L2 0 [])) (sym e) has0
+                      | inr n ↦ (let e : s ≡ at1 = omega (arith, g.len) in subst (λ (i : ℕ). IsIn i (get_or L2 0 [])) (sym e) has1)
+                    ] in
+                    subst (λ (i : ℕ). IsIn s (get_or L2 i [])) (sym o) here
+              ] in
+              subst (λ (i : ℕ). IsIn s (list_at heads2 slots2 i)) (sym (step2 s)) (subst (λ (l : List (List ℕ)). IsIn s (get_or l (get_or O s 0) [])) (sym eq2) owned);
         };
         twinned = twinned-same O (owners slots2) even step2 g.arena.twinned;
         few = subst (λ (n : ℕ). n ≤ 2 ^ 32) (sym count) g.arena.few;

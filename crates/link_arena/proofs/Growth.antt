@@ -32,20 +32,20 @@ thread-more slots ws f l xs t =
       back = subst (λ (P : List ℕ). LeadsThrough P l (reverse xs)) (sym p) (leads-more (previouses slots) (previouses ws) l (reverse xs) (λ x h. (t.within x (IsIn-reverse x xs h)).1) t.back);
       apart = t.apart;
       within = λ x h.
-        let a : x < length (nexts slots) = (t.within x h).0 in
-        let b : x < length (previouses slots) = (t.within x h).1 in
-        (omega (arith, ap length n, length-append (nexts slots) (nexts ws)), omega (arith, ap length p, length-append (previouses slots) (previouses ws)));
+          let a : x < length (nexts slots) = (t.within x h).0 in
+          let b : x < length (previouses slots) = (t.within x h).1 in
+          (omega (arith, ap length n, length-append (nexts slots) (nexts ws)), omega (arith, ap length p, length-append (previouses slots) (previouses ws)));
     }
 
 pub lists-more : (heads : List Head) (slots ws : List Slot) → IsThreaded heads slots → lists heads (slots ++ ws) ≡ lists heads slots
 lists-more heads slots ws ok =
     let len : length (lists heads (slots ++ ws)) ≡ length (lists heads slots) = length-map heads (list_of (slots ++ ws)) ∙ sym (length-map heads (list_of slots)) in
     ext_get_or [] (lists heads (slots ++ ws)) (lists heads slots) len (λ j h.
-      let within : j < length heads = subst (λ (n : ℕ). j < n) (length-map heads (list_of (slots ++ ws))) h in
-      list_at-is heads (slots ++ ws) j within
-      ∙ thread-walk (slots ++ ws) (head_at heads j) (list_at heads slots j)
-          (thread-more slots ws (head_at heads j).first (head_at heads j).last (list_at heads slots j) (ok.thread j within))
-          (sym (length-list_at heads slots j within)))
+    let within : j < length heads = subst (λ (n : ℕ). j < n) (length-map heads (list_of (slots ++ ws))) h in
+    list_at-is heads (slots ++ ws) j within
+    ∙ thread-walk (slots ++ ws) (head_at heads j) (list_at heads slots j)
+    (thread-more slots ws (head_at heads j).first (head_at heads j).last (list_at heads slots j) (ok.thread j within))
+    (sym (length-list_at heads slots j within)))
 
 pub owners_below : (heads : List Head) (slots : List Slot) → IsThreaded heads slots → (j s : ℕ) → IsIn s (list_at heads slots j) → j < length heads → s < length slots
 owners_below heads slots ok j s h within = subst (λ (n : ℕ). s < n) (length-map slots (λ (x : Slot). x.next)) ((ok.thread j within).within s h).0
@@ -56,13 +56,13 @@ threaded-more heads slots ws ok =
     let own : owners (slots ++ ws) ≡ owners slots ++ owners ws = map-append (λ (s : Slot). s.owner) slots ws in
     record {
       thread = λ j h.
-        subst (λ (L : List (List ℕ)). IsThread (nexts (slots ++ ws)) (previouses (slots ++ ws)) (head_at heads j).first (head_at heads j).last (get_or L j [])) (sym same)
+          subst (λ (L : List (List ℕ)). IsThread (nexts (slots ++ ws)) (previouses (slots ++ ws)) (head_at heads j).first (head_at heads j).last (get_or L j [])) (sym same)
           (thread-more slots ws (head_at heads j).first (head_at heads j).last (list_at heads slots j) (ok.thread j h));
       owned = λ j s h.
-        let h' : IsIn s (list_at heads slots j) = subst (λ (L : List (List ℕ)). IsIn s (get_or L j [])) same h in
-        let jn : j < length heads = subst (λ (n : ℕ). j < n) (length-map heads (list_of slots)) (in_some_list (lists heads slots) j s h') in
-        let below : s < length (owners slots) = subst (λ (n : ℕ). s < n) (sym (owners_count slots)) (owners_below heads slots ok j s h' jn) in
-        ap (λ (O : List ℕ). get_or O s 0) own ∙ (get_or_append_left (owners slots) (owners ws) 0 s below ∙ ok.owned j s h');
+          let h' : IsIn s (list_at heads slots j) = subst (λ (L : List (List ℕ)). IsIn s (get_or L j [])) same h in
+          let jn : j < length heads = subst (λ (n : ℕ). j < n) (length-map heads (list_of slots)) (in_some_list (lists heads slots) j s h') in
+          let below : s < length (owners slots) = subst (λ (n : ℕ). s < n) (sym (owners_count slots)) (owners_below heads slots ok j s h' jn) in
+          ap (λ (O : List ℕ). get_or O s 0) own ∙ (get_or_append_left (owners slots) (owners ws) 0 s below ∙ ok.owned j s h');
     }
 
 pub out-more : (heads : List Head) (slots ws : List Slot) → IsThreaded heads slots → (at : ℕ) → length slots ≤ at → (j : ℕ) → ¬ IsIn at (list_at heads (slots ++ ws) j)

@@ -47,7 +47,7 @@ pub heads_threaded : (heads : List Head) (slots : List Slot) (n : ℕ) → IsThr
 heads_threaded heads slots n ok =
     let H : List Head = heads ++ replicate n (record { first = 0; last = 0; len = 0 }) in
     let at : (j : ℕ) → list_at H slots j ≡ list_at heads slots j = λ j.
-      ap (λ (l : List (List ℕ)). get_or l j []) (lists-heads heads slots n) ∙ grown_at (lists heads slots) n j in
+    ap (λ (l : List (List ℕ)). get_or l j []) (lists-heads heads slots n) ∙ grown_at (lists heads slots) n j in
     record {
       thread = λ j h. elim (cases_lt j (length heads)) [
         | inl old ↦
@@ -70,7 +70,7 @@ pub wider : (heads : List Head) (slots : List Slot) (n : ℕ) → IsArena heads 
 wider heads slots n ok some few =
     let h0 : Head = record { first = 0; last = 0; len = 0 } in
     let at : (j : ℕ) → list_at (heads ++ replicate n (record { first = 0; last = 0; len = 0 })) slots j ≡ list_at heads slots j = λ j.
-      ap (λ (l : List (List ℕ)). get_or l j []) (lists-heads heads slots n) ∙ grown_at (lists heads slots) n j in
+    ap (λ (l : List (List ℕ)). get_or l j []) (lists-heads heads slots n) ∙ grown_at (lists heads slots) n j in
     record {
       arena = record {
         filed = record {
@@ -90,5 +90,5 @@ wider heads slots n ok some few =
     widened : (L : List (List ℕ)) → 0 < length L → shown (owners slots) (L ++ replicate n []) ≡ shown (owners slots) L ++ replicate n []
     widened [] some = absurd (omega arith)
     widened (x ∷ L) some =
-      map-append (map (other (owners slots))) L (replicate n [])
-      ∙ ap (λ (l : List (List ℕ)). map (map (other (owners slots))) L ++ l) (maps (map (other (owners slots))) n refl)
+        map-append (map (other (owners slots))) L (replicate n [])
+        ∙ ap (λ (l : List (List ℕ)). map (map (other (owners slots))) L ++ l) (maps (map (other (owners slots))) n refl)

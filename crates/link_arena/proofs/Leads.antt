@@ -136,9 +136,10 @@ IsIn-reverse x (y ∷ ys) has =
 
 pub distinct-push : (xs : List ℕ) (x : ℕ) → IsDistinct xs → ¬ IsIn x xs → IsDistinct (xs ++ x ∷ [])
 distinct-push [] x apart out = (λ h. h, tt)
-distinct-push (y ∷ ys) x apart out =
-    (λ h. elim (IsIn-either y ys (x ∷ []) h) [ inl e ↦ apart.0 e | inr e ↦ elim e [ inl same ↦ out (inl (sym same)) | inr none ↦ none ] ],
-     distinct-push ys x apart.1 (λ h. out (inr h)))
+distinct-push (y ∷ ys) x apart out = (
+  λ h. elim (IsIn-either y ys (x ∷ []) h) [ inl e ↦ apart.0 e | inr e ↦ elim e [ inl same ↦ out (inl (sym same)) | inr none ↦ none ] ],
+  distinct-push ys x apart.1 (λ h. out (inr h)),
+)
 
 pub distinct-reverse : (xs : List ℕ) → IsDistinct xs → IsDistinct (reverse xs)
 distinct-reverse [] apart = tt
@@ -148,9 +149,10 @@ distinct-reverse (x ∷ xs) apart =
 
 pub distinct-out_of : (ys : List ℕ) (at : ℕ) (zs : List ℕ) → IsDistinct (ys ++ at ∷ zs) → IsDistinct (ys ++ zs)
 distinct-out_of [] at zs apart = apart.1
-distinct-out_of (y ∷ ys) at zs apart =
-    (λ h. apart.0 (elim (IsIn-either y ys zs h) [ inl e ↦ IsIn-left y ys (at ∷ zs) e | inr e ↦ IsIn-right y ys (at ∷ zs) (inr e) ]),
-     distinct-out_of ys at zs apart.1)
+distinct-out_of (y ∷ ys) at zs apart = (
+  λ h. apart.0 (elim (IsIn-either y ys zs h) [ inl e ↦ IsIn-left y ys (at ∷ zs) e | inr e ↦ IsIn-right y ys (at ∷ zs) (inr e) ]),
+  distinct-out_of ys at zs apart.1,
+)
 
 pub IsIn-out_of : (x : ℕ) (ys : List ℕ) (at : ℕ) (zs : List ℕ) → IsIn x (ys ++ zs) → IsIn x (ys ++ at ∷ zs)
 IsIn-out_of x ys at zs h = elim (IsIn-either x ys zs h) [ inl e ↦ IsIn-left x ys (at ∷ zs) e | inr e ↦ IsIn-right x ys (at ∷ zs) (inr e) ]
@@ -180,21 +182,22 @@ ahead_gives nexts previouses first last ys at zs t =
 pub thread-past : (nexts previouses : List ℕ) (first last : ℕ) (ys : List ℕ) (at : ℕ) (zs : List ℕ)
     → IsThread nexts previouses first last (ys ++ at ∷ zs)
     → IsThread (step_past nexts first (get_or previouses at 0) at) (step_past previouses last (get_or nexts at 0) at)
-        (start_past nexts first at) (start_past previouses last at) (ys ++ zs)
+    (start_past nexts first at) (start_past previouses last at) (ys ++ zs)
 thread-past nexts previouses first last ys at zs t =
     let back : LeadsThrough previouses last (reverse zs ++ at ∷ reverse ys) = subst (LeadsThrough previouses last) (reverse-around ys at zs) t.back in
     let apart : IsDistinct (reverse zs ++ at ∷ reverse ys) = subst IsDistinct (reverse-around ys at zs) (distinct-reverse (ys ++ at ∷ zs) t.apart) in
     record {
       ahead = leads-past nexts first ys at zs (get_or previouses at 0) t.ahead t.apart (back_gives nexts previouses first last ys at zs t)
-        (λ x h. (t.within x (IsIn-left x ys (at ∷ zs) h)).0);
+          (λ x h. (t.within x (IsIn-left x ys (at ∷ zs) h)).0);
       back = subst (LeadsThrough (step_past previouses last (get_or nexts at 0) at) (start_past previouses last at)) (sym (reverse-append ys zs))
-        (leads-past previouses last (reverse zs) at (reverse ys) (get_or nexts at 0) back apart (ahead_gives nexts previouses first last ys at zs t)
-        (λ x h. (t.within x (IsIn-right x ys (at ∷ zs) (inr (IsIn-reverse x zs h)))).1));
+          (leads-past previouses last (reverse zs) at (reverse ys) (get_or nexts at 0) back apart (ahead_gives nexts previouses first last ys at zs t)
+          (λ x h. (t.within x (IsIn-right x ys (at ∷ zs) (inr (IsIn-reverse x zs h)))).1));
       apart = distinct-out_of ys at zs t.apart;
       within = λ x h.
-        let w : (x < length nexts) × (x < length previouses) = t.within x (IsIn-out_of x ys at zs h) in
-        (subst (λ (n : ℕ). x < n) (sym (length-step_past nexts first (get_or previouses at 0) at)) w.0,
-         subst (λ (n : ℕ). x < n) (sym (length-step_past previouses last (get_or nexts at 0) at)) w.1);
+          let w : (x < length nexts) × (x < length previouses) = t.within x (IsIn-out_of x ys at zs h) in (
+            subst (λ (n : ℕ). x < n) (sym (length-step_past nexts first (get_or previouses at 0) at)) w.0,
+            subst (λ (n : ℕ). x < n) (sym (length-step_past previouses last (get_or nexts at 0) at)) w.1,
+          );
     }
 
 -- other lists stay, where a number is taken out
@@ -207,14 +210,15 @@ thread-beside nexts previouses first last ys at zs t f l xs out other =
     let apart : IsDistinct (reverse zs ++ at ∷ reverse ys) = subst IsDistinct (reverse-around ys at zs) (distinct-reverse (ys ++ at ∷ zs) t.apart) in
     record {
       ahead = leads-beside nexts first ys at zs (get_or previouses at 0) t.ahead t.apart (back_gives nexts previouses first last ys at zs t) f xs
-        (λ x h. out x (IsIn-left x ys (at ∷ zs) h)) other.ahead;
+          (λ x h. out x (IsIn-left x ys (at ∷ zs) h)) other.ahead;
       back = leads-beside previouses last (reverse zs) at (reverse ys) (get_or nexts at 0) back apart (ahead_gives nexts previouses first last ys at zs t) l (reverse xs)
-        (λ x h k. out x (IsIn-right x ys (at ∷ zs) (inr (IsIn-reverse x zs h))) (IsIn-reverse x xs k)) other.back;
+          (λ x h k. out x (IsIn-right x ys (at ∷ zs) (inr (IsIn-reverse x zs h))) (IsIn-reverse x xs k)) other.back;
       apart = other.apart;
       within = λ x h.
-        let w : (x < length nexts) × (x < length previouses) = other.within x h in
-        (subst (λ (n : ℕ). x < n) (sym (length-step_past nexts first (get_or previouses at 0) at)) w.0,
-         subst (λ (n : ℕ). x < n) (sym (length-step_past previouses last (get_or nexts at 0) at)) w.1);
+          let w : (x < length nexts) × (x < length previouses) = other.within x h in (
+            subst (λ (n : ℕ). x < n) (sym (length-step_past nexts first (get_or previouses at 0) at)) w.0,
+            subst (λ (n : ℕ). x < n) (sym (length-step_past previouses last (get_or nexts at 0) at)) w.1,
+          );
     }
 
 -- a number is put last
@@ -261,18 +265,19 @@ thread-onto nexts previouses first last xs at t out in_nexts in_previouses =
     record {
       ahead = leads-onto nexts first xs last at t.ahead t.apart (last_gives nexts previouses first last xs t) (λ x h. (t.within x h).0);
       back =
-        let is : get_or (set previouses at last) at 0 ≡ last = get_or-set_same previouses at last 0 in_previouses in
-        let rest : LeadsThrough (set previouses at last) last (reverse xs) = leads-set previouses last (reverse xs) at last (λ h. out (IsIn-reverse at xs h)) t.back in
-        let rest' : LeadsThrough (set previouses at last) (get_or (set previouses at last) at 0) (reverse xs) = rw is rest in
-        subst (LeadsThrough (set previouses at last) at) (sym (reverse-append xs (at ∷ []))) (refl, rest');
+          let is : get_or (set previouses at last) at 0 ≡ last = get_or-set_same previouses at last 0 in_previouses in
+          let rest : LeadsThrough (set previouses at last) last (reverse xs) = leads-set previouses last (reverse xs) at last (λ h. out (IsIn-reverse at xs h)) t.back in
+          let rest' : LeadsThrough (set previouses at last) (get_or (set previouses at last) at 0) (reverse xs) = rw is rest in
+          subst (LeadsThrough (set previouses at last) at) (sym (reverse-append xs (at ∷ []))) (refl, rest');
       apart = distinct-push xs at t.apart out;
       within = λ x h.
-        let w : (x < length nexts) × (x < length previouses) = elim (IsIn-either x xs (at ∷ []) h) [
-          | inl e ↦ t.within x e
-          | inr e ↦ elim e [ inl same ↦ subst (λ (k : ℕ). (k < length nexts) × (k < length previouses)) (sym same) (in_nexts, in_previouses) | inr none ↦ absurd none ]
-        ] in
-        (subst (λ (n : ℕ). x < n) (sym (length-step_onto nexts (length xs) last at)) w.0,
-         subst (λ (n : ℕ). x < n) (sym (length-set previouses at last)) w.1);
+          let w : (x < length nexts) × (x < length previouses) = elim (IsIn-either x xs (at ∷ []) h) [
+            | inl e ↦ t.within x e
+            | inr e ↦ elim e [ inl same ↦ subst (λ (k : ℕ). (k < length nexts) × (k < length previouses)) (sym same) (in_nexts, in_previouses) | inr none ↦ absurd none ]
+          ] in (
+            subst (λ (n : ℕ). x < n) (sym (length-step_onto nexts (length xs) last at)) w.0,
+            subst (λ (n : ℕ). x < n) (sym (length-set previouses at last)) w.1,
+          );
     }
 
 pub thread_onto-beside : (nexts previouses : List ℕ) (first last : ℕ) (xs : List ℕ) (at : ℕ)
@@ -285,9 +290,10 @@ thread_onto-beside nexts previouses first last xs at t f l ws out none other =
       back = leads-set previouses l (reverse ws) at last (λ h. none (IsIn-reverse at ws h)) other.back;
       apart = other.apart;
       within = λ x h.
-        let w : (x < length nexts) × (x < length previouses) = other.within x h in
-        (subst (λ (n : ℕ). x < n) (sym (length-step_onto nexts (length xs) last at)) w.0,
-         subst (λ (n : ℕ). x < n) (sym (length-set previouses at last)) w.1);
+          let w : (x < length nexts) × (x < length previouses) = other.within x h in (
+            subst (λ (n : ℕ). x < n) (sym (length-step_onto nexts (length xs) last at)) w.0,
+            subst (λ (n : ℕ). x < n) (sym (length-set previouses at last)) w.1,
+          );
     }
 
 -- a list parts around a number of it

@@ -22,3 +22,5 @@ pub mod Growth
 pub mod Grown
 pub mod Requeue
 pub mod Heads
+pub mod Marks
+pub mod Requeued

@@ -27,14 +27,14 @@ requeued-order rest done (y ∷ ys) apart differ there len =
     let apart' : IsDistinct (bs ++ y ∷ (cs ++ done)) = subst IsDistinct shape apart in
     let cut : without y (rest ++ done) ≡ bs ++ (cs ++ done) = ap (without y) shape ∙ without-around bs y (cs ++ done) apart' in
     let next : without y (rest ++ done) ++ y ∷ [] ≡ (bs ++ cs) ++ (done ++ y ∷ []) =
-      ap (λ (l : List ℕ). l ++ y ∷ []) (cut ∙ sym (append_assoc bs cs done)) ∙ append_assoc (bs ++ cs) done (y ∷ []) in
+    ap (λ (l : List ℕ). l ++ y ∷ []) (cut ∙ sym (append_assoc bs cs done)) ∙ append_assoc (bs ++ cs) done (y ∷ []) in
     let apart2 : IsDistinct ((bs ++ cs) ++ (done ++ y ∷ [])) = subst IsDistinct next (distinct_requeued y (rest ++ done) apart) in
     let there2 : (x : ℕ) → IsIn x ys → IsIn x (bs ++ cs) = λ x h.
-      let h1 : IsIn x (bs ++ y ∷ cs) = subst (IsIn x) parts.is (there x (inr h)) in
-      elim (IsIn-either x bs (y ∷ cs) h1) [
-        | inl b ↦ IsIn-left x bs cs b
-        | inr b ↦ elim b [ inl same ↦ absurd (differ.0 (subst (λ (i : ℕ). IsIn i ys) same h)) | inr c ↦ IsIn-right x bs cs c ]
-      ] in
+    let h1 : IsIn x (bs ++ y ∷ cs) = subst (IsIn x) parts.is (there x (inr h)) in
+    elim (IsIn-either x bs (y ∷ cs) h1) [
+      | inl b ↦ IsIn-left x bs cs b
+      | inr b ↦ elim b [ inl same ↦ absurd (differ.0 (subst (λ (i : ℕ). IsIn i ys) same h)) | inr c ↦ IsIn-right x bs cs c ]
+    ] in
     let len2 : length (bs ++ cs) ≡ length ys = omega (arith, len, ap length parts.is, length-append bs (y ∷ cs), length-append bs cs) in
     ap (λ (l : List ℕ). requeued l ys) next
     ∙ (requeued-order (bs ++ cs) (done ++ y ∷ []) ys apart2 differ.1 there2 len2 ∙ append_assoc done (y ∷ []) ys)

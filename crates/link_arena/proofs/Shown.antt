@@ -95,45 +95,45 @@ view-joined O N L s a b owned w free twin_free a_in b_in differ =
     let lenW : length W ≡ length V = length-set V a (others_of V a ++ b ∷ []) in
     let b_W : b < length W = omega arith in
     let lens : length (shown N L2) ≡ length (joined V a b) =
-      length-shown N L2 ∙ (ap (λ (n : ℕ). n - 1) two ∙ (sym lenV ∙ (sym lenW ∙ sym (length-set W b (others_of W b ++ a ∷ []))))) in
+    length-shown N L2 ∙ (ap (λ (n : ℕ). n - 1) two ∙ (sym lenV ∙ (sym lenW ∙ sym (length-set W b (others_of W b ++ a ∷ []))))) in
     let kept : (e : ℕ) → map (other N) (get_or L (suc e) []) ≡ map (other O) (get_or L (suc e) []) = λ e.
-      map-same (other N) (other O) (get_or L (suc e) []) (λ u h.
-        let own : get_or O u 0 ≡ suc e = owned (suc e) u h in
-        let n : u ≢ s = λ same. (let k : suc e ≡ 0 = sym own ∙ (ap (λ (i : ℕ). get_or O i 0) same ∙ free) in omega arith) in
-        let m : u ≢ t = λ same. (let k : suc e ≡ 0 = sym own ∙ (ap (λ (i : ℕ). get_or O i 0) same ∙ twin_free) in omega arith) in
-        ap (λ (k : ℕ). k - 1) (twin_kept O N s A B w u n m)) in
+    map-same (other N) (other O) (get_or L (suc e) []) (λ u h.
+    let own : get_or O u 0 ≡ suc e = owned (suc e) u h in
+    let n : u ≢ s = λ same. (let k : suc e ≡ 0 = sym own ∙ (ap (λ (i : ℕ). get_or O i 0) same ∙ free) in omega arith) in
+    let m : u ≢ t = λ same. (let k : suc e ≡ 0 = sym own ∙ (ap (λ (i : ℕ). get_or O i 0) same ∙ twin_free) in omega arith) in
+    ap (λ (k : ℕ). k - 1) (twin_kept O N s A B w u n m)) in
     let leads_s : other N s ≡ b = ap (λ (k : ℕ). k - 1) w.at_second ∙ (let k : suc b - 1 ≡ b = omega arith in k) in
     let leads_t : other N t ≡ a = ap (λ (k : ℕ). k - 1) (twin_of_second O N s A B w) ∙ (let k : suc a - 1 ≡ a = omega arith in k) in
     ext_get_or [] (shown N L2) (joined V a b) lens (λ e h.
-      at_shown N L2 e ∙ elim (cases_eq e a) [
-        | inl ea ↦
-            let here : get_or L2 A [] ≡ get_or L A [] ++ s ∷ [] = moved_at_other L1 0 B t A A0 AB ∙ moved_at_to L 0 A s a_in A0 in
-            let left : map (other N) (get_or L2 A []) ≡ map (other O) (get_or L A []) ++ b ∷ [] =
-              ap (map (other N)) here ∙ (map-append (other N) (get_or L A []) (s ∷ [])
-              ∙ (ap (λ (l : List ℕ). l ++ other N s ∷ []) (kept a) ∙ ap (λ (k : ℕ). map (other O) (get_or L A []) ++ k ∷ []) leads_s)) in
-            let right : get_or (joined V a b) a [] ≡ map (other O) (get_or L A []) ++ b ∷ [] =
-              get_or-set_other W b a (others_of W b ++ a ∷ []) [] differ
-              ∙ (get_or-set_same V a (others_of V a ++ b ∷ []) [] a_V ∙ ap (λ (l : List ℕ). l ++ b ∷ []) (at_shown O L a)) in
-            subst (λ (i : ℕ). map (other N) (get_or L2 (suc i) []) ≡ get_or (joined V a b) i []) (sym ea) (left ∙ sym right)
-        | inr na ↦ elim (cases_eq e b) [
-          | inl eb ↦
-              let here : get_or L2 B [] ≡ get_or L B [] ++ t ∷ [] =
-                moved_at_to L1 0 B t b_in1 B0 ∙ ap (λ (l : List ℕ). l ++ t ∷ []) (moved_at_other L 0 A s B B0 BA) in
-              let left : map (other N) (get_or L2 B []) ≡ map (other O) (get_or L B []) ++ a ∷ [] =
-                ap (map (other N)) here ∙ (map-append (other N) (get_or L B []) (t ∷ [])
-                ∙ (ap (λ (l : List ℕ). l ++ other N t ∷ []) (kept b) ∙ ap (λ (k : ℕ). map (other O) (get_or L B []) ++ k ∷ []) leads_t)) in
-              let right : get_or (joined V a b) b [] ≡ map (other O) (get_or L B []) ++ a ∷ [] =
-                get_or-set_same W b (others_of W b ++ a ∷ []) [] b_W
-                ∙ ap (λ (l : List ℕ). l ++ a ∷ []) (get_or-set_other V a b (others_of V a ++ b ∷ []) [] ba ∙ at_shown O L b) in
-              subst (λ (i : ℕ). map (other N) (get_or L2 (suc i) []) ≡ get_or (joined V a b) i []) (sym eb) (left ∙ sym right)
-          | inr nb ↦
-              let e0 : suc e ≢ 0 = omega arith in
-              let eA : suc e ≢ A = omega arith in
-              let eB : suc e ≢ B = omega arith in
-              ap (map (other N)) (moved_at_other L1 0 B t (suc e) e0 eB ∙ moved_at_other L 0 A s (suc e) e0 eA)
-              ∙ (kept e ∙ (sym (at_shown O L e) ∙ (sym (get_or-set_other V a e (others_of V a ++ b ∷ []) [] na) ∙ sym (get_or-set_other W b e (others_of W b ++ a ∷ []) [] nb))))
-          ]
-      ])
+    at_shown N L2 e ∙ elim (cases_eq e a) [
+      | inl ea ↦
+          let here : get_or L2 A [] ≡ get_or L A [] ++ s ∷ [] = moved_at_other L1 0 B t A A0 AB ∙ moved_at_to L 0 A s a_in A0 in
+          let left : map (other N) (get_or L2 A []) ≡ map (other O) (get_or L A []) ++ b ∷ [] =
+          ap (map (other N)) here ∙ (map-append (other N) (get_or L A []) (s ∷ [])
+          ∙ (ap (λ (l : List ℕ). l ++ other N s ∷ []) (kept a) ∙ ap (λ (k : ℕ). map (other O) (get_or L A []) ++ k ∷ []) leads_s)) in
+          let right : get_or (joined V a b) a [] ≡ map (other O) (get_or L A []) ++ b ∷ [] =
+          get_or-set_other W b a (others_of W b ++ a ∷ []) [] differ
+          ∙ (get_or-set_same V a (others_of V a ++ b ∷ []) [] a_V ∙ ap (λ (l : List ℕ). l ++ b ∷ []) (at_shown O L a)) in
+          subst (λ (i : ℕ). map (other N) (get_or L2 (suc i) []) ≡ get_or (joined V a b) i []) (sym ea) (left ∙ sym right)
+      | inr na ↦ elim (cases_eq e b) [
+        | inl eb ↦
+            let here : get_or L2 B [] ≡ get_or L B [] ++ t ∷ [] =
+            moved_at_to L1 0 B t b_in1 B0 ∙ ap (λ (l : List ℕ). l ++ t ∷ []) (moved_at_other L 0 A s B B0 BA) in
+            let left : map (other N) (get_or L2 B []) ≡ map (other O) (get_or L B []) ++ a ∷ [] =
+            ap (map (other N)) here ∙ (map-append (other N) (get_or L B []) (t ∷ [])
+            ∙ (ap (λ (l : List ℕ). l ++ other N t ∷ []) (kept b) ∙ ap (λ (k : ℕ). map (other O) (get_or L B []) ++ k ∷ []) leads_t)) in
+            let right : get_or (joined V a b) b [] ≡ map (other O) (get_or L B []) ++ a ∷ [] =
+            get_or-set_same W b (others_of W b ++ a ∷ []) [] b_W
+            ∙ ap (λ (l : List ℕ). l ++ a ∷ []) (get_or-set_other V a b (others_of V a ++ b ∷ []) [] ba ∙ at_shown O L b) in
+            subst (λ (i : ℕ). map (other N) (get_or L2 (suc i) []) ≡ get_or (joined V a b) i []) (sym eb) (left ∙ sym right)
+        | inr nb ↦
+            let e0 : suc e ≢ 0 = omega arith in
+            let eA : suc e ≢ A = omega arith in
+            let eB : suc e ≢ B = omega arith in
+            ap (map (other N)) (moved_at_other L1 0 B t (suc e) e0 eB ∙ moved_at_other L 0 A s (suc e) e0 eA)
+            ∙ (kept e ∙ (sym (at_shown O L e) ∙ (sym (get_or-set_other V a e (others_of V a ++ b ∷ []) [] na) ∙ sym (get_or-set_other W b e (others_of W b ++ a ∷ []) [] nb))))
+      ]
+    ])
 
 -- twins are parted
 
@@ -151,12 +151,13 @@ cut_view : (O N : List ℕ) (L : List (List ℕ)) (s a b : ℕ) → ((j u : ℕ)
 cut_view O N L s a b owned ok w at_s at_t =
     let differ : suc b ≢ suc a = λ e. ok.apart s (λ z. (let k : suc a ≡ 0 = sym at_s ∙ z in omega arith)) (at_t ∙ (e ∙ sym at_s)) in
     map-without (other N) (other O) s b (get_or L (suc a) []) (λ u h n.
-      let own : get_or O u 0 ≡ suc a = owned (suc a) u h in
-      let m : u ≢ twin s = λ e. differ (sym at_t ∙ (ap (λ (i : ℕ). get_or O i 0) (sym e) ∙ own)) in
-      let some : get_or O u 0 ≢ 0 = λ z. (let k : suc a ≡ 0 = sym own ∙ z in omega arith) in
-      let twin_some : get_or O (twin u) 0 ≢ 0 = λ z. some (ap (λ (i : ℕ). get_or O i 0) (sym (twin-twin u)) ∙ ok.free (twin u) z) in
-      (ap (λ (k : ℕ). k - 1) (twin_kept O N s 0 0 w u n m),
-       λ e. n (ok.single u s some (own ∙ sym at_s) (let k : get_or O (twin u) 0 ≡ get_or O (twin s) 0 = (let e' : get_or O (twin u) 0 - 1 ≡ b = e in omega arith) in k))))
+    let own : get_or O u 0 ≡ suc a = owned (suc a) u h in
+    let m : u ≢ twin s = λ e. differ (sym at_t ∙ (ap (λ (i : ℕ). get_or O i 0) (sym e) ∙ own)) in
+    let some : get_or O u 0 ≢ 0 = λ z. (let k : suc a ≡ 0 = sym own ∙ z in omega arith) in
+    let twin_some : get_or O (twin u) 0 ≢ 0 = λ z. some (ap (λ (i : ℕ). get_or O i 0) (sym (twin-twin u)) ∙ ok.free (twin u) z) in (
+      ap (λ (k : ℕ). k - 1) (twin_kept O N s 0 0 w u n m),
+      λ e. n (ok.single u s some (own ∙ sym at_s) (let k : get_or O (twin u) 0 ≡ get_or O (twin s) 0 = (let e' : get_or O (twin u) 0 - 1 ≡ b = e in omega arith) in k)),
+    ))
     (ap (λ (k : ℕ). k - 1) at_t ∙ (let k : suc b - 1 ≡ b = omega arith in k))
 
 pub view-parted : (O N : List ℕ) (L : List (List ℕ)) (s a b : ℕ)
@@ -186,38 +187,38 @@ view-parted O N L s a b owned ok w at_s at_t a_in b_in =
     let lenW : length W ≡ length V = length-set V a (without b (others_of V a)) in
     let b_W : b < length W = omega arith in
     let lens : length (shown N L2) ≡ length (parted V a b) =
-      length-shown N L2 ∙ (ap (λ (n : ℕ). n - 1) two ∙ (sym lenV ∙ (sym lenW ∙ sym (length-set W b (without a (others_of W b)))))) in
+    length-shown N L2 ∙ (ap (λ (n : ℕ). n - 1) two ∙ (sym lenV ∙ (sym lenW ∙ sym (length-set W b (without a (others_of W b)))))) in
     let kept : (e : ℕ) → suc e ≢ A → suc e ≢ B → map (other N) (get_or L (suc e) []) ≡ map (other O) (get_or L (suc e) []) = λ e nA nB.
-      map-same (other N) (other O) (get_or L (suc e) []) (λ u h.
-        let own : get_or O u 0 ≡ suc e = owned (suc e) u h in
-        let n : u ≢ s = λ same. nA (sym own ∙ (ap (λ (i : ℕ). get_or O i 0) same ∙ at_s)) in
-        let m : u ≢ t = λ same. nB (sym own ∙ (ap (λ (i : ℕ). get_or O i 0) same ∙ at_t)) in
-        ap (λ (k : ℕ). k - 1) (twin_kept O N s 0 0 w u n m)) in
+    map-same (other N) (other O) (get_or L (suc e) []) (λ u h.
+    let own : get_or O u 0 ≡ suc e = owned (suc e) u h in
+    let n : u ≢ s = λ same. nA (sym own ∙ (ap (λ (i : ℕ). get_or O i 0) same ∙ at_s)) in
+    let m : u ≢ t = λ same. nB (sym own ∙ (ap (λ (i : ℕ). get_or O i 0) same ∙ at_t)) in
+    ap (λ (k : ℕ). k - 1) (twin_kept O N s 0 0 w u n m)) in
     ext_get_or [] (shown N L2) (parted V a b) lens (λ e h.
-      at_shown N L2 e ∙ elim (cases_eq e a) [
-        | inl ea ↦
-            let here : get_or L2 A [] ≡ without s (get_or L A []) = moved_at_other L1 B 0 t A AB A0 ∙ moved_at_from L A 0 s a_in A0 in
-            let left : map (other N) (get_or L2 A []) ≡ without b (map (other O) (get_or L A [])) =
-              ap (map (other N)) here ∙ cut_view O N L s a b owned ok w at_s at_t in
-            let right : get_or (parted V a b) a [] ≡ without b (map (other O) (get_or L A [])) =
-              get_or-set_other W b a (without a (others_of W b)) [] ab
-              ∙ (get_or-set_same V a (without b (others_of V a)) [] a_V ∙ ap (without b) (at_shown O L a)) in
-            subst (λ (i : ℕ). map (other N) (get_or L2 (suc i) []) ≡ get_or (parted V a b) i []) (sym ea) (left ∙ sym right)
-        | inr na ↦ elim (cases_eq e b) [
-          | inl eb ↦
-              let here : get_or L2 B [] ≡ without t (get_or L B []) =
-                moved_at_from L1 B 0 t b_in1 B0 ∙ ap (without t) (moved_at_other L A 0 s B BA B0) in
-              let left : map (other N) (get_or L2 B []) ≡ without a (map (other O) (get_or L B [])) =
-                ap (map (other N)) here ∙ cut_view O N L t b a owned ok (rewritten-twin O N s 0 0 w) at_t (ap (λ (i : ℕ). get_or O i 0) (twin-twin s) ∙ at_s) in
-              let right : get_or (parted V a b) b [] ≡ without a (map (other O) (get_or L B [])) =
-                get_or-set_same W b (without a (others_of W b)) [] b_W
-                ∙ ap (without a) (get_or-set_other V a b (without b (others_of V a)) [] ba ∙ at_shown O L b) in
-              subst (λ (i : ℕ). map (other N) (get_or L2 (suc i) []) ≡ get_or (parted V a b) i []) (sym eb) (left ∙ sym right)
-          | inr nb ↦
-              let e0 : suc e ≢ 0 = omega arith in
-              let eA : suc e ≢ A = omega arith in
-              let eB : suc e ≢ B = omega arith in
-              ap (map (other N)) (moved_at_other L1 B 0 t (suc e) eB e0 ∙ moved_at_other L A 0 s (suc e) eA e0)
-              ∙ (kept e eA eB ∙ (sym (at_shown O L e) ∙ (sym (get_or-set_other V a e (without b (others_of V a)) [] na) ∙ sym (get_or-set_other W b e (without a (others_of W b)) [] nb))))
-          ]
-      ])
+    at_shown N L2 e ∙ elim (cases_eq e a) [
+      | inl ea ↦
+          let here : get_or L2 A [] ≡ without s (get_or L A []) = moved_at_other L1 B 0 t A AB A0 ∙ moved_at_from L A 0 s a_in A0 in
+          let left : map (other N) (get_or L2 A []) ≡ without b (map (other O) (get_or L A [])) =
+          ap (map (other N)) here ∙ cut_view O N L s a b owned ok w at_s at_t in
+          let right : get_or (parted V a b) a [] ≡ without b (map (other O) (get_or L A [])) =
+          get_or-set_other W b a (without a (others_of W b)) [] ab
+          ∙ (get_or-set_same V a (without b (others_of V a)) [] a_V ∙ ap (without b) (at_shown O L a)) in
+          subst (λ (i : ℕ). map (other N) (get_or L2 (suc i) []) ≡ get_or (parted V a b) i []) (sym ea) (left ∙ sym right)
+      | inr na ↦ elim (cases_eq e b) [
+        | inl eb ↦
+            let here : get_or L2 B [] ≡ without t (get_or L B []) =
+            moved_at_from L1 B 0 t b_in1 B0 ∙ ap (without t) (moved_at_other L A 0 s B BA B0) in
+            let left : map (other N) (get_or L2 B []) ≡ without a (map (other O) (get_or L B [])) =
+            ap (map (other N)) here ∙ cut_view O N L t b a owned ok (rewritten-twin O N s 0 0 w) at_t (ap (λ (i : ℕ). get_or O i 0) (twin-twin s) ∙ at_s) in
+            let right : get_or (parted V a b) b [] ≡ without a (map (other O) (get_or L B [])) =
+            get_or-set_same W b (without a (others_of W b)) [] b_W
+            ∙ ap (without a) (get_or-set_other V a b (without b (others_of V a)) [] ba ∙ at_shown O L b) in
+            subst (λ (i : ℕ). map (other N) (get_or L2 (suc i) []) ≡ get_or (parted V a b) i []) (sym eb) (left ∙ sym right)
+        | inr nb ↦
+            let e0 : suc e ≢ 0 = omega arith in
+            let eA : suc e ≢ A = omega arith in
+            let eB : suc e ≢ B = omega arith in
+            ap (map (other N)) (moved_at_other L1 B 0 t (suc e) eB e0 ∙ moved_at_other L A 0 s (suc e) eA e0)
+            ∙ (kept e eA eB ∙ (sym (at_shown O L e) ∙ (sym (get_or-set_other V a e (without b (others_of V a)) [] na) ∙ sym (get_or-set_other W b e (without a (others_of W b)) [] nb))))
+      ]
+    ])

@@ -36,10 +36,11 @@ unmapped f (x ∷ xs) y (inr has) =
 
 pub distinct-map : (f : ℕ → ℕ) (xs : List ℕ) → IsDistinct xs → ((x y : ℕ) → IsIn x xs → IsIn y xs → f x ≡ f y → x ≡ y) → IsDistinct (map f xs)
 distinct-map f [] apart one = tt
-distinct-map f (x ∷ xs) apart one =
-    (λ h. (let from : IsFrom f xs (f x) = unmapped f xs (f x) h in
+distinct-map f (x ∷ xs) apart one = (
+  λ h. (let from : IsFrom f xs (f x) = unmapped f xs (f x) h in
       apart.0 (subst (λ (k : ℕ). IsIn k xs) (one from.source x (inr from.there) (inl refl) from.is) from.there)),
-     distinct-map f xs apart.1 (λ y z a b. one y z (inr a) (inr b)))
+  distinct-map f xs apart.1 (λ y z a b. one y z (inr a) (inr b)),
+)
 
 pub pairs_from : (xs : List ℕ) → IsDistinct xs → (i j d : ℕ) → i < j → j < length xs → get_or xs i d ≢ get_or xs j d
 pairs_from [] apart i j d before within = absurd (omega arith)
@@ -82,7 +83,7 @@ shows heads slots ok u a b own leads =
     let there : IsIn u (get_or L (suc a) []) = subst (λ (i : ℕ). IsIn u (get_or L i [])) own (ok.filed.all u (owner_within slots u a own)) in
     let is : other O u ≡ b = ap (λ (k : ℕ). k - 1) leads ∙ (let k : suc b - 1 ≡ b = omega arith in k) in
     subst (λ (l : List ℕ). Contains l b) (sym (at_shown O L a))
-      (subst (λ (k : ℕ). Contains (map (other O) (get_or L (suc a) [])) k) is (contains_mapped (other O) (get_or L (suc a) []) u there))
+    (subst (λ (k : ℕ). Contains (map (other O) (get_or L (suc a) [])) k) is (contains_mapped (other O) (get_or L (suc a) []) u there))
 
 pub list_distinct : (heads : List Head) (slots : List Slot) → IsArena heads slots → (id : ℕ) → IsDistinct (list_at heads slots id)
 list_distinct heads slots ok id =
@@ -100,20 +101,20 @@ simple heads slots ok =
     let L : List (List ℕ) = lists heads slots in
     record {
       within = λ a b has.
-        let by : IsShownBy heads slots a b = shown_by heads slots ok a b has in
-        let there : suc b < length L = in_some_list L (suc b) (twin by.slot)
+          let by : IsShownBy heads slots a b = shown_by heads slots ok a b has in
+          let there : suc b < length L = in_some_list L (suc b) (twin by.slot)
           (subst (λ (i : ℕ). IsIn (twin by.slot) (get_or L i [])) by.leads (ok.filed.all (twin by.slot) (owner_within slots (twin by.slot) b by.leads))) in
-        let len : length (links heads slots) ≡ length L - 1 = length-shown O L in
-        omega arith;
+          let len : length (links heads slots) ≡ length L - 1 = length-shown O L in
+          omega arith;
       symmetric = λ a b has.
-        let by : IsShownBy heads slots a b = shown_by heads slots ok a b has in
-        shows heads slots ok (twin by.slot) b a by.leads (ap (λ (i : ℕ). owner_at slots i) (twin-twin by.slot) ∙ by.own);
+          let by : IsShownBy heads slots a b = shown_by heads slots ok a b has in
+          shows heads slots ok (twin by.slot) b a by.leads (ap (λ (i : ℕ). owner_at slots i) (twin-twin by.slot) ∙ by.own);
       loopless = λ a has.
-        let by : IsShownBy heads slots a a = shown_by heads slots ok a a has in
-        ok.twinned.apart by.slot (λ z. (let k : suc a ≡ 0 = sym by.own ∙ z in omega arith)) (by.leads ∙ sym by.own);
+          let by : IsShownBy heads slots a a = shown_by heads slots ok a a has in
+          ok.twinned.apart by.slot (λ z. (let k : suc a ≡ 0 = sym by.own ∙ z in omega arith)) (by.leads ∙ sym by.own);
       single = λ a.
-        let xs : List ℕ = get_or L (suc a) [] in
-        let apart : IsDistinct (map (other O) xs) = distinct-map (other O) xs (list_distinct heads slots ok (suc a)) (λ x y hx hy e.
+          let xs : List ℕ = get_or L (suc a) [] in
+          let apart : IsDistinct (map (other O) xs) = distinct-map (other O) xs (list_distinct heads slots ok (suc a)) (λ x y hx hy e.
           let ox : owner_at slots x ≡ suc a = ok.filed.threaded.owned (suc a) x hx in
           let oy : owner_at slots y ≡ suc a = ok.filed.threaded.owned (suc a) y hy in
           let sx : owner_at slots (twin x) ≢ 0 = used_twin heads slots ok x a ox in
@@ -121,5 +122,5 @@ simple heads slots ok =
           let e' : owner_at slots (twin x) - 1 ≡ owner_at slots (twin y) - 1 = e in
           let same : owner_at slots (twin x) ≡ owner_at slots (twin y) = omega arith in
           ok.twinned.single x y (λ z. (let k : suc a ≡ 0 = sym ox ∙ z in omega arith)) (ox ∙ sym oy) same) in
-        subst (AllPairs (λ x y. x ≢ y)) (sym (at_shown O L a)) (pairs_from (map (other O) xs) apart);
+          subst (AllPairs (λ x y. x ≢ y)) (sym (at_shown O L a)) (pairs_from (map (other O) xs) apart);
     }

@@ -36,7 +36,7 @@ thread-walk slots head xs t len =
 pub rebuilt : (heads : List Head) (slots : List Slot) (id : ℕ) (h' : Head) (slots' : List Slot) (xs : List ℕ) → id < length heads
     → IsThread (nexts slots') (previouses slots') h'.first h'.last xs → h'.len ≡ length xs
     → ((j : ℕ) → j < length heads → j ≢ id
-        → IsThread (nexts slots') (previouses slots') (head_at heads j).first (head_at heads j).last (list_at heads slots j))
+    → IsThread (nexts slots') (previouses slots') (head_at heads j).first (head_at heads j).last (list_at heads slots j))
     → ((j s : ℕ) → IsIn s (get_or (set (lists heads slots) id xs) j []) → get_or (owners slots') s 0 ≡ j)
     → IsAfter heads slots (set heads id h') slots' id xs
 rebuilt heads slots id h' slots' xs within mine len beside owned =
@@ -44,42 +44,42 @@ rebuilt heads slots id h' slots' xs within mine len beside owned =
     let count : length heads' ≡ length heads = length-set heads id h' in
     let here : head_at heads' id ≡ h' = get_or-set_same heads id h' (record { first = 0; last = 0; len = 0 }) within in
     let same_len : length (lists heads' slots') ≡ length (set (lists heads slots) id xs) =
-      length-map heads' (list_of slots') ∙ (count ∙ (sym (length-map heads (list_of slots)) ∙ sym (length-set (lists heads slots) id xs))) in
+    length-map heads' (list_of slots') ∙ (count ∙ (sym (length-map heads (list_of slots)) ∙ sym (length-set (lists heads slots) id xs))) in
     let in_lists : id < length (lists heads slots) = subst (λ (n : ℕ). id < n) (sym (length-map heads (list_of slots))) within in
     let each : (j : ℕ) → j < length (lists heads' slots') → get_or (lists heads' slots') j [] ≡ get_or (set (lists heads slots) id xs) j [] = λ j h.
-      let jn : j < length heads' = subst (λ (n : ℕ). j < n) (length-map heads' (list_of slots')) h in
-      let jo : j < length heads = subst (λ (n : ℕ). j < n) count jn in
-      elim (cases_eq j id) [
-        | inl e ↦
-            let at_id : get_or (lists heads' slots') id [] ≡ get_or (set (lists heads slots) id xs) id [] =
-              list_at-is heads' slots' id (subst (λ (n : ℕ). id < n) (sym count) within)
-              ∙ (ap (list_of slots') here ∙ (thread-walk slots' h' xs mine len ∙ sym (get_or-set_same (lists heads slots) id xs [] in_lists))) in
-            subst (λ (k : ℕ). get_or (lists heads' slots') k [] ≡ get_or (set (lists heads slots) id xs) k []) (sym e) at_id
-        | inr n ↦
-            list_at-is heads' slots' j jn
-            ∙ (ap (list_of slots') (get_or-set_other heads id j h' (record { first = 0; last = 0; len = 0 }) n)
-            ∙ (thread-walk slots' (head_at heads j) (list_at heads slots j) (beside j jo n) (sym (length-list_at heads slots j jo))
-            ∙ sym (get_or-set_other (lists heads slots) id j xs [] n)))
-      ] in
+    let jn : j < length heads' = subst (λ (n : ℕ). j < n) (length-map heads' (list_of slots')) h in
+    let jo : j < length heads = subst (λ (n : ℕ). j < n) count jn in
+    elim (cases_eq j id) [
+      | inl e ↦
+          let at_id : get_or (lists heads' slots') id [] ≡ get_or (set (lists heads slots) id xs) id [] =
+          list_at-is heads' slots' id (subst (λ (n : ℕ). id < n) (sym count) within)
+          ∙ (ap (list_of slots') here ∙ (thread-walk slots' h' xs mine len ∙ sym (get_or-set_same (lists heads slots) id xs [] in_lists))) in
+          subst (λ (k : ℕ). get_or (lists heads' slots') k [] ≡ get_or (set (lists heads slots) id xs) k []) (sym e) at_id
+      | inr n ↦
+          list_at-is heads' slots' j jn
+          ∙ (ap (list_of slots') (get_or-set_other heads id j h' (record { first = 0; last = 0; len = 0 }) n)
+          ∙ (thread-walk slots' (head_at heads j) (list_at heads slots j) (beside j jo n) (sym (length-list_at heads slots j jo))
+          ∙ sym (get_or-set_other (lists heads slots) id j xs [] n)))
+    ] in
     let eq : lists heads' slots' ≡ set (lists heads slots) id xs = ext_get_or [] (lists heads' slots') (set (lists heads slots) id xs) same_len each in
     record {
       threaded = record {
         thread = λ j h.
-          let jo : j < length heads = subst (λ (n : ℕ). j < n) count h in
-          elim (cases_eq j id) [
-            | inl e ↦
-                let list_is : list_at heads' slots' id ≡ xs = ap (λ (l : List (List ℕ)). get_or l id []) eq ∙ get_or-set_same (lists heads slots) id xs [] in_lists in
-                let P : ℕ → Type 0 = λ (k : ℕ). IsThread (nexts slots') (previouses slots') (head_at heads' k).first (head_at heads' k).last (list_at heads' slots' k) in
-                let Q : Head → Type 0 = λ (k : Head). IsThread (nexts slots') (previouses slots') k.first k.last (list_at heads' slots' id) in
-                let R : List ℕ → Type 0 = λ (l : List ℕ). IsThread (nexts slots') (previouses slots') h'.first h'.last l in
-                subst P (sym e) (subst Q (sym here) (subst R (sym list_is) mine))
-            | inr n ↦
-                let list_is : list_at heads' slots' j ≡ list_at heads slots j = ap (λ (l : List (List ℕ)). get_or l j []) eq ∙ get_or-set_other (lists heads slots) id j xs [] n in
-                let there : head_at heads' j ≡ head_at heads j = get_or-set_other heads id j h' (record { first = 0; last = 0; len = 0 }) n in
-                let Q : Head → Type 0 = λ (k : Head). IsThread (nexts slots') (previouses slots') k.first k.last (list_at heads' slots' j) in
-                let R : List ℕ → Type 0 = λ (l : List ℕ). IsThread (nexts slots') (previouses slots') (head_at heads j).first (head_at heads j).last l in
-                subst Q (sym there) (subst R (sym list_is) (beside j jo n))
-          ];
+            let jo : j < length heads = subst (λ (n : ℕ). j < n) count h in
+            elim (cases_eq j id) [
+              | inl e ↦
+                  let list_is : list_at heads' slots' id ≡ xs = ap (λ (l : List (List ℕ)). get_or l id []) eq ∙ get_or-set_same (lists heads slots) id xs [] in_lists in
+                  let P : ℕ → Type 0 = λ (k : ℕ). IsThread (nexts slots') (previouses slots') (head_at heads' k).first (head_at heads' k).last (list_at heads' slots' k) in
+                  let Q : Head → Type 0 = λ (k : Head). IsThread (nexts slots') (previouses slots') k.first k.last (list_at heads' slots' id) in
+                  let R : List ℕ → Type 0 = λ (l : List ℕ). IsThread (nexts slots') (previouses slots') h'.first h'.last l in
+                  subst P (sym e) (subst Q (sym here) (subst R (sym list_is) mine))
+              | inr n ↦
+                  let list_is : list_at heads' slots' j ≡ list_at heads slots j = ap (λ (l : List (List ℕ)). get_or l j []) eq ∙ get_or-set_other (lists heads slots) id j xs [] n in
+                  let there : head_at heads' j ≡ head_at heads j = get_or-set_other heads id j h' (record { first = 0; last = 0; len = 0 }) n in
+                  let Q : Head → Type 0 = λ (k : Head). IsThread (nexts slots') (previouses slots') k.first k.last (list_at heads' slots' j) in
+                  let R : List ℕ → Type 0 = λ (l : List ℕ). IsThread (nexts slots') (previouses slots') (head_at heads j).first (head_at heads j).last l in
+                  subst Q (sym there) (subst R (sym list_is) (beside j jo n))
+            ];
         owned = λ j s h. owned j s (subst (λ (l : List (List ℕ)). IsIn s (get_or l j [])) eq h);
       };
       lists_are = eq;
@@ -119,27 +119,27 @@ unlinked heads slots id at h' slots' ok within there first last len nexts_are pr
     let t : IsThread N P h.first h.last (ys ++ at ∷ zs) = subst (IsThread N P h.first h.last) parts.is (ok.thread id within) in
     let cut : without at xs ≡ ys ++ zs = ap (without at) parts.is ∙ without-around ys at zs t.apart in
     let mine : IsThread (nexts slots') (previouses slots') h'.first h'.last (ys ++ zs) =
-      thread-by N' (nexts slots') P' (previouses slots') (start_past N h.first at) h'.first (start_past P h.last at) h'.last (ys ++ zs)
-        nexts_are previouses_are first last (thread-past N P h.first h.last ys at zs t) in
+    thread-by N' (nexts slots') P' (previouses slots') (start_past N h.first at) h'.first (start_past P h.last at) h'.last (ys ++ zs)
+    nexts_are previouses_are first last (thread-past N P h.first h.last ys at zs t) in
     let mine' : IsThread (nexts slots') (previouses slots') h'.first h'.last (without at xs) =
-      subst (IsThread (nexts slots') (previouses slots') h'.first h'.last) (sym cut) mine in
+    subst (IsThread (nexts slots') (previouses slots') h'.first h'.last) (sym cut) mine in
     let len1 : length ys + length (at ∷ zs) ≡ h.len = sym (length-append ys (at ∷ zs)) ∙ (ap length (sym parts.is) ∙ length-list_at heads slots id within) in
     let len2 : length (without at xs) ≡ length ys + length zs = ap length cut ∙ length-append ys zs in
     let len' : h'.len ≡ length (without at xs) = omega (arith, len, len1, len2) in
     let in_lists : id < length (lists heads slots) = subst (λ (n : ℕ). id < n) (sym (length-map heads (list_of slots))) within in
     rebuilt heads slots id h' slots' (without at xs) within mine' len'
-      (λ j jo n. thread-by N' (nexts slots') P' (previouses slots') (head_at heads j).first (head_at heads j).first (head_at heads j).last (head_at heads j).last (list_at heads slots j)
-        nexts_are previouses_are refl refl
-        (thread-beside N P h.first h.last ys at zs t (head_at heads j).first (head_at heads j).last (list_at heads slots j)
-          (λ x k. apart_lists heads slots ok id j n x (subst (IsIn x) (sym parts.is) k)) (ok.thread j jo)))
-      (λ j s k. ap (λ (l : List ℕ). get_or l s 0) owners_are ∙ elim (cases_eq j id) [
-        | inl e ↦
-            let k1 : IsIn s (get_or (set (lists heads slots) id (without at xs)) id []) = subst (λ (i : ℕ). IsIn s (get_or (set (lists heads slots) id (without at xs)) i [])) e k in
-            let k2 : IsIn s (without at xs) = subst (IsIn s) (get_or-set_same (lists heads slots) id (without at xs) [] in_lists) k1 in
-            let k3 : IsIn s (ys ++ at ∷ zs) = IsIn-out_of s ys at zs (subst (IsIn s) cut k2) in
-            ok.owned id s (subst (IsIn s) (sym parts.is) k3) ∙ sym e
-        | inr n ↦ ok.owned j s (subst (IsIn s) (get_or-set_other (lists heads slots) id j (without at xs) [] n) k)
-      ])
+    (λ j jo n. thread-by N' (nexts slots') P' (previouses slots') (head_at heads j).first (head_at heads j).first (head_at heads j).last (head_at heads j).last (list_at heads slots j)
+    nexts_are previouses_are refl refl
+    (thread-beside N P h.first h.last ys at zs t (head_at heads j).first (head_at heads j).last (list_at heads slots j)
+    (λ x k. apart_lists heads slots ok id j n x (subst (IsIn x) (sym parts.is) k)) (ok.thread j jo)))
+    (λ j s k. ap (λ (l : List ℕ). get_or l s 0) owners_are ∙ elim (cases_eq j id) [
+      | inl e ↦
+          let k1 : IsIn s (get_or (set (lists heads slots) id (without at xs)) id []) = subst (λ (i : ℕ). IsIn s (get_or (set (lists heads slots) id (without at xs)) i [])) e k in
+          let k2 : IsIn s (without at xs) = subst (IsIn s) (get_or-set_same (lists heads slots) id (without at xs) [] in_lists) k1 in
+          let k3 : IsIn s (ys ++ at ∷ zs) = IsIn-out_of s ys at zs (subst (IsIn s) cut k2) in
+          ok.owned id s (subst (IsIn s) (sym parts.is) k3) ∙ sym e
+      | inr n ↦ ok.owned j s (subst (IsIn s) (get_or-set_other (lists heads slots) id j (without at xs) [] n) k)
+    ])
 
 -- a list of different numbers below n has n at most
 
@@ -188,7 +188,7 @@ pigeon zero [] apart below = omega arith
 pigeon zero (x ∷ xs) apart below = let h : x < 0 = below x (inl refl) in absurd (omega arith)
 pigeon (suc n) xs apart below =
     let rest : length (without n xs) ≤ n = pigeon n (without n xs) (distinct-without n xs apart)
-      (λ x h. let w : IsIn x xs × (x ≢ n) = IsIn-without x n xs h in let lt : x < suc n = below x w.0 in let ne : x ≢ n = w.1 in omega arith) in
+    (λ x h. let w : IsIn x xs × (x ≢ n) = IsIn-without x n xs h in let lt : x < suc n = below x w.0 in let ne : x ≢ n = w.1 in omega arith) in
     omega (arith, rest, length-without_one n xs apart)
 
 -- a slot that stands in no list is put last in one
@@ -200,10 +200,10 @@ room_for heads slots id at ok within at_within out =
     let t : IsThread (nexts slots) (previouses slots) (head_at heads id).first (head_at heads id).last xs = ok.thread id within in
     let count : length (nexts slots) ≡ length slots = length-map slots (λ (s : Slot). s.next) in
     let le : length (xs ++ at ∷ []) ≤ length slots = pigeon (length slots) (xs ++ at ∷ []) (distinct-push xs at t.apart out)
-      (λ x h. elim (IsIn-either x xs (at ∷ []) h) [
-        | inl e ↦ subst (λ (n : ℕ). x < n) count (t.within x e).0
-        | inr e ↦ elim e [ inl same ↦ subst (λ (k : ℕ). k < length slots) (sym same) at_within | inr none ↦ absurd none ]
-      ]) in
+    (λ x h. elim (IsIn-either x xs (at ∷ []) h) [
+      | inl e ↦ subst (λ (n : ℕ). x < n) count (t.within x e).0
+      | inr e ↦ elim e [ inl same ↦ subst (λ (k : ℕ). k < length slots) (sym same) at_within | inr none ↦ absurd none ]
+    ]) in
     omega (arith, le, length_push xs at, length-list_at heads slots id within)
 
 pub linked : (heads : List Head) (slots : List Slot) (id at : ℕ) (h' : Head) (slots' : List Slot) → IsThreaded heads slots → id < length heads
@@ -230,33 +230,33 @@ linked heads slots id at h' slots' ok within at_within out first last len nexts_
     let nexts_are' : nexts slots' ≡ N' = nexts_are ∙ ap (λ (n : ℕ). step_onto N n h.last at) (sym count) in
     let first' : h'.first ≡ start_onto (length xs) h.first at = first ∙ ap (λ (n : ℕ). start_onto n h.first at) (sym count) in
     let mine : IsThread (nexts slots') (previouses slots') h'.first h'.last (xs ++ at ∷ []) =
-      thread-by N' (nexts slots') P' (previouses slots') (start_onto (length xs) h.first at) h'.first at h'.last (xs ++ at ∷ [])
-        nexts_are' previouses_are first' last (thread-onto N P h.first h.last xs at t (out id) in_nexts in_previouses) in
+    thread-by N' (nexts slots') P' (previouses slots') (start_onto (length xs) h.first at) h'.first at h'.last (xs ++ at ∷ [])
+    nexts_are' previouses_are first' last (thread-onto N P h.first h.last xs at t (out id) in_nexts in_previouses) in
     let len' : h'.len ≡ length (xs ++ at ∷ []) = omega (arith, len, length_push xs at, count) in
     let in_lists : id < length (lists heads slots) = subst (λ (n : ℕ). id < n) (sym (length-map heads (list_of slots))) within in
     rebuilt heads slots id h' slots' (xs ++ at ∷ []) within mine len'
-      (λ j jo n. thread-by N' (nexts slots') P' (previouses slots') (head_at heads j).first (head_at heads j).first (head_at heads j).last (head_at heads j).last (list_at heads slots j)
-        nexts_are' previouses_are refl refl
-        (thread_onto-beside N P h.first h.last xs at t (head_at heads j).first (head_at heads j).last (list_at heads slots j)
-          (λ x k. apart_lists heads slots ok id j n x k) (out j) (ok.thread j jo)))
-      (λ j s k. ap (λ (l : List ℕ). get_or l s 0) owners_are ∙ elim (cases_eq j id) [
-        | inl e ↦
-            let k1 : IsIn s (get_or (set (lists heads slots) id (xs ++ at ∷ [])) id []) = subst (λ (i : ℕ). IsIn s (get_or (set (lists heads slots) id (xs ++ at ∷ [])) i [])) e k in
-            let k2 : IsIn s (xs ++ at ∷ []) = subst (IsIn s) (get_or-set_same (lists heads slots) id (xs ++ at ∷ []) [] in_lists) k1 in
-            elim (IsIn-either s xs (at ∷ []) k2) [
-              | inl old ↦
-                  let n : s ≢ at = λ same. out id (subst (λ (i : ℕ). IsIn i xs) same old) in
-                  get_or-set_other (owners slots) at s id 0 n ∙ (ok.owned id s old ∙ sym e)
-              | inr new ↦ elim new [
-                  | inl same ↦ ap (λ (i : ℕ). get_or (set (owners slots) at id) i 0) same ∙ (get_or-set_same (owners slots) at id 0 in_owners ∙ sym e)
-                  | inr none ↦ absurd none
-                ]
+    (λ j jo n. thread-by N' (nexts slots') P' (previouses slots') (head_at heads j).first (head_at heads j).first (head_at heads j).last (head_at heads j).last (list_at heads slots j)
+    nexts_are' previouses_are refl refl
+    (thread_onto-beside N P h.first h.last xs at t (head_at heads j).first (head_at heads j).last (list_at heads slots j)
+    (λ x k. apart_lists heads slots ok id j n x k) (out j) (ok.thread j jo)))
+    (λ j s k. ap (λ (l : List ℕ). get_or l s 0) owners_are ∙ elim (cases_eq j id) [
+      | inl e ↦
+          let k1 : IsIn s (get_or (set (lists heads slots) id (xs ++ at ∷ [])) id []) = subst (λ (i : ℕ). IsIn s (get_or (set (lists heads slots) id (xs ++ at ∷ [])) i [])) e k in
+          let k2 : IsIn s (xs ++ at ∷ []) = subst (IsIn s) (get_or-set_same (lists heads slots) id (xs ++ at ∷ []) [] in_lists) k1 in
+          elim (IsIn-either s xs (at ∷ []) k2) [
+            | inl old ↦
+                let n : s ≢ at = λ same. out id (subst (λ (i : ℕ). IsIn i xs) same old) in
+                get_or-set_other (owners slots) at s id 0 n ∙ (ok.owned id s old ∙ sym e)
+            | inr new ↦ elim new [
+              | inl same ↦ ap (λ (i : ℕ). get_or (set (owners slots) at id) i 0) same ∙ (get_or-set_same (owners slots) at id 0 in_owners ∙ sym e)
+              | inr none ↦ absurd none
             ]
-        | inr n ↦
-            let old : IsIn s (list_at heads slots j) = subst (IsIn s) (get_or-set_other (lists heads slots) id j (xs ++ at ∷ []) [] n) k in
-            let ne : s ≢ at = λ same. out j (subst (λ (i : ℕ). IsIn i (list_at heads slots j)) same old) in
-            get_or-set_other (owners slots) at s id 0 ne ∙ ok.owned j s old
-      ])
+          ]
+      | inr n ↦
+          let old : IsIn s (list_at heads slots j) = subst (IsIn s) (get_or-set_other (lists heads slots) id j (xs ++ at ∷ []) [] n) k in
+          let ne : s ≢ at = λ same. out j (subst (λ (i : ℕ). IsIn i (list_at heads slots j)) same old) in
+          get_or-set_other (owners slots) at s id 0 ne ∙ ok.owned j s old
+    ])
 
 -- where the ways of a slot that is taken out lead
 
@@ -264,9 +264,10 @@ pub bounds_around : (heads : List Head) (slots : List Slot) (id at : ℕ) → Is
     → (at < length slots) × (0 < (head_at heads id).len)
 bounds_around heads slots id at ok within there =
     let t : IsThread (nexts slots) (previouses slots) (head_at heads id).first (head_at heads id).last (list_at heads slots id) = ok.thread id within in
-    let parts : IsAround (list_at heads slots id) at = around (list_at heads slots id) at there in
-    (subst (λ (n : ℕ). at < n) (length-map slots (λ (s : Slot). s.next)) (t.within at there).0,
-     omega (arith, length-list_at heads slots id within, ap length parts.is, length-append parts.before (at ∷ parts.after)))
+    let parts : IsAround (list_at heads slots id) at = around (list_at heads slots id) at there in (
+      subst (λ (n : ℕ). at < n) (length-map slots (λ (s : Slot). s.next)) (t.within at there).0,
+      omega (arith, length-list_at heads slots id within, ap length parts.is, length-append parts.before (at ∷ parts.after)),
+    )
 
 pub before_within : (heads : List Head) (slots : List Slot) (id at : ℕ) → IsThreaded heads slots → id < length heads → IsIn at (list_at heads slots id)
     → (head_at heads id).first ≢ at → get_or (previouses slots) at 0 < length slots
@@ -293,8 +294,8 @@ after_within heads slots id at ok within there away =
     let step : LeadsThrough (nexts slots) b parts.after = leads-after (nexts slots) h.first parts.before at parts.after t.ahead in
     let back : LeadsThrough (previouses slots) h.last (reverse parts.after ++ at ∷ reverse parts.before) = subst (LeadsThrough (previouses slots) h.last) (reverse-around parts.before at parts.after) t.back in
     subst (λ (n : ℕ). b < n) (length-map slots (λ (s : Slot). s.next))
-      (first_of_rest parts.after b (λ none. away (at_end (previouses slots) h.last parts.after at (reverse parts.before) none back)) (leads-first (nexts slots) b parts.after step)
-        (λ x h. (t.within x (IsIn-right x parts.before (at ∷ parts.after) (inr h))).0))
+    (first_of_rest parts.after b (λ none. away (at_end (previouses slots) h.last parts.after at (reverse parts.before) none back)) (leads-first (nexts slots) b parts.after step)
+    (λ x h. (t.within x (IsIn-right x parts.before (at ∷ parts.after) (inr h))).0))
   where
     first_of_rest : {n : ℕ} (zs : List ℕ) (b : ℕ) → zs ≢ [] → first_or b zs ≡ b → ((x : ℕ) → IsIn x zs → x < n) → b < n
     first_of_rest [] b some is below = absurd (some refl)
@@ -302,8 +303,8 @@ after_within heads slots id at ok within there away =
 
     at_end : (step : List ℕ) (start : ℕ) (zs : List ℕ) (at : ℕ) (rest : List ℕ) → zs ≡ [] → LeadsThrough step start (reverse zs ++ at ∷ rest) → start ≡ at
     at_end step start zs at rest none leads =
-      let leads' : LeadsThrough step start (reverse [] ++ at ∷ rest) = subst (λ (l : List ℕ). LeadsThrough step start (reverse l ++ at ∷ rest)) none leads in
-      leads'.0
+        let leads' : LeadsThrough step start (reverse [] ++ at ∷ rest) = subst (λ (l : List ℕ). LeadsThrough step start (reverse l ++ at ∷ rest)) none leads in
+        leads'.0
 
 pub last_within : (heads : List Head) (slots : List Slot) (id : ℕ) → IsThreaded heads slots → id < length heads → 0 < (head_at heads id).len
     → (head_at heads id).last < length slots

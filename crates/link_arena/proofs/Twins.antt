@@ -69,9 +69,9 @@ pub twinned-joined : (O N : List ℕ) (s a b : ℕ) → IsTwinned O → IsRewrit
 twinned-joined O N s a b ok w a_is b_is differ unjoined = record {
   even = ap (λ (n : ℕ). n % 2) w.len ∙ ok.even;
   free = λ u none.
-    let n : u ≢ s = λ e. a_is (sym w.at_first ∙ (ap (λ (i : ℕ). get_or N i 0) (sym e) ∙ none)) in
-    let m : u ≢ twin s = λ e. b_is (sym w.at_second ∙ (ap (λ (i : ℕ). get_or N i 0) (sym e) ∙ none)) in
-    twin_kept O N s a b w u n m ∙ ok.free u (sym (w.rest u n m) ∙ none);
+      let n : u ≢ s = λ e. a_is (sym w.at_first ∙ (ap (λ (i : ℕ). get_or N i 0) (sym e) ∙ none)) in
+      let m : u ≢ twin s = λ e. b_is (sym w.at_second ∙ (ap (λ (i : ℕ). get_or N i 0) (sym e) ∙ none)) in
+      twin_kept O N s a b w u n m ∙ ok.free u (sym (w.rest u n m) ∙ none);
   apart = λ u some same. elim (cases_eq u s) [
     | inl e ↦
         let P : ℕ → Type 0 = λ (i : ℕ). get_or N (twin i) 0 ≡ get_or N i 0 in
@@ -84,37 +84,37 @@ twinned-joined O N s a b ok w a_is b_is differ unjoined = record {
           differ (sym (twin_of_second O N s a b w) ∙ (same' ∙ w.at_second))
       | inr m ↦
           ok.apart u (λ z. some (w.rest u n m ∙ z)) (sym (twin_kept O N s a b w u n m) ∙ (same ∙ w.rest u n m))
-      ]
-    ];
+    ]
+  ];
   single = λ x y some same twins.
-    let at_s : (k : ℕ) → k ≡ s → (get_or N k 0 ≡ a) × (get_or N (twin k) 0 ≡ b) = λ k e. (ap (λ (i : ℕ). get_or N i 0) e ∙ w.at_first, ap (λ (i : ℕ). get_or N (twin i) 0) e ∙ w.at_second) in
-    let at_t : (k : ℕ) → k ≡ twin s → (get_or N k 0 ≡ b) × (get_or N (twin k) 0 ≡ a) = λ k e. (ap (λ (i : ℕ). get_or N i 0) e ∙ w.at_second, ap (λ (i : ℕ). get_or N (twin i) 0) e ∙ twin_of_second O N s a b w) in
-    let not_ab : (k : ℕ) → k ≢ s → k ≢ twin s → get_or N k 0 ≡ a → get_or N (twin k) 0 ≢ b =
+      let at_s : (k : ℕ) → k ≡ s → (get_or N k 0 ≡ a) × (get_or N (twin k) 0 ≡ b) = λ k e. (ap (λ (i : ℕ). get_or N i 0) e ∙ w.at_first, ap (λ (i : ℕ). get_or N (twin i) 0) e ∙ w.at_second) in
+      let at_t : (k : ℕ) → k ≡ twin s → (get_or N k 0 ≡ b) × (get_or N (twin k) 0 ≡ a) = λ k e. (ap (λ (i : ℕ). get_or N i 0) e ∙ w.at_second, ap (λ (i : ℕ). get_or N (twin i) 0) e ∙ twin_of_second O N s a b w) in
+      let not_ab : (k : ℕ) → k ≢ s → k ≢ twin s → get_or N k 0 ≡ a → get_or N (twin k) 0 ≢ b =
       λ k n m e f. unjoined k (sym (w.rest k n m) ∙ e) (sym (twin_kept O N s a b w k n m) ∙ f) in
-    let not_ba : (k : ℕ) → k ≢ s → k ≢ twin s → get_or N k 0 ≡ b → get_or N (twin k) 0 ≢ a =
+      let not_ba : (k : ℕ) → k ≢ s → k ≢ twin s → get_or N k 0 ≡ b → get_or N (twin k) 0 ≢ a =
       λ k n m e f. unjoined (twin k) (sym (twin_kept O N s a b w k n m) ∙ f) (ap (λ (i : ℕ). get_or O i 0) (twin-twin k) ∙ (sym (w.rest k n m) ∙ e)) in
-    elim (cases_eq x s) [
-      | inl xs ↦ elim (cases_eq y s) [
-        | inl ys ↦ xs ∙ sym ys
-        | inr yn ↦ elim (cases_eq y (twin s)) [
-          | inl yt ↦ absurd (differ (sym (at_s x xs).0 ∙ (same ∙ (at_t y yt).0)))
-          | inr ym ↦ absurd (not_ab y yn ym (sym same ∙ (at_s x xs).0) (sym twins ∙ (at_s x xs).1))
+      elim (cases_eq x s) [
+        | inl xs ↦ elim (cases_eq y s) [
+          | inl ys ↦ xs ∙ sym ys
+          | inr yn ↦ elim (cases_eq y (twin s)) [
+            | inl yt ↦ absurd (differ (sym (at_s x xs).0 ∙ (same ∙ (at_t y yt).0)))
+            | inr ym ↦ absurd (not_ab y yn ym (sym same ∙ (at_s x xs).0) (sym twins ∙ (at_s x xs).1))
           ]
         ]
-      | inr xn ↦ elim (cases_eq x (twin s)) [
-        | inl xt ↦ elim (cases_eq y s) [
-          | inl ys ↦ absurd (differ (sym (at_s y ys).0 ∙ (sym same ∙ (at_t x xt).0)))
-          | inr yn ↦ elim (cases_eq y (twin s)) [
-            | inl yt ↦ xt ∙ sym yt
-            | inr ym ↦ absurd (not_ba y yn ym (sym same ∙ (at_t x xt).0) (sym twins ∙ (at_t x xt).1))
+        | inr xn ↦ elim (cases_eq x (twin s)) [
+          | inl xt ↦ elim (cases_eq y s) [
+            | inl ys ↦ absurd (differ (sym (at_s y ys).0 ∙ (sym same ∙ (at_t x xt).0)))
+            | inr yn ↦ elim (cases_eq y (twin s)) [
+              | inl yt ↦ xt ∙ sym yt
+              | inr ym ↦ absurd (not_ba y yn ym (sym same ∙ (at_t x xt).0) (sym twins ∙ (at_t x xt).1))
             ]
           ]
-        | inr xm ↦ elim (cases_eq y s) [
-          | inl ys ↦ absurd (not_ab x xn xm (same ∙ (at_s y ys).0) (twins ∙ (at_s y ys).1))
-          | inr yn ↦ elim (cases_eq y (twin s)) [
-            | inl yt ↦ absurd (not_ba x xn xm (same ∙ (at_t y yt).0) (twins ∙ (at_t y yt).1))
-            | inr ym ↦ ok.single x y (λ z. some (w.rest x xn xm ∙ z)) (sym (w.rest x xn xm) ∙ (same ∙ w.rest y yn ym))
-                (sym (twin_kept O N s a b w x xn xm) ∙ (twins ∙ twin_kept O N s a b w y yn ym))
+          | inr xm ↦ elim (cases_eq y s) [
+            | inl ys ↦ absurd (not_ab x xn xm (same ∙ (at_s y ys).0) (twins ∙ (at_s y ys).1))
+            | inr yn ↦ elim (cases_eq y (twin s)) [
+              | inl yt ↦ absurd (not_ba x xn xm (same ∙ (at_t y yt).0) (twins ∙ (at_t y yt).1))
+              | inr ym ↦ ok.single x y (λ z. some (w.rest x xn xm ∙ z)) (sym (w.rest x xn xm) ∙ (same ∙ w.rest y yn ym))
+                  (sym (twin_kept O N s a b w x xn xm) ∙ (twins ∙ twin_kept O N s a b w y yn ym))
             ]
           ]
         ]
@@ -132,15 +132,15 @@ twinned-parted O N s ok w =
         | inr n ↦ elim (cases_eq u (twin s)) [
           | inl e ↦ ap (λ (i : ℕ). get_or N (twin i) 0) e ∙ twin_of_second O N s 0 0 w
           | inr m ↦ twin_kept O N s 0 0 w u n m ∙ ok.free u (sym (w.rest u n m) ∙ none)
-          ]
-        ];
+        ]
+      ];
       apart = λ u some same.
-        let n : u ≢ s = not_s u some in
-        let m : u ≢ twin s = not_t u some in
-        ok.apart u (λ z. some (w.rest u n m ∙ z)) (sym (twin_kept O N s 0 0 w u n m) ∙ (same ∙ w.rest u n m));
+          let n : u ≢ s = not_s u some in
+          let m : u ≢ twin s = not_t u some in
+          ok.apart u (λ z. some (w.rest u n m ∙ z)) (sym (twin_kept O N s 0 0 w u n m) ∙ (same ∙ w.rest u n m));
       single = λ x y some same twins.
-        let some_y : get_or N y 0 ≢ 0 = λ z. some (same ∙ z) in
-        ok.single x y (λ z. some (w.rest x (not_s x some) (not_t x some) ∙ z))
+          let some_y : get_or N y 0 ≢ 0 = λ z. some (same ∙ z) in
+          ok.single x y (λ z. some (w.rest x (not_s x some) (not_t x some) ∙ z))
           (sym (w.rest x (not_s x some) (not_t x some)) ∙ (same ∙ w.rest y (not_s y some_y) (not_t y some_y)))
           (sym (twin_kept O N s 0 0 w x (not_s x some) (not_t x some)) ∙ (twins ∙ twin_kept O N s 0 0 w y (not_s y some_y) (not_t y some_y)));
     }

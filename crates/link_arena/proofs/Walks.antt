@@ -45,15 +45,15 @@ listed_some slots xs ys sub ok = record {
 
 pub listed_here : (slots : List Slot) (n at : ℕ) → 0 < n → IsListed slots (walk (nexts slots) n at) → IsListed slots (at ∷ [])
 listed_here slots n at some ok = listed_some slots (walk (nexts slots) n at) (at ∷ [])
-  (λ s h. elim h [
-    | inl e ↦ subst (λ (i : ℕ). IsIn i (walk (nexts slots) n at)) (sym e) (walk_here (nexts slots) (walk (nexts slots) n at) n at some (λ s h. h))
-    | inr none ↦ absurd none
-  ]) ok
+    (λ s h. elim h [
+      | inl e ↦ subst (λ (i : ℕ). IsIn i (walk (nexts slots) n at)) (sym e) (walk_here (nexts slots) (walk (nexts slots) n at) n at some (λ s h. h))
+      | inr none ↦ absurd none
+    ]) ok
 
 pub listed_rest : (slots : List Slot) (n at next : ℕ) → 0 < n → next ≡ get_or (nexts slots) at 0 → IsListed slots (walk (nexts slots) n at)
     → IsListed slots (walk (nexts slots) (n - 1) next)
 listed_rest slots n at next some is ok = listed_some slots (walk (nexts slots) n at) (walk (nexts slots) (n - 1) next)
-  (walk_rest (nexts slots) (walk (nexts slots) n at) n at next some is (λ s h. h)) ok
+    (walk_rest (nexts slots) (walk (nexts slots) n at) n at next some is (λ s h. h)) ok
 
 pub view_step : (slots : List Slot) (n at next end : ℕ) (view : List ℕ) → 0 < n → next ≡ get_or (nexts slots) at 0 → end ≡ other (owners slots) at
     → map (other (owners slots)) (walk (nexts slots) n at) ≡ view → view ≡ end ∷ map (other (owners slots)) (walk (nexts slots) (n - 1) next)

@@ -57,3 +57,7 @@ pub record IsListed (slots : List Slot) (xs : List ℕ) : Type 0 where
   pub twin_within : (s : ℕ) → IsIn s xs → twin s < length slots
   pub some : (s : ℕ) → IsIn s xs → 0 < slice_index (owners slots) (twin s)
   pub few : (s : ℕ) → IsIn s xs → slice_index (owners slots) (twin s) ≤ 2 ^ 32
+
+-- the list that each slot leads to is marked with the slot
+abbrev pub IsMarkedFor : List Slot → List ℕ → List ℕ → Type 0
+IsMarkedFor slots marks xs = (s : ℕ) → IsIn s xs → slice_index marks (slice_index (owners slots) (twin s)) ≡ s

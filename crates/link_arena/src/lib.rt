@@ -15,10 +15,11 @@ mod order;
 mod others;
 mod pairs;
 mod places;
-mod row;
-mod slot;
+mod reorder;
 mod room;
+mod row;
 mod sides;
+mod slot;
 
 pub use arena::Arena;
 pub use others::Others;

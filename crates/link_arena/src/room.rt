@@ -63,7 +63,12 @@ fn need_row(heads: &mut [Head], slots: &mut Vec<Slot>) -> Result<(), AllocError>
 }
 
 /// Joins two ends, last at each.
-pub(crate) fn join_at(heads: &mut [Head], slots: &mut Vec<Slot>, first: u32, second: u32) -> Result<(), AllocError>
+pub(crate) fn join_at(
+    heads: &mut [Head],
+    slots: &mut Vec<Slot>,
+    first: u32,
+    second: u32,
+) -> Result<(), AllocError>
     requires arena { IsArena heads.old slots.old.items }
     requires first_within { first + 1 < length heads.old }
     requires second_within { second + 1 < length heads.old }

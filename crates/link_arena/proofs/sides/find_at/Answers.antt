@@ -10,7 +10,7 @@ use Rattle.link_arena.proofs.sides.find_at.Goals as goal
 pub find-requires : goal.find-requires
 find-requires c = record {
   within = λ s h. list_bounds c.args.heads.now c.args.slots.now c.requires.arena (c.args.end + 1) c.requires.within s
-    (in_list_at c.args.heads.now c.args.slots.now (c.args.end + 1) c.requires.within s h);
+      (in_list_at c.args.heads.now c.args.slots.now (c.args.end + 1) c.requires.within s h);
 }
 
 pub returns-clause-found : goal.returns-clause-found

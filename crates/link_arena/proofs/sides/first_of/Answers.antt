@@ -8,6 +8,7 @@ pub returns-else-head-eq0-clause-some : goal.returns-else-head-eq0-clause-some
 returns-else-head-eq0-clause-some c =
     let some : 0 < (head_at c.args.heads.now c.args.id).len = omega (arith, c.if-head-eq0.false) in
     let there : IsIn (head_at c.args.heads.now c.args.id).first (list_at c.args.heads.now c.args.slots.now c.args.id) =
-    first_there c.args.heads.now c.args.slots.now c.requires.arena c.args.id c.requires.within some in
-    ((list_bounds c.args.heads.now c.args.slots.now c.requires.arena c.args.id c.requires.within _ there).0,
-     c.requires.arena.filed.threaded.owned c.args.id _ there)
+    first_there c.args.heads.now c.args.slots.now c.requires.arena c.args.id c.requires.within some in (
+      (list_bounds c.args.heads.now c.args.slots.now c.requires.arena c.args.id c.requires.within _ there).0,
+      c.requires.arena.filed.threaded.owned c.args.id _ there,
+    )

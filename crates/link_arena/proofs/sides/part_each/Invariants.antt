@@ -7,7 +7,7 @@ abbrev pub invariant-loop : goal.invariant-loop
 invariant-loop l = record {
   arena : IsArena l.heads l.slots;
   count : length l.heads ≡ length l.initial.heads;
-  view : all_parted (links l.heads l.slots) l.end ≡ all_parted (links l.initial.heads l.initial.slots) l.end
+  view : all_parted (links l.heads l.slots) l.end ≡ all_parted (links l.initial.heads l.initial.slots) l.end;
 }
 
 abbrev pub decreases-loop : goal.decreases-loop

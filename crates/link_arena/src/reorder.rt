@@ -1,0 +1,33 @@
+ghost use Rattle.std.specs.Prelude.{◌≡◌, ℕ, ◌<◌, length, slice_index, slice_set};
+ghost use Rattle.link_arena.specs.Threads.{IsIn};
+ghost use Rattle.link_arena.specs.Lists.{list_of, owner_at};
+ghost use Rattle.link_arena.specs.Twins.{twin, IsListed, IsMarkedFor};
+
+use crate::sides::twin_of;
+use crate::slot::{Head, Slot, next_of, owner_of};
+
+/// Marks the list that each slot of a list leads to with the slot.
+fn mark(slots: &[Slot], head: Head, marks: &mut [usize])
+    requires listed { IsListed slots.now (list_of slots.now head) }
+    requires room { (s : ℕ) → IsIn s (list_of slots.now head) → owner_at slots.now (twin s) < length marks.old }
+    requires single { (s u : ℕ) → IsIn s (list_of slots.now head) → IsIn u (list_of slots.now head) → owner_at slots.now (twin s) ≡ owner_at slots.now (twin u) → s ≡ u }
+    ensures { IsMarkedFor slots.now marks.new (list_of slots.now head) }
+{
+    let mut at = head.first;
+    let mut left = head.len;
+    while left > 0 {
+        mark_one(slots, marks, at);
+        at = next_of(slots, at);
+        left -= 1;
+    }
+}
+
+/// Marks the list that a slot leads to with the slot.
+fn mark_one(slots: &[Slot], marks: &mut [usize], at: usize)
+    requires within { at < length slots.now }
+    requires twin_within { twin at < length slots.now }
+    requires room { owner_at slots.now (twin at) < length marks.old }
+    ensures { marks.new ≡ slice_set marks.old (owner_at slots.now (twin at)) at }
+{
+    marks[owner_of(slots, twin_of(at))] = at;
+}
