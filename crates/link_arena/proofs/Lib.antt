@@ -24,3 +24,4 @@ pub mod Requeue
 pub mod Heads
 pub mod Marks
 pub mod Requeued
+pub mod Ordering

@@ -1,9 +1,10 @@
 -- The two slots of a row are twins: each names, as the list that it stands in, one end of a join. List 0 has the free slots, and the list of an end comes one later.
-use Rattle.std.specs.Prelude.{◌≡◌, ◌≢◌, ℕ, ◌+◌, ◌-◌, ◌%◌, ◌≤◌, ◌<◌, ◌^◌, ◌==◌, ◌++◌, ◌∷◌, [], cond, List, map, drop, length, slice_index}
+use Rattle.std.specs.Prelude.{◌≡◌, ◌≢◌, ℕ, ◌+◌, ◌-◌, ◌%◌, ◌≤◌, ◌<◌, ◌^◌, ◌==◌, ◌++◌, ◌∷◌, [], cond, List, map, drop, length, slice_index, slice_set}
 use Rattle.link_arena.specs.declared.slot.Slot.{Slot}
 use Rattle.link_arena.specs.declared.slot.Head.{Head}
+use Rattle.link_arena.specs.Links.{others_of, without}
 use Rattle.link_arena.specs.Threads.{IsIn}
-use Rattle.link_arena.specs.Lists.{lists, owners, IsFiled}
+use Rattle.link_arena.specs.Lists.{lists, list_at, owners, IsFiled}
 
 -- the other slot of a slot's row
 abbrev pub twin : ℕ → ℕ
@@ -61,3 +62,10 @@ pub record IsListed (slots : List Slot) (xs : List ℕ) : Type 0 where
 -- the list that each slot leads to is marked with the slot
 abbrev pub IsMarkedFor : List Slot → List ℕ → List ℕ → Type 0
 IsMarkedFor slots marks xs = (s : ℕ) → IsIn s xs → slice_index marks (slice_index (owners slots) (twin s)) ≡ s
+
+-- one of the ends that an end is joined to has come last
+pub record IsRequeued (heads : List Head) (slots : List Slot) (heads' : List Head) (slots' : List Slot) (marks : List ℕ) (a A x : ℕ) : Type 0 where
+  pub arena : IsArena heads' slots'
+  pub count : length heads' ≡ length heads
+  pub marked : IsMarkedFor slots' marks (list_at heads' slots' A)
+  pub view : links heads' slots' ≡ slice_set (links heads slots) a (without x (others_of (links heads slots) a) ++ x ∷ [])

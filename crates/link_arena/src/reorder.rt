@@ -1,10 +1,11 @@
-ghost use Rattle.std.specs.Prelude.{◌≡◌, ℕ, ◌<◌, length, slice_index, slice_set};
+ghost use Rattle.std.specs.Prelude.{◌≡◌, ℕ, ◌+◌, ◌<◌, Contains, length, slice_index, slice_set};
+ghost use Rattle.link_arena.specs.Links.{others_of};
 ghost use Rattle.link_arena.specs.Threads.{IsIn};
-ghost use Rattle.link_arena.specs.Lists.{list_of, owner_at};
-ghost use Rattle.link_arena.specs.Twins.{twin, IsListed, IsMarkedFor};
+ghost use Rattle.link_arena.specs.Lists.{list_at, list_of, owner_at};
+ghost use Rattle.link_arena.specs.Twins.{twin, IsListed, IsMarkedFor, IsRequeued, links, IsArena};
 
 use crate::sides::twin_of;
-use crate::slot::{Head, Slot, next_of, owner_of};
+use crate::slot::{Head, Slot, move_to, next_of, owner_of};
 
 /// Marks the list that each slot of a list leads to with the slot.
 fn mark(slots: &[Slot], head: Head, marks: &mut [usize])
@@ -30,4 +31,17 @@ fn mark_one(slots: &[Slot], marks: &mut [usize], at: usize)
     ensures { marks.new ≡ slice_set marks.old (owner_at slots.now (twin at)) at }
 {
     marks[owner_of(slots, twin_of(at))] = at;
+}
+
+/// Moves the slot of an end that leads to another to the end of its list, by the marks.
+fn put_last_at(heads: &mut [Head], slots: &mut [Slot], marks: &[usize], end: u32, other: u32)
+    requires arena { IsArena heads.old slots.old }
+    requires within { end + 1 < length heads.old }
+    requires room { other + 1 < length marks.now }
+    requires marked { IsMarkedFor slots.old marks.now (list_at heads.old slots.old (end + 1)) }
+    requires there { Contains (others_of (links heads.old slots.old) end) other }
+    ensures { IsRequeued heads.old slots.old heads.new slots.new marks.now end (end + 1) other }
+{
+    let at = marks[other as usize + 1];
+    move_to(heads, slots, end as usize + 1, at);
 }
