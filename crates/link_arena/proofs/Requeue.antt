@@ -1,9 +1,11 @@
 -- A list put in another order, by moving one number after another to the end.
 use Rattle.std.proofs.Common.{◌≡◌, ◌≢◌, ℕ, ◌<◌, ◌≤◌, ◌+◌, List, [], ◌∷◌, ◌++◌, length, refl, sym, ◌∙◌, ap, subst, arith, inl, inr, zero, suc}
+use Rattle.std.proofs.lemmas.Bool.{cases_eq}
 use Rattle.std.proofs.lemmas.List.{append-nil, append_assoc, length-append}
 use Rattle.link_arena.specs.Links.{without}
 use Rattle.link_arena.specs.Threads.{IsIn, IsDistinct}
 use Rattle.link_arena.proofs.Leads.{IsAround, around, without-around, distinct-out_of, IsIn-either, IsIn-left, IsIn-right, IsIn-out_of, distinct-push}
+use Rattle.link_arena.proofs.Filed.{IsIn-kept}
 use Rattle.link_arena.proofs.Threaded.{distinct-without, IsIn-without}
 
 -- the numbers of an order move to the end of a list, one after another
@@ -38,3 +40,23 @@ requeued-order rest done (y ∷ ys) apart differ there len =
     let len2 : length (bs ++ cs) ≡ length ys = omega (arith, len, ap length parts.is, length-append bs (y ∷ cs), length-append bs cs) in
     ap (λ (l : List ℕ). requeued l ys) next
     ∙ (requeued-order (bs ++ cs) (done ++ y ∷ []) ys apart2 differ.1 there2 len2 ∙ append_assoc done (y ∷ []) ys)
+
+pub requeued-push : (xs ys : List ℕ) (y : ℕ) → requeued xs (ys ++ y ∷ []) ≡ without y (requeued xs ys) ++ y ∷ []
+unfolding requeued
+requeued-push xs [] y = refl
+requeued-push xs (z ∷ ys) y = requeued-push (without z xs ++ z ∷ []) ys y
+
+pub IsIn-requeued : (x : ℕ) (xs ys : List ℕ) → IsIn x xs → IsIn x (requeued xs ys)
+unfolding requeued
+IsIn-requeued x xs [] has = has
+IsIn-requeued x xs (y ∷ ys) has =
+    IsIn-requeued x (without y xs ++ y ∷ []) ys (elim (cases_eq x y) [
+      | inl e ↦ IsIn-right x (without y xs) (y ∷ []) (inl e)
+      | inr n ↦ IsIn-left x (without y xs) (y ∷ []) (IsIn-kept x y xs n has)
+    ])
+
+pub requeued-whole : (xs order : List ℕ) → IsDistinct xs → IsDistinct order → ((x : ℕ) → IsIn x order → IsIn x xs) → length xs ≡ length order
+    → requeued xs order ≡ order
+requeued-whole xs order apart differ there len =
+    ap (λ (l : List ℕ). requeued l order) (sym (append-nil xs))
+    ∙ requeued-order xs [] order (subst IsDistinct (sym (append-nil xs)) apart) differ there len
