@@ -25,3 +25,4 @@ pub mod Heads
 pub mod Marks
 pub mod Requeued
 pub mod Ordering
+pub mod InOrder

@@ -60,3 +60,7 @@ pub requeued-whole : (xs order : List ℕ) → IsDistinct xs → IsDistinct orde
 requeued-whole xs order apart differ there len =
     ap (λ (l : List ℕ). requeued l order) (sym (append-nil xs))
     ∙ requeued-order xs [] order (subst IsDistinct (sym (append-nil xs)) apart) differ there len
+
+pub requeued-none : (xs : List ℕ) → requeued xs [] ≡ xs
+unfolding requeued
+requeued-none xs = refl

@@ -1,4 +1,4 @@
-ghost use Rattle.std.specs.Prelude.{◌≡◌, ℕ, ◌+◌, ◌<◌, Contains, length, slice_index, slice_set};
+ghost use Rattle.std.specs.Prelude.{◌≡◌, ℕ, ◌+◌, ◌<◌, ◌≤◌, Contains, IsPermutation, length, slice_index, slice_set};
 ghost use Rattle.link_arena.specs.Links.{others_of};
 ghost use Rattle.link_arena.specs.Threads.{IsIn};
 ghost use Rattle.link_arena.specs.Lists.{list_at, list_of, owner_at};
@@ -44,4 +44,40 @@ fn put_last_at(heads: &mut [Head], slots: &mut [Slot], marks: &[usize], end: u32
 {
     let at = marks[other as usize + 1];
     move_to(heads, slots, end as usize + 1, at);
+}
+
+/// Puts the ends that an end is joined to in another order, by the marks.
+fn put_in_order(heads: &mut [Head], slots: &mut [Slot], marks: &[usize], end: u32, order: &[u32])
+    requires arena { IsArena heads.old slots.old }
+    requires within { end + 1 < length heads.old }
+    requires room { length heads.old ≤ length marks.now }
+    requires marked { IsMarkedFor slots.old marks.now (list_at heads.old slots.old (end + 1)) }
+    requires same { IsPermutation order.now (others_of (links heads.old slots.old) end) }
+    ensures arena { IsArena heads.new slots.new }
+    ensures count { length heads.new ≡ length heads.old }
+    ensures view { links heads.new slots.new ≡ slice_set (links heads.old slots.old) end order.now }
+{
+    for other in order {
+        put_last_at(heads, slots, marks, end, *other);
+    }
+}
+
+/// Puts the ends that an end is joined to in another order.
+pub(crate) fn reorder(
+    heads: &mut [Head],
+    slots: &mut [Slot],
+    marks: &mut [usize],
+    end: u32,
+    order: &[u32],
+)
+    requires arena { IsArena heads.old slots.old }
+    requires within { end + 1 < length heads.old }
+    requires room { length heads.old ≤ length marks.old }
+    requires same { IsPermutation order.now (others_of (links heads.old slots.old) end) }
+    ensures arena { IsArena heads.new slots.new }
+    ensures count { length heads.new ≡ length heads.old }
+    ensures view { links heads.new slots.new ≡ slice_set (links heads.old slots.old) end order.now }
+{
+    mark(slots, heads[end as usize + 1], marks);
+    put_in_order(heads, slots, marks, end, order);
 }
