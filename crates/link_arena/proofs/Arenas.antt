@@ -9,7 +9,7 @@ use Rattle.link_arena.specs.Links.{others_of, joined, parted}
 use Rattle.link_arena.specs.Threads.{IsIn}
 use Rattle.link_arena.specs.Lists.{lists, list_of, list_at, owners, owner_at, moved_to, IsFiled}
 use Rattle.link_arena.specs.Twins.{twin, other, shown, links, IsTwinned, IsRewritten, IsArena}
-use Rattle.link_arena.proofs.Named.{Contains-first, Contains-later}
+use Rattle.link_arena.proofs.Elements.{Contains-first, Contains-later}
 use Rattle.link_arena.proofs.Filed.{in_some_list}
 use Rattle.link_arena.proofs.Twins.{twin-twin, twin-other, twin-within, rewritten, twinned-joined, twinned-parted}
 use Rattle.link_arena.proofs.Shown.{at_shown, length-moved, view-joined, view-parted}

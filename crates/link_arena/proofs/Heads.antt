@@ -39,7 +39,7 @@ head_grown [] n j = head_none n j
 head_grown (h ∷ heads) n zero = refl
 head_grown (h ∷ heads) n (suc j) = head_grown heads n j
 
-nothing : (N P : List ℕ) (f l : ℕ) → IsThread N P f l []
+pub nothing : (N P : List ℕ) (f l : ℕ) → IsThread N P f l []
 nothing N P f l = record { ahead = tt; back = tt; apart = tt; within = λ x h. absurd h }
 
 pub heads_threaded : (heads : List Head) (slots : List Slot) (n : ℕ) → IsThreaded heads slots

@@ -8,13 +8,14 @@ use Rattle.link_arena.specs.declared.slot.Slot.{Slot}
 use Rattle.link_arena.specs.declared.slot.Head.{Head}
 use Rattle.link_arena.specs.Links.{others_of, without, IsSimple}
 use Rattle.link_arena.specs.Threads.{IsIn, IsDistinct}
-use Rattle.link_arena.specs.Lists.{lists, list_at, list_of, head_at, owner_at}
-use Rattle.link_arena.specs.Twins.{twin, links, IsArena, IsListed}
-use Rattle.link_arena.proofs.Named.{Contains-first, Contains-later}
+use Rattle.link_arena.specs.Lists.{nexts, lists, list_at, list_of, head_at, owner_at, owners}
+use Rattle.link_arena.specs.Twins.{twin, other, links, IsArena, IsListed}
+use Rattle.link_arena.proofs.Elements.{Contains-first, Contains-later}
 use Rattle.link_arena.proofs.Orders.{AllPairs-permutation}
 use Rattle.link_arena.proofs.Requeue.{requeued, requeued-push, requeued-whole, requeued-none, IsIn-requeued}
 use Rattle.link_arena.proofs.Simple.{in_from, simple, used_twin}
-use Rattle.link_arena.proofs.Threaded.{list_at-is}
+use Rattle.link_arena.proofs.Threaded.{list_at-is, length-walk}
+use Rattle.link_arena.proofs.Shown.{at_shown}
 use Rattle.link_arena.proofs.Filed.{in_some_list}
 use Rattle.link_arena.proofs.Found.{length_links, list_bounds, in_list_at}
 
@@ -111,3 +112,17 @@ end_single heads slots ok a A is within s u hs hu same =
     let os : owner_at slots s ≡ suc a = (listed_at heads slots ok a A is within s (in_list_at heads slots A within s hs)).0 in
     let ou : owner_at slots u ≡ suc a = (listed_at heads slots ok a A is within u (in_list_at heads slots A within u hu)).0 in
     ok.twinned.single s u (λ z. (let k : suc a ≡ 0 = sym os ∙ z in omega arith)) (os ∙ sym ou) same
+
+-- what an end's list shows
+pub view_at : (heads : List Head) (slots : List Slot) (a A : ℕ) → A ≡ suc a → A < length heads
+    → others_of (links heads slots) a ≡ map (other (owners slots)) (list_of slots (head_at heads A))
+view_at heads slots a A is within =
+    at_shown (owners slots) (lists heads slots) a
+    ∙ (ap (λ (i : ℕ). map (other (owners slots)) (list_at heads slots i)) (sym is)
+    ∙ ap (map (other (owners slots))) (list_at-is heads slots A within))
+
+pub degree_at : (heads : List Head) (slots : List Slot) (a A : ℕ) → A ≡ suc a → A < length heads
+    → length (others_of (links heads slots) a) ≡ (head_at heads A).len
+degree_at heads slots a A is within =
+    ap length (view_at heads slots a A is within)
+    ∙ (length-map (list_of slots (head_at heads A)) (other (owners slots)) ∙ length-walk (nexts slots) (head_at heads A).len (head_at heads A).first)

@@ -1,12 +1,5 @@
-pub mod Rows
-pub mod Live
-pub mod Pairing
-pub mod Named
-pub mod Views
+pub mod Elements
 pub mod Parting
-pub mod Moves
-pub mod Dense
-pub mod Swaps
 pub mod Orders
 pub mod Leads
 pub mod Columns
@@ -26,3 +19,4 @@ pub mod Marks
 pub mod Requeued
 pub mod Ordering
 pub mod InOrder
+pub mod Begun

@@ -69,3 +69,12 @@ pub record IsRequeued (heads : List Head) (slots : List Slot) (heads' : List Hea
   pub count : length heads' ≡ length heads
   pub marked : IsMarkedFor slots' marks (list_at heads' slots' A)
   pub view : links heads' slots' ≡ slice_set (links heads slots) a (without x (others_of (links heads slots) a) ++ x ∷ [])
+
+-- the head of a list that has no slot
+abbrev pub no_head : Head
+no_head = record { first = 0; last = 0; len = 0 }
+
+-- a table of heads has one, that of the list of the free slots
+abbrev pub with_free_head : List Head → List Head
+with_free_head [] = no_head ∷ []
+with_free_head (head ∷ heads) = head ∷ heads

@@ -3,7 +3,7 @@ use Rattle.std.specs.Prelude.{Contains}
 use Rattle.link_arena.specs.Links.{others_of}
 use Rattle.link_arena.specs.Twins.{links}
 use Rattle.link_arena.proofs.Simple.{simple}
-use Rattle.link_arena.proofs.Views.{parted_comm}
+use Rattle.link_arena.proofs.Parting.{parted_comm}
 use Rattle.link_arena.proofs.sides.part_pair.Goals as goal
 
 pub part_at-requires-else-heads-first-clause-named : goal.part_at-requires-else-heads-first-clause-named
