@@ -1,14 +1,14 @@
 -- An arena, after two of its ends are joined or parted.
-use Rattle.std.proofs.Common.{◌≡◌, ◌≢◌, ℕ, ◌<◌, ◌≤◌, ◌+◌, ◌-◌, ◌^◌, ◌%◌, List, [], ◌∷◌, ◌++◌, length, get_or, set, map, refl, sym, ◌∙◌, ap, subst, arith, inl, inr, zero, suc}
-use Rattle.std.proofs.lemmas.Bool.{cases_eq, cases_lt}
-use Rattle.std.proofs.lemmas.List.{get_or-set_same, get_or-set_other, length-set, length-map, get_or_past}
+use Rattle.std.proofs.Common.{◌≡◌, ◌≢◌, ℕ, ◌<◌, ◌≤◌, ◌-◌, ◌^◌, ◌%◌, List, [], ◌∷◌, length, get_or, set, map, sym, ◌∙◌, ap, subst, arith, inl, inr, suc}
+use Rattle.std.proofs.lemmas.Bool.{cases_lt}
+use Rattle.std.proofs.lemmas.List.{get_or-set_other, length-map, get_or_past}
 use Rattle.std.specs.Prelude.{Contains}
 use Rattle.link_arena.specs.declared.slot.Slot.{Slot}
 use Rattle.link_arena.specs.declared.slot.Head.{Head}
 use Rattle.link_arena.specs.Links.{others_of, joined, parted}
 use Rattle.link_arena.specs.Threads.{IsIn}
-use Rattle.link_arena.specs.Lists.{lists, list_of, list_at, owners, owner_at, moved_to, IsFiled}
-use Rattle.link_arena.specs.Twins.{twin, other, shown, links, IsTwinned, IsRewritten, IsArena}
+use Rattle.link_arena.specs.Lists.{lists, list_of, owners, owner_at, moved_to, IsFiled}
+use Rattle.link_arena.specs.Twins.{twin, other, shown, links, IsRewritten, IsArena}
 use Rattle.link_arena.proofs.Elements.{Contains-first, Contains-later}
 use Rattle.link_arena.proofs.Filed.{in_some_list}
 use Rattle.link_arena.proofs.Twins.{twin-twin, twin-other, twin-within, rewritten, twinned-joined, twinned-parted}

@@ -1,5 +1,5 @@
 -- An arena whose table of heads has one.
-use Rattle.std.proofs.Common.{◌≡◌, ◌<◌, ◌≤◌, ◌+◌, ◌-◌, ◌^◌, ℕ, List, [], ◌∷◌, length, refl, arith, zero, suc}
+use Rattle.std.proofs.Common.{◌≡◌, ◌<◌, ◌+◌, ℕ, List, [], ◌∷◌, length, refl, arith, zero, suc}
 use Rattle.std.specs.Prelude.{Vec}
 use Rattle.std.specs.Vec.{with_items}
 use Rattle.std.proofs.Common.{ap, ◌∙◌}
@@ -8,7 +8,7 @@ use Rattle.link_arena.specs.declared.slot.Slot.{Slot}
 use Rattle.link_arena.specs.declared.slot.Head.{Head}
 use Rattle.link_arena.specs.Threads.{IsIn, IsThread}
 use Rattle.link_arena.specs.Lists.{nexts, previouses, list_at, head_at}
-use Rattle.link_arena.specs.Twins.{links, IsArena, IsTwinned, no_head, with_free_head}
+use Rattle.link_arena.specs.Twins.{links, IsArena, no_head, with_free_head}
 use Rattle.link_arena.proofs.Heads.{nothing}
 use Rattle.link_arena.proofs.Found.{length_links}
 

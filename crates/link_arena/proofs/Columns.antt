@@ -1,5 +1,5 @@
 -- One field of each slot, after a write to a slot.
-use Rattle.std.proofs.Common.{◌≡◌, ℕ, List, [], ◌∷◌, length, get_or, set, map, refl, ap, zero, suc}
+use Rattle.std.proofs.Common.{◌≡◌, ℕ, List, [], ◌∷◌, get_or, set, map, refl, ap, zero, suc}
 use Rattle.link_arena.specs.declared.slot.Slot.{Slot}
 
 pub map-kept : (f : Slot → ℕ) (slots : List Slot) (i : ℕ) (d new : Slot) → f new ≡ f (get_or slots i d)

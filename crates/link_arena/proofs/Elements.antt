@@ -1,5 +1,5 @@
 -- A list has its first element, and those of its rest.
-use Rattle.std.proofs.Common.{◌≡◌, ℕ, ◌<◌, List, ◌∷◌, length, refl, arith, suc}
+use Rattle.std.proofs.Common.{ℕ, ◌<◌, List, ◌∷◌, length, refl, arith, suc}
 use Rattle.std.specs.Prelude.{Contains}
 
 pub Contains-later : (y : ℕ) (ys : List ℕ) (x : ℕ) → Contains ys x → Contains (y ∷ ys) x

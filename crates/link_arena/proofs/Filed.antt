@@ -1,13 +1,13 @@
 -- A slot moves from its list to the end of one.
-use Rattle.std.proofs.Common.{◌≡◌, ◌≢◌, ℕ, ◌<◌, ◌≤◌, ◌+◌, ◌-◌, List, [], ◌∷◌, ◌++◌, length, get_or, set, map, refl, sym, ◌∙◌, ap, subst, arith, inl, inr, zero, suc, true, false, eqb, eq-eqb, ne_eqb}
+use Rattle.std.proofs.Common.{◌≡◌, ◌≢◌, ℕ, ◌<◌, List, [], ◌∷◌, ◌++◌, length, get_or, set, refl, sym, ◌∙◌, ap, subst, arith, inl, inr, zero, suc, true, false, eqb, eq-eqb, ne_eqb}
 use Rattle.std.proofs.lemmas.Bool.{cases_eq}
-use Rattle.std.proofs.lemmas.List.{get_or-set_same, get_or-set_other, length-set, length-map, get_or_past}
+use Rattle.std.proofs.lemmas.List.{get_or-set_same, get_or-set_other, length-set, length-map}
 use Rattle.link_arena.specs.declared.slot.Slot.{Slot}
 use Rattle.link_arena.specs.declared.slot.Head.{Head}
 use Rattle.link_arena.specs.Links.{without, with_last, without_other, others_of}
 use Rattle.link_arena.specs.Threads.{IsIn}
-use Rattle.link_arena.specs.Lists.{nexts, previouses, owners, owner_at, list_of, lists, head_at, list_at, IsThreaded, IsAfter, IsFiled, moved_to}
-use Rattle.link_arena.proofs.Leads.{IsIn-left, IsIn-right, IsIn-either}
+use Rattle.link_arena.specs.Lists.{owners, owner_at, list_of, lists, list_at, IsThreaded, IsFiled, moved_to}
+use Rattle.link_arena.proofs.Leads.{IsIn-left, IsIn-right}
 use Rattle.link_arena.proofs.Threaded.{IsIn-without}
 
 pub IsIn-kept : (x at : ℕ) (xs : List ℕ) → x ≢ at → IsIn x xs → IsIn x (without at xs)

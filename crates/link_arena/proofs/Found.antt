@@ -1,14 +1,14 @@
 -- What a search along a list finds.
-use Rattle.std.proofs.Common.{◌≡◌, ◌≢◌, ℕ, ◌<◌, ◌+◌, ◌-◌, List, [], ◌∷◌, length, get_or, map, Option, Some, None, refl, sym, ◌∙◌, ap, subst, arith, inl, inr, zero, suc}
+use Rattle.std.proofs.Common.{◌≡◌, ◌≢◌, ℕ, ◌<◌, ◌+◌, ◌-◌, List, [], length, map, Option, Some, None, refl, sym, ◌∙◌, ap, subst, arith, inl, zero, suc}
 use Rattle.std.proofs.lemmas.List.{length-map}
 use Rattle.std.specs.Prelude.{Contains, IfSome, IfNone}
 use Rattle.link_arena.specs.declared.slot.Slot.{Slot}
 use Rattle.link_arena.specs.declared.slot.Head.{Head}
 use Rattle.link_arena.specs.Links.{others_of, parted, IsPartedSomewhere}
 use Rattle.link_arena.specs.Threads.{IsIn, walk}
-use Rattle.link_arena.specs.Lists.{nexts, previouses, lists, list_of, list_at, head_at, owner_at, owners}
+use Rattle.link_arena.specs.Lists.{nexts, lists, list_of, list_at, head_at, owner_at, owners}
 use Rattle.link_arena.specs.Twins.{twin, other, links, IsArena}
-use Rattle.link_arena.proofs.Threaded.{list_at-is, length-list_at}
+use Rattle.link_arena.proofs.Threaded.{list_at-is}
 use Rattle.link_arena.proofs.Arenas.{twin_in}
 use Rattle.link_arena.proofs.Shown.{at_shown, length-shown}
 use Rattle.link_arena.proofs.Simple.{IsShownBy, shown_by, shows, used_twin}

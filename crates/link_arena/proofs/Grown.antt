@@ -6,9 +6,9 @@ use Rattle.link_arena.specs.declared.slot.Slot.{Slot}
 use Rattle.link_arena.specs.declared.slot.Head.{Head}
 use Rattle.link_arena.specs.Links.{with_last, others_of}
 use Rattle.link_arena.specs.Threads.{IsIn}
-use Rattle.link_arena.specs.Lists.{owners, list_of, lists, list_at, owner_at, IsThreaded, IsAfter, IsFiled}
+use Rattle.link_arena.specs.Lists.{owners, list_of, lists, list_at, IsThreaded, IsAfter}
 use Rattle.link_arena.specs.Twins.{twin, other, shown, links, IsTwinned, IsArena, IsGrown, free_row}
-use Rattle.link_arena.proofs.Leads.{IsIn-left, IsIn-right, IsIn-either}
+use Rattle.link_arena.proofs.Leads.{IsIn-right, IsIn-either}
 use Rattle.link_arena.proofs.Shown.{map-same, at_shown, length-shown}
 use Rattle.link_arena.proofs.Filed.{IsIn-with_last}
 use Rattle.link_arena.proofs.Arenas.{owners_count}

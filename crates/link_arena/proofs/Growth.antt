@@ -1,15 +1,12 @@
 -- An arena with more slots, or more lists.
-use Rattle.std.proofs.Common.{◌≡◌, ◌≢◌, ℕ, ◌<◌, ◌≤◌, ◌+◌, ◌-◌, ◌%◌, ◌^◌, List, [], ◌∷◌, ◌++◌, length, get_or, set, map, drop, replicate, reverse, refl, sym, ◌∙◌, ap, subst, arith, inl, inr, zero, suc}
-use Rattle.std.proofs.lemmas.Bool.{cases_eq, cases_lt}
-use Rattle.std.proofs.lemmas.List.{get_or-set_same, get_or-set_other, length-set, length-map, length-append, map-append, get_or_append_left, get_or_past, ext_get_or}
+use Rattle.std.proofs.Common.{◌≡◌, ℕ, ◌<◌, ◌≤◌, List, [], ◌∷◌, ◌++◌, length, get_or, reverse, refl, sym, ◌∙◌, ap, subst, arith, inl, inr}
+use Rattle.std.proofs.lemmas.List.{length-map, length-append, map-append, get_or_append_left, ext_get_or}
 use Rattle.link_arena.specs.declared.slot.Slot.{Slot}
 use Rattle.link_arena.specs.declared.slot.Head.{Head}
 use Rattle.link_arena.specs.Threads.{LeadsThrough, IsThread, IsIn}
-use Rattle.link_arena.specs.Lists.{nexts, previouses, owners, list_of, lists, head_at, list_at, owner_at, IsThreaded, IsAfter, IsFiled}
-use Rattle.link_arena.specs.Twins.{twin, other, shown, links, IsTwinned, IsArena}
-use Rattle.link_arena.proofs.Leads.{IsIn-reverse, IsIn-left, IsIn-right}
+use Rattle.link_arena.specs.Lists.{nexts, previouses, owners, list_of, lists, head_at, list_at, IsThreaded}
+use Rattle.link_arena.proofs.Leads.{IsIn-reverse}
 use Rattle.link_arena.proofs.Threaded.{list_at-is, length-list_at, thread-walk}
-use Rattle.link_arena.proofs.Shown.{map-same, at_shown, length-shown}
 use Rattle.link_arena.proofs.Filed.{in_some_list}
 use Rattle.link_arena.proofs.Arenas.{owners_count}
 

@@ -1,13 +1,12 @@
 -- An arena with more lists, all empty.
-use Rattle.std.proofs.Common.{◌≡◌, ◌≢◌, ℕ, ◌<◌, ◌≤◌, ◌+◌, ◌-◌, ◌^◌, List, [], ◌∷◌, ◌++◌, length, get_or, map, drop, replicate, refl, sym, ◌∙◌, ap, subst, arith, inl, inr, zero, suc}
+use Rattle.std.proofs.Common.{◌≡◌, ℕ, ◌<◌, ◌≤◌, ◌+◌, ◌^◌, List, [], ◌∷◌, ◌++◌, length, get_or, map, replicate, refl, sym, ◌∙◌, ap, subst, arith, inl, inr, zero, suc}
 use Rattle.std.proofs.lemmas.Bool.{cases_lt}
-use Rattle.std.proofs.lemmas.List.{length-map, length-append, length-replicate, map-append, get_or_append_left, get_or_past, get_or-append_right}
+use Rattle.std.proofs.lemmas.List.{length-map, length-append, length-replicate, map-append, get_or_past}
 use Rattle.link_arena.specs.declared.slot.Slot.{Slot}
 use Rattle.link_arena.specs.declared.slot.Head.{Head}
 use Rattle.link_arena.specs.Threads.{IsThread, IsIn}
-use Rattle.link_arena.specs.Lists.{nexts, previouses, owners, list_of, lists, head_at, list_at, IsThreaded, IsFiled}
+use Rattle.link_arena.specs.Lists.{nexts, previouses, owners, list_of, lists, head_at, list_at, IsThreaded}
 use Rattle.link_arena.specs.Twins.{other, shown, links, IsArena}
-use Rattle.link_arena.proofs.Filed.{in_some_list}
 
 none_of : (slots : List Slot) (n : ℕ) → lists (replicate n (record { first = 0; last = 0; len = 0 })) slots ≡ replicate n []
 none_of slots zero = refl

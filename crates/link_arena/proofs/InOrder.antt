@@ -1,6 +1,6 @@
 -- The ends that an end is joined to, put in another order.
-use Rattle.std.proofs.Common.{◌≡◌, ◌≢◌, ℕ, ◌<◌, ◌≤◌, ◌+◌, ◌-◌, List, [], ◌∷◌, ◌++◌, length, get_or, set, take, map, refl, sym, ◌∙◌, ap, subst, arith, inl, inr, zero, suc}
-use Rattle.std.proofs.lemmas.List.{get_or-set_same, length-set, set-set, set-get_or, take_more, take_all, length-map}
+use Rattle.std.proofs.Common.{◌≡◌, ◌≢◌, ℕ, ◌<◌, ◌≤◌, ◌+◌, List, [], ◌∷◌, ◌++◌, length, get_or, set, take, map, sym, ◌∙◌, ap, subst, arith, inl, inr, suc}
+use Rattle.std.proofs.lemmas.List.{get_or-set_same, set-set, set-get_or, take_more, take_all, length-map}
 use Rattle.std.proofs.lemmas.List.Sorted.{IsPermutation-sym, length_permutation, Contains-permutation}
 use Rattle.std.proofs.lemmas.List.Elements.{Contains-get_or}
 use Rattle.std.specs.Prelude.{Contains, AllPairs, IsPermutation}

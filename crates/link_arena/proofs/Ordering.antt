@@ -1,16 +1,13 @@
 -- An arena, after a slot has moved to the end of its own list.
-use Rattle.std.proofs.Common.{◌≡◌, ◌≢◌, ℕ, ◌<◌, ◌≤◌, ◌+◌, ◌-◌, ◌^◌, List, [], ◌∷◌, ◌++◌, length, get_or, set, map, refl, sym, ◌∙◌, ap, subst, arith, inl, inr, zero, suc}
-use Rattle.std.proofs.lemmas.Bool.{cases_eq}
-use Rattle.std.proofs.lemmas.List.{get_or-set_same, get_or-set_other, length-set, length-map, set-get_or}
+use Rattle.std.proofs.Common.{◌≡◌, ◌≢◌, ℕ, ◌<◌, ◌≤◌, ◌-◌, ◌^◌, List, [], ◌∷◌, ◌++◌, length, get_or, set, sym, ◌∙◌, ap, subst, arith, suc}
+use Rattle.std.proofs.lemmas.List.{length-map, set-get_or}
 use Rattle.std.specs.Prelude.{Contains}
 use Rattle.link_arena.specs.declared.slot.Slot.{Slot}
 use Rattle.link_arena.specs.declared.slot.Head.{Head}
-use Rattle.link_arena.specs.Links.{others_of, without, without_other}
+use Rattle.link_arena.specs.Links.{others_of, without}
 use Rattle.link_arena.specs.Threads.{IsIn}
 use Rattle.link_arena.specs.Lists.{lists, list_of, list_at, owners, owner_at, moved_to, IsFiled}
 use Rattle.link_arena.specs.Twins.{twin, other, shown, links, IsTwinned, IsArena, IsMarkedFor, IsRequeued}
-use Rattle.link_arena.proofs.Leads.{IsIn-either}
-use Rattle.link_arena.proofs.Threaded.{IsIn-without}
 use Rattle.link_arena.proofs.Filed.{in_some_list}
 use Rattle.link_arena.proofs.Shown.{length-moved}
 use Rattle.link_arena.proofs.Arenas.{owner_within}

@@ -1,7 +1,7 @@
 -- An end is parted from the ends that it is joined to, one after another.
-use Rattle.std.proofs.Common.{◌≡◌, ◌≢◌, ℕ, ◌<◌, ◌≤◌, List, [], ◌∷◌, ◌++◌, length, get_or, set, map, replicate, refl, sym, ◌∙◌, ap, subst, arith, inl, inr, zero, suc, true, false, eqb, eq-eqb, ne_eqb, Option, None}
+use Rattle.std.proofs.Common.{◌≡◌, ◌≢◌, ℕ, ◌<◌, ◌≤◌, List, [], ◌∷◌, length, get_or, set, map, refl, sym, ◌∙◌, ap, subst, arith, inl, inr, zero, suc, true, false, eqb, eq-eqb, ne_eqb}
 use Rattle.std.proofs.lemmas.Bool.{cases_eq}
-use Rattle.std.proofs.lemmas.List.{map-set, set-set, set_comm, set-get_or, get_or-set_other, get_or-set_same, map-append}
+use Rattle.std.proofs.lemmas.List.{map-set, set-set, set_comm, set-get_or, get_or-set_other, get_or-set_same}
 use Rattle.std.specs.Prelude.{Contains}
 use Rattle.link_arena.specs.Links.{others_of, without, without_other, parted, all_parted, IsPartedSomewhere, IsSimple}
 use Rattle.link_arena.proofs.Elements.{Contains-later, Contains-first}

@@ -1,10 +1,10 @@
 -- A list put in another order, by moving one number after another to the end.
-use Rattle.std.proofs.Common.{◌≡◌, ◌≢◌, ℕ, ◌<◌, ◌≤◌, ◌+◌, List, [], ◌∷◌, ◌++◌, length, refl, sym, ◌∙◌, ap, subst, arith, inl, inr, zero, suc}
+use Rattle.std.proofs.Common.{◌≡◌, ℕ, List, [], ◌∷◌, ◌++◌, length, refl, sym, ◌∙◌, ap, subst, arith, inl, inr}
 use Rattle.std.proofs.lemmas.Bool.{cases_eq}
 use Rattle.std.proofs.lemmas.List.{append-nil, append_assoc, length-append}
 use Rattle.link_arena.specs.Links.{without}
 use Rattle.link_arena.specs.Threads.{IsIn, IsDistinct}
-use Rattle.link_arena.proofs.Leads.{IsAround, around, without-around, distinct-out_of, IsIn-either, IsIn-left, IsIn-right, IsIn-out_of, distinct-push}
+use Rattle.link_arena.proofs.Leads.{IsAround, around, without-around, IsIn-either, IsIn-left, IsIn-right, distinct-push}
 use Rattle.link_arena.proofs.Filed.{IsIn-kept}
 use Rattle.link_arena.proofs.Threaded.{distinct-without, IsIn-without}
 

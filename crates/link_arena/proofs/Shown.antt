@@ -1,12 +1,12 @@
 -- What an arena shows, after twins are joined or parted.
-use Rattle.std.proofs.Common.{◌≡◌, ◌≢◌, ℕ, ◌<◌, ◌≤◌, ◌+◌, ◌-◌, List, [], ◌∷◌, ◌++◌, length, get_or, set, map, drop, refl, sym, ◌∙◌, ap, subst, arith, inl, inr, zero, suc, true, false, eqb, eq-eqb, ne_eqb}
+use Rattle.std.proofs.Common.{◌≡◌, ◌≢◌, ℕ, ◌<◌, ◌-◌, List, [], ◌∷◌, ◌++◌, length, get_or, map, refl, sym, ◌∙◌, ap, subst, arith, inl, inr, zero, suc, true, false, eqb, eq-eqb, ne_eqb}
 use Rattle.std.proofs.lemmas.Bool.{cases_eq}
-use Rattle.std.proofs.lemmas.List.{get_or-set_same, get_or-set_other, length-set, length-map, length-drop, ext_get_or, map-append, get_or_past}
+use Rattle.std.proofs.lemmas.List.{get_or-set_same, get_or-set_other, length-set, length-map, length-drop, ext_get_or, map-append}
 use Rattle.link_arena.specs.Links.{without, with_last, without_other, others_of, joined, parted}
 use Rattle.link_arena.specs.Threads.{IsIn}
 use Rattle.link_arena.specs.Lists.{moved_to}
 use Rattle.link_arena.specs.Twins.{twin, other, shown, IsTwinned, IsRewritten}
-use Rattle.link_arena.proofs.Twins.{twin-twin, twin-other, twin_kept, twin_of_second}
+use Rattle.link_arena.proofs.Twins.{twin-twin, twin_kept, twin_of_second}
 
 pub get_or-map_nil : (f : ℕ → ℕ) (L : List (List ℕ)) (j : ℕ) → get_or (map (map f) L) j [] ≡ map f (get_or L j [])
 get_or-map_nil f [] j = refl

@@ -1,6 +1,6 @@
 -- The joins that an arena shows are simple.
-use Rattle.std.proofs.Common.{◌≡◌, ◌≢◌, ℕ, ◌<◌, ◌≤◌, ◌+◌, ◌-◌, List, [], ◌∷◌, length, get_or, map, refl, sym, ◌∙◌, ap, subst, arith, inl, inr, zero, suc}
-use Rattle.std.proofs.lemmas.Bool.{cases_eq, cases_lt}
+use Rattle.std.proofs.Common.{◌≡◌, ◌≢◌, ℕ, ◌<◌, ◌≤◌, ◌-◌, List, [], ◌∷◌, length, get_or, map, refl, sym, ◌∙◌, ap, subst, arith, inl, inr, zero, suc}
+use Rattle.std.proofs.lemmas.Bool.{cases_lt}
 use Rattle.std.proofs.lemmas.List.{length-map, get_or_past}
 use Rattle.std.specs.Prelude.{Contains, AllPairs}
 use Rattle.link_arena.specs.declared.slot.Slot.{Slot}
@@ -8,11 +8,11 @@ use Rattle.link_arena.specs.declared.slot.Head.{Head}
 use Rattle.link_arena.specs.Links.{others_of, IsSimple}
 use Rattle.link_arena.specs.Threads.{IsIn, IsDistinct}
 use Rattle.link_arena.specs.Lists.{lists, list_of, list_at, owners, owner_at}
-use Rattle.link_arena.specs.Twins.{twin, other, shown, links, IsArena}
+use Rattle.link_arena.specs.Twins.{twin, other, links, IsArena}
 use Rattle.link_arena.proofs.Filed.{in_some_list}
 use Rattle.link_arena.proofs.Twins.{twin-twin}
 use Rattle.link_arena.proofs.Shown.{at_shown, length-shown}
-use Rattle.link_arena.proofs.Arenas.{contains_mapped, owner_within, twin_in}
+use Rattle.link_arena.proofs.Arenas.{contains_mapped, owner_within}
 
 pub in_at : (xs : List ℕ) (k d y : ℕ) → k < length xs → get_or xs k d ≡ y → IsIn y xs
 in_at [] k d y within is = absurd (omega arith)

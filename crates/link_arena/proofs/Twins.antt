@@ -1,11 +1,8 @@
 -- Twins that are joined, or parted.
-use Rattle.std.proofs.Common.{◌≡◌, ◌≢◌, ℕ, ◌<◌, ◌≤◌, ◌+◌, ◌-◌, ◌%◌, List, [], ◌∷◌, ◌++◌, length, get_or, set, map, drop, refl, sym, ◌∙◌, ap, subst, arith, inl, inr, zero, suc, true, false, eqb, eq-eqb, ne_eqb}
+use Rattle.std.proofs.Common.{◌≡◌, ◌≢◌, ℕ, ◌<◌, ◌+◌, ◌-◌, ◌%◌, List, length, get_or, set, refl, sym, ◌∙◌, ap, subst, arith, inl, inr, true, false, eqb, eq-eqb, ne_eqb}
 use Rattle.std.proofs.lemmas.Bool.{cases_eq}
-use Rattle.std.proofs.lemmas.List.{get_or-set_same, get_or-set_other, length-set, length-map, length-drop, ext_get_or, map-append, get_or_past}
-use Rattle.link_arena.specs.Links.{without, with_last, without_other, others_of, joined, parted}
-use Rattle.link_arena.specs.Threads.{IsIn}
-use Rattle.link_arena.specs.Lists.{moved_to}
-use Rattle.link_arena.specs.Twins.{twin, other, shown, IsTwinned, IsRewritten}
+use Rattle.std.proofs.lemmas.List.{get_or-set_same, get_or-set_other, length-set}
+use Rattle.link_arena.specs.Twins.{twin, IsTwinned, IsRewritten}
 
 pub twin-even : (s : ℕ) → s % 2 ≡ 0 → twin s ≡ s + 1
 twin-even s e = let test : eqb (s % 2) 0 ≡ true = eq-eqb (s % 2) 0 e in rw test refl

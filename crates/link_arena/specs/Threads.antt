@@ -1,5 +1,5 @@
 -- Lists that are threaded through a table: from a start each number's step leads to the next.
-use Rattle.std.specs.Prelude.{◌≡◌, ℕ, zero, suc, List, [], ◌∷◌, ◌++◌, ◌<◌, length, ◌⊎◌, ◌==◌, cond, reverse, slice_index, slice_set}
+use Rattle.std.specs.Prelude.{◌≡◌, ℕ, zero, suc, List, [], ◌∷◌, ◌<◌, length, ◌⊎◌, ◌==◌, cond, reverse, slice_index, slice_set}
 
 -- the numbers that the steps lead to from a start on, as many as are asked for
 abbrev pub walk : List ℕ → ℕ → ℕ → List ℕ

@@ -1,4 +1,4 @@
-use Rattle.std.proofs.Common.{arith, ◌≡◌, ◌<◌, ◌∙◌, ℕ, ◌⊎◌, ◌-◌, List, length, get_or, set, ap, sym, subst, inl, inr}
+use Rattle.std.proofs.Common.{arith, ◌≡◌, ◌<◌, ℕ, ◌⊎◌, ◌-◌, List, length, get_or, sym, subst, inl, inr}
 use Rattle.link_arena.specs.Threads.{IsIn, walk}
 use Rattle.link_arena.specs.Lists.{nexts, list_of, owner_at}
 use Rattle.link_arena.specs.Twins.{twin}

@@ -1,4 +1,4 @@
-use Rattle.std.proofs.Common.{◌≡◌, ℕ, ◌⊎◌, length, get_or}
+use Rattle.std.proofs.Common.{◌≡◌, ℕ, ◌⊎◌, get_or}
 use Rattle.link_arena.specs.Threads.{IsIn, walk}
 use Rattle.link_arena.specs.Lists.{nexts, list_of, owner_at}
 use Rattle.link_arena.specs.Twins.{twin}

@@ -1,4 +1,4 @@
-use Rattle.std.proofs.Common.{arith, ◌≡◌, ◌<◌, ◌∙◌, length, get_or, subst, ap, sym, refl}
+use Rattle.std.proofs.Common.{arith, ◌<◌, ◌∙◌, length, refl}
 use Rattle.link_arena.specs.Twins.{links}
 use Rattle.link_arena.proofs.Found.{length_links}
 use Rattle.link_arena.proofs.Simple.{simple}

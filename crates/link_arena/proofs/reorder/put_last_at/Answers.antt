@@ -1,4 +1,4 @@
-use Rattle.std.proofs.Common.{arith, ◌≡◌, ◌+◌, ◌<◌, ℕ, suc, length, refl}
+use Rattle.std.proofs.Common.{arith, ◌≡◌, ◌+◌, suc, refl}
 use Rattle.link_arena.proofs.Ordering.{marked_slot, requeue_step}
 use Rattle.link_arena.proofs.reorder.put_last_at.Goals as goal
 

@@ -1,5 +1,5 @@
-use Rattle.std.proofs.Common.{arith, ◌≡◌, ◌≢◌, ◌<◌, ◌+◌, ℕ, suc, length, subst, sym}
-use Rattle.link_arena.specs.Lists.{list_at, list_of, head_at, owner_at}
+use Rattle.std.proofs.Common.{arith, ◌<◌, ◌+◌, length, subst, sym}
+use Rattle.link_arena.specs.Lists.{owner_at}
 use Rattle.link_arena.specs.Twins.{twin, IsMarkedFor}
 use Rattle.link_arena.proofs.Found.{in_list_at}
 use Rattle.link_arena.proofs.Threaded.{list_at-is}

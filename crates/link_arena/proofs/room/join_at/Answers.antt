@@ -1,4 +1,4 @@
-use Rattle.std.proofs.Common.{◌≡◌, ℕ, ◌∙◌, ◌++◌, List, length, take, drop, ap, sym, arith}
+use Rattle.std.proofs.Common.{◌≡◌, ℕ, ◌∙◌, ◌++◌, List, length, take, drop, ap, arith}
 use Rattle.std.proofs.lemmas.List.{take_at}
 use Rattle.link_arena.specs.Links.{joined}
 use Rattle.link_arena.specs.Twins.{links}

@@ -1,5 +1,4 @@
-use Rattle.std.proofs.Common.{◌<◌, length, arith}
-use Rattle.link_arena.specs.Lists.{head_at}
+use Rattle.std.proofs.Common.{arith}
 use Rattle.link_arena.proofs.Threaded.{length-list_at}
 use Rattle.link_arena.proofs.room.need_row.Goals as goal
 

@@ -1,4 +1,3 @@
-use Rattle.link_arena.specs.Twins.{links}
 use Rattle.link_arena.proofs.Simple.{simple}
 use Rattle.link_arena.proofs.sides.are_joined.Goals as goal
 

@@ -1,4 +1,4 @@
-use Rattle.std.proofs.Common.{arith, rules, ◌≡◌, ◌≢◌, ℕ, ◌<◌, length, sym, ◌∙◌, ap, subst, inl, inr}
+use Rattle.std.proofs.Common.{arith, rules, ◌≢◌, ℕ, ◌<◌, length, sym, ◌∙◌, ap, subst, inl, inr}
 use Rattle.link_arena.specs.Threads.{IsIn}
 use Rattle.link_arena.specs.Lists.{nexts, list_of, owner_at}
 use Rattle.link_arena.specs.Twins.{twin}

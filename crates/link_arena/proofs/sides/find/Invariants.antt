@@ -1,4 +1,4 @@
-use Rattle.std.proofs.Common.{◌≡◌, ◌≢◌, ℕ, ◌⊎◌}
+use Rattle.std.proofs.Common.{◌≢◌, ℕ, ◌⊎◌}
 use Rattle.link_arena.specs.Threads.{IsIn, walk}
 use Rattle.link_arena.specs.Lists.{nexts, list_of, owner_at}
 use Rattle.link_arena.specs.Twins.{twin}

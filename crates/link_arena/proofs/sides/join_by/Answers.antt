@@ -1,4 +1,4 @@
-use Rattle.std.proofs.Common.{arith, ◌≡◌, ◌+◌, ℕ, suc}
+use Rattle.std.proofs.Common.{arith, ◌≡◌, ◌+◌, suc}
 use Rattle.link_arena.proofs.Arenas.{joined_steps}
 use Rattle.link_arena.proofs.sides.join_by.Goals as goal
 

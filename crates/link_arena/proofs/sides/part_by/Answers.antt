@@ -1,4 +1,3 @@
-use Rattle.std.proofs.Common.{◌≡◌}
 use Rattle.link_arena.proofs.Arenas.{parted_steps}
 use Rattle.link_arena.proofs.sides.part_by.Goals as goal
 

@@ -1,8 +1,8 @@
-use Rattle.std.proofs.Common.{◌≡◌, ℕ, ◌<◌, List, [], length, get_or, subst, sym, ◌∙◌, ap}
+use Rattle.std.proofs.Common.{◌≡◌, ℕ, ◌<◌, List, [], get_or, subst, sym, ◌∙◌, ap}
 use Rattle.std.proofs.lemmas.List.{length-map}
 use Rattle.link_arena.specs.Threads.{IsIn}
 use Rattle.link_arena.specs.Links.{with_last}
-use Rattle.link_arena.specs.Lists.{lists, list_of, list_at, owner_at, moved_to}
+use Rattle.link_arena.specs.Lists.{lists, list_of, list_at, moved_to}
 use Rattle.link_arena.proofs.Filed.{in_some_list, out_of_all, filed-moved}
 use Rattle.link_arena.proofs.slot.move_from.Goals as goal
 

@@ -1,9 +1,9 @@
-use Rattle.std.proofs.Common.{arith, ◌≡◌, ◌<◌, ◌≤◌, ◌+◌, ◌^◌, ◌∙◌, ◌++◌, List, ℕ, [], length, replicate, take, ap, sym, subst}
+use Rattle.std.proofs.Common.{arith, ◌≡◌, ◌≤◌, ◌+◌, ◌^◌, ◌∙◌, ◌++◌, List, ℕ, [], length, replicate, take, ap, sym, subst}
 use Rattle.std.proofs.lemmas.List.{length-append, length-replicate}
 use Rattle.link_arena.specs.declared.slot.Head.{Head}
 use Rattle.link_arena.specs.Twins.{links, IsArena, no_head, with_free_head}
 use Rattle.link_arena.proofs.Begun.{IsBegun, begun}
-use Rattle.link_arena.proofs.Heads.{IsWider, wider}
+use Rattle.link_arena.proofs.Heads.{wider}
 use Rattle.link_arena.proofs.arena.Arena.add_ends.Goals as goal
 
 pub invariant_of-self-in_err-push_marks : goal.invariant_of-self-in_err-push_marks

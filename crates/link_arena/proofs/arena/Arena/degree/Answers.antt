@@ -1,4 +1,4 @@
-use Rattle.std.proofs.Common.{arith, ◌≡◌, ◌<◌, ◌+◌, ◌∙◌, List, ℕ, suc, length, ap, sym}
+use Rattle.std.proofs.Common.{arith, ◌≡◌, ◌<◌, ◌+◌, ◌∙◌, List, ℕ, length, ap, sym}
 use Rattle.std.proofs.lemmas.List.{get_or_default}
 use Rattle.link_arena.specs.declared.slot.Head.{Head}
 use Rattle.link_arena.specs.Links.{others_of}

@@ -1,11 +1,11 @@
-use Rattle.std.proofs.Common.{arith, ◌≡◌, ◌<◌, ◌+◌, ◌∙◌, List, ℕ, length, set, ap, sym, subst}
+use Rattle.std.proofs.Common.{arith, ◌≡◌, ◌<◌, ◌∙◌, List, ℕ, length, ap, sym, subst}
 use Rattle.link_arena.specs.Links.{parted}
 use Rattle.link_arena.specs.declared.slot.Head.{Head}
 use Rattle.link_arena.specs.Twins.{links}
 use Rattle.link_arena.proofs.Begun.{view_written}
 use Rattle.link_arena.proofs.Found.{length_links}
 use Rattle.link_arena.proofs.Simple.{simple}
-use Rattle.link_arena.specs.Links.{others_of, IsSimple}
+use Rattle.link_arena.specs.Links.{others_of}
 use Rattle.std.specs.Prelude.{Contains}
 use Rattle.link_arena.proofs.arena.Arena.part.Goals as goal
 
