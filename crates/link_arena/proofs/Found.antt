@@ -1,5 +1,5 @@
 -- What a search along a list finds.
-use Rattle.std.proofs.Common.{◌≡◌, ◌≢◌, ℕ, ◌<◌, ◌+◌, ◌-◌, List, [], length, map, Option, Some, None, refl, sym, ◌∙◌, ap, subst, arith, inl, zero, suc}
+use Rattle.std.proofs.Common.{◌≡◌, ◌≢◌, ℕ, ◌<◌, ◌+◌, ◌-◌, List, length, Option, Some, None, refl, sym, ◌∙◌, ap, subst, arith, inl, zero, suc}
 use Rattle.std.proofs.lemmas.List.{length-map}
 use Rattle.std.specs.Prelude.{Contains, IfSome, IfNone}
 use Rattle.link_arena.specs.declared.slot.Slot.{Slot}
@@ -7,10 +7,10 @@ use Rattle.link_arena.specs.declared.slot.Head.{Head}
 use Rattle.link_arena.specs.Links.{others_of, parted, IsPartedSomewhere}
 use Rattle.link_arena.specs.Threads.{IsIn, walk}
 use Rattle.link_arena.specs.Lists.{nexts, lists, list_of, list_at, head_at, owner_at, owners}
-use Rattle.link_arena.specs.Twins.{twin, other, links, IsArena}
+use Rattle.link_arena.specs.Twins.{twin, links, IsArena}
 use Rattle.link_arena.proofs.Threaded.{list_at-is}
 use Rattle.link_arena.proofs.Arenas.{twin_in}
-use Rattle.link_arena.proofs.Shown.{at_shown, length-shown}
+use Rattle.link_arena.proofs.Shown.{length-shown}
 use Rattle.link_arena.proofs.Simple.{IsShownBy, shown_by, shows, used_twin}
 
 pub if_some : {A : Type 0} (P Q : A → Type 0) (r : Option A) → ((x : A) → P x → Q x) → IfSome r P → IfSome r Q
@@ -73,12 +73,6 @@ part_first_of heads slots ok a s new own is =
       was = shows heads slots ok s a (owner_at slots (twin s) - 1) own' leads;
       is = is ∙ ap (λ (i : ℕ). parted (links heads slots) i (owner_at slots (twin s) - 1)) a_is;
     }
-
-pub none_shown : (heads : List Head) (slots : List Slot) (a : ℕ) → list_at heads slots (a + 1) ≡ [] → others_of (links heads slots) a ≡ []
-none_shown heads slots a none =
-    let k : suc a ≡ a + 1 = omega arith in
-    at_shown (owners slots) (lists heads slots) a
-    ∙ ap (map (other (owners slots))) (ap (λ (i : ℕ). list_at heads slots i) k ∙ none)
 
 pub length_links : (heads : List Head) (slots : List Slot) → length (links heads slots) ≡ length heads - 1
 length_links heads slots = length-shown (owners slots) (lists heads slots) ∙ ap (λ (n : ℕ). n - 1) (length-map heads (list_of slots))
