@@ -1,13 +1,10 @@
 -- An end is parted from the ends that it is joined to, one after another.
-use Rattle.std.proofs.Common.{◌≡◌, ◌≢◌, ℕ, ◌<◌, ◌≤◌, List, [], ◌∷◌, ◌++◌, length, get_or, set, map, replicate, refl, sym, ◌∙◌, ap, subst, arith, inl, inr, zero, suc, true, false, eqb, eq-eqb, ne_eqb, Option, None}
+use Rattle.std.proofs.Common.{◌≡◌, ◌≢◌, ℕ, ◌<◌, ◌≤◌, List, [], ◌∷◌, length, get_or, set, map, refl, sym, ◌∙◌, ap, subst, arith, inl, inr, zero, suc, true, false, eqb, eq-eqb, ne_eqb}
 use Rattle.std.proofs.lemmas.Bool.{cases_eq}
-use Rattle.std.proofs.lemmas.List.{map-set, set-set, set_comm, set-get_or, get_or-set_other, get_or-set_same, map-append}
+use Rattle.std.proofs.lemmas.List.{map-set, set-set, set_comm, set-get_or, get_or-set_other, get_or-set_same}
 use Rattle.std.specs.Prelude.{Contains}
-use Rattle.link_arena.specs.declared.row.Twin.{Twin}
 use Rattle.link_arena.specs.Links.{others_of, without, without_other, parted, all_parted, IsPartedSomewhere, IsSimple}
-use Rattle.link_arena.specs.Slots.{live, row_at, slot_at, IsPaired}
-use Rattle.link_arena.proofs.Named.{Contains-later, Contains-first}
-use Rattle.link_arena.proofs.Views.{IsPaired-same}
+use Rattle.link_arena.proofs.Elements.{Contains-later, Contains-first}
 
 -- what a list is without a number
 
@@ -58,6 +55,15 @@ map_without_none x (xs ∷ links) none =
     rw (first, rest) refl
 
 -- parting changes only the two ends
+
+pub parted_comm : (links : List (List ℕ)) (a b : ℕ) → a ≢ b → parted links a b ≡ parted links b a
+parted_comm links a b apart =
+    let apart' : b ≢ a = λ e. apart (sym e) in
+    let one : others_of (without_other links a b) b ≡ others_of links b =
+    get_or-set_other links a b (without b (others_of links a)) [] apart' in
+    let two : others_of (without_other links b a) a ≡ others_of links a =
+    get_or-set_other links b a (without a (others_of links b)) [] apart in
+    rw (one, two) (set_comm links a b (without b (others_of links a)) (without a (others_of links b)) apart)
 
 pub others_of-parted : (links : List (List ℕ)) (end other : ℕ) → end < length links → other ≢ end
     → others_of (parted links end other) end ≡ without other (others_of links end)
@@ -125,31 +131,3 @@ IsFewer-parted old end new within simple parted' =
       fewer = rw at lt;
       rest = rw parted'.is (all_parted-parted old end other apart);
     }
-
--- ends with no join are added
-
-pub slot_at-grown : (rows : List (List (Option Twin))) (n e i : ℕ)
-    → slot_at (rows ++ replicate n []) e i ≡ slot_at rows e i
-slot_at-grown rows n e i = ap (λ (r : List (Option Twin)). get_or r i None) (row_at-grown rows n e)
-  where
-    none : (n e : ℕ) → get_or (replicate n (let r : List (Option Twin) = [] in r)) e [] ≡ []
-    none zero e = refl
-    none (suc n) zero = refl
-    none (suc n) (suc e) = none n e
-
-    row_at-grown : (rows : List (List (Option Twin))) (n e : ℕ) → row_at (rows ++ replicate n []) e ≡ row_at rows e
-    row_at-grown [] n zero = none n zero
-    row_at-grown [] n (suc e) = none n (suc e)
-    row_at-grown (r ∷ rows) n zero = refl
-    row_at-grown (r ∷ rows) n (suc e) = row_at-grown rows n e
-
-pub IsPaired-grown : (rows : List (List (Option Twin))) (n : ℕ) → IsPaired rows → IsPaired (rows ++ replicate n [])
-IsPaired-grown rows n = IsPaired-same rows (rows ++ replicate n []) (slot_at-grown rows n)
-
-pub view-grown : (rows : List (List (Option Twin))) (n : ℕ)
-    → map live (rows ++ replicate n []) ≡ map live rows ++ replicate n []
-view-grown rows n = map-append live rows (replicate n []) ∙ ap (λ (l : List (List ℕ)). map live rows ++ l) (lives n)
-  where
-    lives : (n : ℕ) → map live (replicate n []) ≡ replicate n []
-    lives zero = refl
-    lives (suc n) = ap (λ (l : List (List ℕ)). [] ∷ l) (lives n)

@@ -1,10 +1,12 @@
 ghost use Rattle.std.specs.Prelude.{◌≡◌, ◌≢◌, ℕ, ◌+◌, ◌<◌, ◌^◌, List, [], ◌++◌, length, replicate, ◌↔◌, IsTrue, IfOk, OnOk, OnErr, Contains, IsPermutation, slice_set, take, ◌≤◌};
 ghost use Rattle.link_arena.specs.Links.{others_of, IsSimple, joined, parted, all_parted};
+ghost use Rattle.link_arena.specs.Twins.{no_head, with_free_head};
 
-use crate::joins::{are_joined, join_at, part_each, part_pair};
-use crate::order::reorder;
 use crate::others::Others;
-use crate::row::Row;
+use crate::reorder::reorder;
+use crate::room::join_at;
+use crate::sides::{are_joined, part_each, part_pair};
+use crate::slot::{Head, Slot};
 use std::alloc::{AllocError, Global};
 use std::marker::Model;
 
@@ -12,20 +14,20 @@ use std::marker::Model;
 /// most once. Contracts see an arena as a list: at each end, the ends that it is joined to, in its order.
 #[derive(Debug, Drop)]
 pub struct Arena {
-    rows: Vec<Row>,
+    heads: Vec<Head>,
+    slots: Vec<Slot>,
     marks: Vec<usize>,
-    alloc: Global,
 }
 
 impl Model for Arena {
-    ghost use Rattle.std.specs.Prelude.{◌≤◌, ◌<◌, ◌^◌, ◌≡◌, List, ℕ, map, length};
-    ghost use Rattle.link_arena.specs.Slots.{live, IsPaired};
+    ghost use Rattle.std.specs.Prelude.{◌≤◌, List, ℕ, length};
+    ghost use Rattle.link_arena.specs.Twins.{links, IsArena};
 
     ghost Value = { List (List ℕ) };
 
-    ghost view = { λ arena. map live arena.rows.items };
+    ghost view = { λ arena. links arena.heads.items arena.slots.items };
 
-    ghost invariant = { λ arena. IsPaired arena.rows.items × (length arena.rows.items ≤ length arena.marks.items) × (length arena.rows.items < 2 ^ 32) };
+    ghost invariant = { λ arena. IsArena arena.heads.items arena.slots.items × (length arena.heads.items ≤ length arena.marks.items) };
 }
 
 impl Arena {
@@ -34,9 +36,9 @@ impl Arena {
         ensures { result ≡ [] }
     {
         Arena {
-            rows: Vec::new(alloc),
+            heads: Vec::new(alloc),
+            slots: Vec::new(alloc),
             marks: Vec::new(alloc),
-            alloc,
         }
     }
 
@@ -45,7 +47,7 @@ impl Arena {
         ensures count { result ≡ length self.now }
         ensures simple { IsSimple self.now }
     {
-        self.rows.len() as u32
+        self.heads.len().saturating_sub(1) as u32
     }
 
     /// Adds ends with no join. Without memory for them the arena stays as it was. In time linear in the count.
@@ -54,12 +56,13 @@ impl Arena {
         ensures ok { OnOk result (self.new ≡ self.old ++ replicate count []) }
         ensures err { OnErr result (self.new ≡ self.old) }
     {
+        need_free_head(&mut self.heads, &mut self.marks)?;
         push_marks(&mut self.marks, count)?;
-        let before = self.rows.len();
-        match push_rows(&mut self.rows, self.alloc, count) {
+        let before = self.heads.len();
+        match push_heads(&mut self.heads, count) {
             Ok(()) => Ok(()),
             Err(error) => {
-                self.rows.truncate(before);
+                self.heads.truncate(before);
                 Err(error)
             }
         }
@@ -71,7 +74,7 @@ impl Arena {
         ensures list { result ≡ others_of self.now end }
         ensures simple { IsSimple self.now }
     {
-        Others::new(self.rows[end as usize].slots())
+        Others::new(self.slots.as_slice(), self.heads[end as usize + 1])
     }
 
     /// How many ends an end is joined to. In constant time.
@@ -79,7 +82,7 @@ impl Arena {
         requires { end < length self.now }
         ensures { result ≡ length (others_of self.now end) }
     {
-        self.rows[end as usize].degree()
+        self.heads[end as usize + 1].len
     }
 
     /// Whether two ends are joined. In time linear in the smaller of their degrees.
@@ -88,7 +91,7 @@ impl Arena {
         requires second_within { second < length self.now }
         ensures { IsTrue result ↔ Contains (others_of self.now first) second }
     {
-        are_joined(self.rows.as_slice(), first, second)
+        are_joined(self.heads.as_slice(), self.slots.as_slice(), first, second)
     }
 
     /// Joins two ends: each stands last at the other. Without memory the arena stays as it was. In constant time, amortised.
@@ -100,7 +103,7 @@ impl Arena {
         ensures ok { OnOk result (self.new ≡ joined self.old first second) }
         ensures err { OnErr result (self.new ≡ self.old) }
     {
-        join_at(self.rows.as_mut_slice(), first, second)
+        join_at(self.heads.as_mut_slice(), &mut self.slots, first, second)
     }
 
     /// Parts two ends that are joined. It takes no memory. In time linear in the smaller of their degrees, amortised.
@@ -108,7 +111,12 @@ impl Arena {
         requires { Contains (others_of self.old first) second }
         ensures { self.new ≡ parted self.old first second }
     {
-        part_pair(self.rows.as_mut_slice(), first, second);
+        part_pair(
+            self.heads.as_mut_slice(),
+            self.slots.as_mut_slice(),
+            first,
+            second,
+        );
     }
 
     /// Parts an end from all that it is joined to. It takes no memory. In time linear in its degree, amortised.
@@ -116,7 +124,7 @@ impl Arena {
         requires { end < length self.old }
         ensures { self.new ≡ all_parted self.old end }
     {
-        part_each(self.rows.as_mut_slice(), end);
+        part_each(self.heads.as_mut_slice(), self.slots.as_mut_slice(), end);
     }
 
     /// Puts the ends that an end is joined to in another order. It takes no memory. In time linear in their number.
@@ -126,7 +134,8 @@ impl Arena {
         ensures { self.new ≡ slice_set self.old end order.now }
     {
         reorder(
-            self.rows.as_mut_slice(),
+            self.heads.as_mut_slice(),
+            self.slots.as_mut_slice(),
             self.marks.as_mut_slice(),
             end,
             order,
@@ -137,19 +146,49 @@ impl Arena {
     pub fn duplicate(&self, alloc: Global) -> Result<Arena, AllocError>
         ensures { IfOk result (λ copy. copy ≡ self.now) }
     {
-        let rows = duplicate_rows(self.rows.as_slice(), alloc)?;
+        let heads = Vec::from_slice(alloc, self.heads.as_slice())?;
+        let slots = Vec::from_slice(alloc, self.slots.as_slice())?;
         let marks = Vec::from_slice(alloc, self.marks.as_slice())?;
-        Ok(Arena { rows, marks, alloc })
+        Ok(Arena {
+            heads,
+            slots,
+            marks,
+        })
     }
 }
 
-/// Adds rows with no slot at the end.
-fn push_rows(rows: &mut Vec<Row>, alloc: Global, count: u32) -> Result<(), AllocError>
-    ensures ok { OnOk result (rows.new.items ≡ rows.old.items ++ replicate count []) }
-    ensures err { OnErr result (take (length rows.old.items) rows.new.items ≡ rows.old.items) }
+/// Sees to it that there is the head of the list of the free slots, and a mark for it.
+fn need_free_head(heads: &mut Vec<Head>, marks: &mut Vec<usize>) -> Result<(), AllocError>
+    requires { length heads.old.items ≤ length marks.old.items }
+    ensures ok { OnOk result (heads.new.items ≡ with_free_head heads.old.items) }
+    ensures err { OnErr result (heads.new.items ≡ heads.old.items) }
+    ensures marks { length heads.new.items ≤ length marks.new.items }
+{
+    if heads.len() == 0 {
+        marks.push(0)?;
+        heads.push(no_head())?;
+    }
+    Ok(())
+}
+
+/// The head of a list that has no slot.
+fn no_head() -> Head
+    ensures { result ≡ no_head }
+{
+    Head {
+        first: 0,
+        last: 0,
+        len: 0,
+    }
+}
+
+/// Adds heads of lists that have no slot at the end.
+fn push_heads(heads: &mut Vec<Head>, count: u32) -> Result<(), AllocError>
+    ensures ok { OnOk result (heads.new.items ≡ heads.old.items ++ replicate count no_head) }
+    ensures err { OnErr result (take (length heads.old.items) heads.new.items ≡ heads.old.items) }
 {
     for _ in 0..count {
-        rows.push(Row::new(alloc))?;
+        heads.push(no_head())?;
     }
     Ok(())
 }
@@ -163,15 +202,4 @@ fn push_marks(marks: &mut Vec<usize>, count: u32) -> Result<(), AllocError>
         marks.push(0)?;
     }
     Ok(())
-}
-
-/// Copies of rows.
-fn duplicate_rows(rows: &[Row], alloc: Global) -> Result<Vec<Row>, AllocError>
-    ensures { IfOk result (λ copies. copies.items ≡ rows.now) }
-{
-    let mut copies = Vec::new(alloc);
-    for row in rows {
-        copies.push(row.duplicate(alloc)?)?;
-    }
-    Ok(copies)
 }

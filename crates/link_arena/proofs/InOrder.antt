@@ -1,0 +1,128 @@
+-- The ends that an end is joined to, put in another order.
+use Rattle.std.proofs.Common.{◌≡◌, ◌≢◌, ℕ, ◌<◌, ◌≤◌, ◌+◌, List, [], ◌∷◌, ◌++◌, length, get_or, set, take, map, sym, ◌∙◌, ap, subst, arith, inl, inr, suc}
+use Rattle.std.proofs.lemmas.List.{get_or-set_same, set-set, set-get_or, take_more, take_all, length-map}
+use Rattle.std.proofs.lemmas.List.Sorted.{IsPermutation-sym, length_permutation, Contains-permutation}
+use Rattle.std.proofs.lemmas.List.Elements.{Contains-get_or}
+use Rattle.std.specs.Prelude.{Contains, AllPairs, IsPermutation}
+use Rattle.link_arena.specs.declared.slot.Slot.{Slot}
+use Rattle.link_arena.specs.declared.slot.Head.{Head}
+use Rattle.link_arena.specs.Links.{others_of, without, IsSimple}
+use Rattle.link_arena.specs.Threads.{IsIn, IsDistinct}
+use Rattle.link_arena.specs.Lists.{nexts, lists, list_at, list_of, head_at, owner_at, owners}
+use Rattle.link_arena.specs.Twins.{twin, other, links, IsArena, IsListed}
+use Rattle.link_arena.proofs.Elements.{Contains-first, Contains-later}
+use Rattle.link_arena.proofs.Orders.{AllPairs-permutation}
+use Rattle.link_arena.proofs.Requeue.{requeued, requeued-push, requeued-whole, requeued-none, IsIn-requeued}
+use Rattle.link_arena.proofs.Simple.{in_from, simple, used_twin}
+use Rattle.link_arena.proofs.Threaded.{list_at-is, length-walk}
+use Rattle.link_arena.proofs.Shown.{at_shown}
+use Rattle.link_arena.proofs.Filed.{in_some_list}
+use Rattle.link_arena.proofs.Found.{length_links, list_bounds, in_list_at}
+
+pub contains_in : (xs : List ℕ) (x : ℕ) → IsIn x xs → Contains xs x
+contains_in [] x has = absurd has
+contains_in (y ∷ ys) x (inl e) = subst (λ (k : ℕ). Contains (y ∷ ys) k) (sym e) (Contains-first y ys)
+contains_in (y ∷ ys) x (inr has) = Contains-later y ys x (contains_in ys x has)
+
+pub distinct_from : (xs : List ℕ) → AllPairs (λ x y. x ≢ y) xs → IsDistinct xs
+distinct_from [] apart = tt
+distinct_from (x ∷ xs) apart = (
+  λ h. (let has : Contains xs x = contains_in xs x h in
+      let within : has.0 < length xs = has.1 in
+      apart 0 (suc has.0) x (omega arith) (omega arith) (sym has.2)),
+  distinct_from xs (λ i j d before within. apart (suc i) (suc j) d (omega arith) (omega arith)),
+)
+
+-- one more number of the order can move
+pub there_in_order : (V now : List (List ℕ)) (a i : ℕ) (order : List ℕ) → a < length V → IsPermutation order (others_of V a) → i < length order
+    → now ≡ set V a (requeued (others_of V a) (take i order)) → Contains (others_of now a) (get_or order i 0)
+there_in_order V now a i order within same more is =
+    let x : ℕ = get_or order i 0 in
+    let old : Contains (others_of V a) x = Contains-permutation order (others_of V a) x same (Contains-get_or order i 0 more) in
+    let new : IsIn x (requeued (others_of V a) (take i order)) = IsIn-requeued x (others_of V a) (take i order) (in_from (others_of V a) x old) in
+    let at : others_of now a ≡ requeued (others_of V a) (take i order) =
+    ap (λ (l : List (List ℕ)). others_of l a) is ∙ get_or-set_same V a (requeued (others_of V a) (take i order)) [] within in
+    subst (λ (l : List ℕ). Contains l x) (sym at) (contains_in (requeued (others_of V a) (take i order)) x new)
+
+-- one more number of the order has moved
+pub step_in_order : (V now next : List (List ℕ)) (a i x : ℕ) (order : List ℕ) → a < length V → i < length order → x ≡ get_or order i 0
+    → now ≡ set V a (requeued (others_of V a) (take i order))
+    → next ≡ set now a (without x (others_of now a) ++ x ∷ [])
+    → next ≡ set V a (requeued (others_of V a) (take (i + 1) order))
+step_in_order V now next a i x order within more x_is is step =
+    let xs : List ℕ = others_of V a in
+    let done : List ℕ = requeued xs (take i order) in
+    let at : others_of now a ≡ done = ap (λ (l : List (List ℕ)). others_of l a) is ∙ get_or-set_same V a done [] within in
+    let push : requeued xs (take (i + 1) order) ≡ without x done ++ x ∷ [] =
+    ap (requeued xs) (take_more order i 0 more ∙ ap (λ (k : ℕ). take i order ++ k ∷ []) (sym x_is)) ∙ requeued-push xs (take i order) x in
+    step ∙ (ap (λ (l : List ℕ). set now a (without x l ++ x ∷ [])) at
+    ∙ (ap (λ (l : List (List ℕ)). set l a (without x done ++ x ∷ [])) is
+    ∙ (set-set V a done (without x done ++ x ∷ []) ∙ ap (set V a) (sym push))))
+
+pub none_in_order : (V : List (List ℕ)) (a : ℕ) (order : List ℕ) → V ≡ set V a (requeued (others_of V a) (take 0 order))
+none_in_order V a order = sym (ap (set V a) (requeued-none (others_of V a)) ∙ set-get_or V a [])
+
+-- all numbers of the order have moved
+pub all_in_order : (V now : List (List ℕ)) (a i : ℕ) (order : List ℕ) → IsSimple V → IsPermutation order (others_of V a) → length order ≤ i
+    → now ≡ set V a (requeued (others_of V a) (take i order)) → now ≡ set V a order
+all_in_order V now a i order ok same all is =
+    let xs : List ℕ = others_of V a in
+    let apart : IsDistinct xs = distinct_from xs (ok.single a) in
+    let differ : IsDistinct order = distinct_from order (AllPairs-permutation xs order (IsPermutation-sym order xs same) (ok.single a)) in
+    let sub : (x : ℕ) → IsIn x order → IsIn x xs = λ x h. in_from xs x (Contains-permutation order xs x same (contains_in order x h)) in
+    let whole : requeued xs order ≡ order = requeued-whole xs order apart differ sub (length_permutation order xs same) in
+    is ∙ (ap (λ (l : List ℕ). set V a (requeued xs l)) (take_all i order all) ∙ ap (set V a) whole)
+
+-- the number of an order has a mark
+pub order_within : (heads : List Head) (slots : List Slot) → IsArena heads slots → (a i : ℕ) (order : List ℕ)
+    → IsPermutation order (others_of (links heads slots) a) → i < length order → get_or order i 0 + 1 < length heads
+order_within heads slots ok a i order same more =
+    let x : ℕ = get_or order i 0 in
+    let has : Contains (others_of (links heads slots) a) x = Contains-permutation order (others_of (links heads slots) a) x same (Contains-get_or order i 0 more) in
+    let h : x < length (links heads slots) = (simple heads slots ok).within a x has in
+    omega (arith, length_links heads slots)
+
+-- the slots of an end lead to ends
+pub listed_at : (heads : List Head) (slots : List Slot) → IsArena heads slots → (a A : ℕ) → A ≡ suc a → A < length heads
+    → (s : ℕ) → IsIn s (list_at heads slots A) → (owner_at slots s ≡ suc a) × ((owner_at slots (twin s) ≢ 0) × (owner_at slots (twin s) < length heads))
+listed_at heads slots ok a A is within s h =
+    let own : owner_at slots s ≡ suc a = ok.filed.threaded.owned A s h ∙ is in
+    let some : owner_at slots (twin s) ≢ 0 = used_twin heads slots ok s a own in
+    let twin_within : twin s < length slots = (list_bounds heads slots ok A within s h).1 in
+    let there : IsIn (twin s) (list_at heads slots (owner_at slots (twin s))) = ok.filed.all (twin s) twin_within in
+    (own, (some, in_heads heads slots (owner_at slots (twin s)) (twin s) there))
+  where
+    in_heads : (heads : List Head) (slots : List Slot) (j s : ℕ) → IsIn s (list_at heads slots j) → j < length heads
+    in_heads heads slots j s h =
+        let k : j < length (lists heads slots) = in_some_list (lists heads slots) j s h in
+        omega (arith, length-map heads (list_of slots))
+
+pub end_listed : (heads : List Head) (slots : List Slot) → IsArena heads slots → (a A : ℕ) → A ≡ suc a → A < length heads
+    → IsListed slots (list_of slots (head_at heads A))
+end_listed heads slots ok a A is within = record {
+  within = λ s h. (list_bounds heads slots ok A within s (in_list_at heads slots A within s h)).0;
+  twin_within = λ s h. (list_bounds heads slots ok A within s (in_list_at heads slots A within s h)).1;
+  some = λ s h. (let n : owner_at slots (twin s) ≢ 0 = (listed_at heads slots ok a A is within s (in_list_at heads slots A within s h)).1.0 in omega arith);
+  few = λ s h. (let n : owner_at slots (twin s) < length heads = (listed_at heads slots ok a A is within s (in_list_at heads slots A within s h)).1.1 in omega (arith, ok.few));
+}
+
+pub end_single : (heads : List Head) (slots : List Slot) → IsArena heads slots → (a A : ℕ) → A ≡ suc a → A < length heads
+    → (s u : ℕ) → IsIn s (list_of slots (head_at heads A)) → IsIn u (list_of slots (head_at heads A)) → owner_at slots (twin s) ≡ owner_at slots (twin u) → s ≡ u
+end_single heads slots ok a A is within s u hs hu same =
+    let os : owner_at slots s ≡ suc a = (listed_at heads slots ok a A is within s (in_list_at heads slots A within s hs)).0 in
+    let ou : owner_at slots u ≡ suc a = (listed_at heads slots ok a A is within u (in_list_at heads slots A within u hu)).0 in
+    ok.twinned.single s u (λ z. (let k : suc a ≡ 0 = sym os ∙ z in omega arith)) (os ∙ sym ou) same
+
+-- what an end's list shows
+pub view_at : (heads : List Head) (slots : List Slot) (a A : ℕ) → A ≡ suc a → A < length heads
+    → others_of (links heads slots) a ≡ map (other (owners slots)) (list_of slots (head_at heads A))
+view_at heads slots a A is within =
+    at_shown (owners slots) (lists heads slots) a
+    ∙ (ap (λ (i : ℕ). map (other (owners slots)) (list_at heads slots i)) (sym is)
+    ∙ ap (map (other (owners slots))) (list_at-is heads slots A within))
+
+pub degree_at : (heads : List Head) (slots : List Slot) (a A : ℕ) → A ≡ suc a → A < length heads
+    → length (others_of (links heads slots) a) ≡ (head_at heads A).len
+degree_at heads slots a A is within =
+    ap length (view_at heads slots a A is within)
+    ∙ (length-map (list_of slots (head_at heads A)) (other (owners slots)) ∙ length-walk (nexts slots) (head_at heads A).len (head_at heads A).first)

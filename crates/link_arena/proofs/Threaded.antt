@@ -1,0 +1,320 @@
+-- The lists of an arena, after one of them has changed.
+use Rattle.std.proofs.Common.{◌≡◌, ◌≢◌, ℕ, ◌<◌, ◌≤◌, ◌+◌, ◌-◌, List, [], ◌∷◌, ◌++◌, length, get_or, set, map, refl, sym, ◌∙◌, ap, subst, arith, inl, inr, zero, suc, reverse, true, false, eqb, eq-eqb, ne_eqb}
+use Rattle.std.proofs.lemmas.Bool.{cases_eq}
+use Rattle.std.proofs.lemmas.List.{get_or-set_same, get_or-set_other, length-set, length-map, ext_get_or, length-append, length_push}
+use Rattle.link_arena.specs.declared.slot.Slot.{Slot}
+use Rattle.link_arena.specs.declared.slot.Head.{Head}
+use Rattle.link_arena.specs.Links.{without}
+use Rattle.link_arena.specs.Threads.{walk, IsThread, LeadsThrough, IsIn, IsDistinct, start_past, step_past, start_onto, step_onto, last_or, first_or}
+use Rattle.link_arena.specs.Lists.{nexts, previouses, owners, list_of, lists, head_at, list_at, IsThreaded, IsAfter}
+use Rattle.link_arena.proofs.Leads.{walk_is, thread-past, thread-beside, thread-onto, thread_onto-beside, around, IsAround, without-around, IsIn-either, IsIn-out_of, IsIn-left, IsIn-right, without_out, distinct-push, back_gives, leads-after, leads-first, reverse-around, last_or-in, last_gives}
+
+pub get_or-mapped : {X Y : Type 0} (f : X → Y) (xs : List X) (i : ℕ) (d : X) (e : Y) → i < length xs → get_or (map f xs) i e ≡ f (get_or xs i d)
+get_or-mapped f [] i d e within = absurd (omega arith)
+get_or-mapped f (x ∷ xs) zero d e within = refl
+get_or-mapped f (x ∷ xs) (suc i) d e within = let h : i < length xs = omega arith in get_or-mapped f xs i d e h
+
+pub length-walk : (step : List ℕ) (n start : ℕ) → length (walk step n start) ≡ n
+length-walk step zero start = refl
+length-walk step (suc n) start = ap suc (length-walk step n (get_or step start 0))
+
+no_head : Head
+no_head = record { first = 0; last = 0; len = 0 }
+
+pub list_at-is : (heads : List Head) (slots : List Slot) (id : ℕ) → id < length heads → list_at heads slots id ≡ list_of slots (head_at heads id)
+list_at-is heads slots id within = get_or-mapped (list_of slots) heads id (record { first = 0; last = 0; len = 0 }) [] within
+
+pub length-list_at : (heads : List Head) (slots : List Slot) (id : ℕ) → id < length heads → length (list_at heads slots id) ≡ (head_at heads id).len
+length-list_at heads slots id within =
+    ap length (list_at-is heads slots id within) ∙ length-walk (nexts slots) (head_at heads id).len (head_at heads id).first
+
+pub thread-walk : (slots : List Slot) (head : Head) (xs : List ℕ) → IsThread (nexts slots) (previouses slots) head.first head.last xs
+    → head.len ≡ length xs → list_of slots head ≡ xs
+thread-walk slots head xs t len =
+    ap (λ (n : ℕ). walk (nexts slots) n head.first) len ∙ walk_is (nexts slots) head.first xs t.ahead
+
+pub rebuilt : (heads : List Head) (slots : List Slot) (id : ℕ) (h' : Head) (slots' : List Slot) (xs : List ℕ) → id < length heads
+    → IsThread (nexts slots') (previouses slots') h'.first h'.last xs → h'.len ≡ length xs
+    → ((j : ℕ) → j < length heads → j ≢ id
+    → IsThread (nexts slots') (previouses slots') (head_at heads j).first (head_at heads j).last (list_at heads slots j))
+    → ((j s : ℕ) → IsIn s (get_or (set (lists heads slots) id xs) j []) → get_or (owners slots') s 0 ≡ j)
+    → IsAfter heads slots (set heads id h') slots' id xs
+rebuilt heads slots id h' slots' xs within mine len beside owned =
+    let heads' : List Head = set heads id h' in
+    let count : length heads' ≡ length heads = length-set heads id h' in
+    let here : head_at heads' id ≡ h' = get_or-set_same heads id h' (record { first = 0; last = 0; len = 0 }) within in
+    let same_len : length (lists heads' slots') ≡ length (set (lists heads slots) id xs) =
+    length-map heads' (list_of slots') ∙ (count ∙ (sym (length-map heads (list_of slots)) ∙ sym (length-set (lists heads slots) id xs))) in
+    let in_lists : id < length (lists heads slots) = subst (λ (n : ℕ). id < n) (sym (length-map heads (list_of slots))) within in
+    let each : (j : ℕ) → j < length (lists heads' slots') → get_or (lists heads' slots') j [] ≡ get_or (set (lists heads slots) id xs) j [] = λ j h.
+    let jn : j < length heads' = subst (λ (n : ℕ). j < n) (length-map heads' (list_of slots')) h in
+    let jo : j < length heads = subst (λ (n : ℕ). j < n) count jn in
+    elim (cases_eq j id) [
+      | inl e ↦
+          let at_id : get_or (lists heads' slots') id [] ≡ get_or (set (lists heads slots) id xs) id [] =
+          list_at-is heads' slots' id (subst (λ (n : ℕ). id < n) (sym count) within)
+          ∙ (ap (list_of slots') here ∙ (thread-walk slots' h' xs mine len ∙ sym (get_or-set_same (lists heads slots) id xs [] in_lists))) in
+          subst (λ (k : ℕ). get_or (lists heads' slots') k [] ≡ get_or (set (lists heads slots) id xs) k []) (sym e) at_id
+      | inr n ↦
+          list_at-is heads' slots' j jn
+          ∙ (ap (list_of slots') (get_or-set_other heads id j h' (record { first = 0; last = 0; len = 0 }) n)
+          ∙ (thread-walk slots' (head_at heads j) (list_at heads slots j) (beside j jo n) (sym (length-list_at heads slots j jo))
+          ∙ sym (get_or-set_other (lists heads slots) id j xs [] n)))
+    ] in
+    let eq : lists heads' slots' ≡ set (lists heads slots) id xs = ext_get_or [] (lists heads' slots') (set (lists heads slots) id xs) same_len each in
+    record {
+      threaded = record {
+        thread = λ j h.
+            let jo : j < length heads = subst (λ (n : ℕ). j < n) count h in
+            elim (cases_eq j id) [
+              | inl e ↦
+                  let list_is : list_at heads' slots' id ≡ xs = ap (λ (l : List (List ℕ)). get_or l id []) eq ∙ get_or-set_same (lists heads slots) id xs [] in_lists in
+                  let P : ℕ → Type 0 = λ (k : ℕ). IsThread (nexts slots') (previouses slots') (head_at heads' k).first (head_at heads' k).last (list_at heads' slots' k) in
+                  let Q : Head → Type 0 = λ (k : Head). IsThread (nexts slots') (previouses slots') k.first k.last (list_at heads' slots' id) in
+                  let R : List ℕ → Type 0 = λ (l : List ℕ). IsThread (nexts slots') (previouses slots') h'.first h'.last l in
+                  subst P (sym e) (subst Q (sym here) (subst R (sym list_is) mine))
+              | inr n ↦
+                  let list_is : list_at heads' slots' j ≡ list_at heads slots j = ap (λ (l : List (List ℕ)). get_or l j []) eq ∙ get_or-set_other (lists heads slots) id j xs [] n in
+                  let there : head_at heads' j ≡ head_at heads j = get_or-set_other heads id j h' (record { first = 0; last = 0; len = 0 }) n in
+                  let Q : Head → Type 0 = λ (k : Head). IsThread (nexts slots') (previouses slots') k.first k.last (list_at heads' slots' j) in
+                  let R : List ℕ → Type 0 = λ (l : List ℕ). IsThread (nexts slots') (previouses slots') (head_at heads j).first (head_at heads j).last l in
+                  subst Q (sym there) (subst R (sym list_is) (beside j jo n))
+            ];
+        owned = λ j s h. owned j s (subst (λ (l : List (List ℕ)). IsIn s (get_or l j [])) eq h);
+      };
+      lists_are = eq;
+    }
+
+pub apart_lists : (heads : List Head) (slots : List Slot) → IsThreaded heads slots → (id j : ℕ) → j ≢ id
+    → (x : ℕ) → IsIn x (list_at heads slots id) → ¬ IsIn x (list_at heads slots j)
+apart_lists heads slots ok id j n x here there = n (sym (ok.owned j x there) ∙ ok.owned id x here)
+
+thread-by : (N N' P P' : List ℕ) (f f' l l' : ℕ) (xs : List ℕ) → N' ≡ N → P' ≡ P → f' ≡ f → l' ≡ l → IsThread N P f l xs → IsThread N' P' f' l' xs
+thread-by N N' P P' f f' l l' xs a b c d t =
+    subst (λ (n : List ℕ). IsThread n P' f' l' xs) (sym a)
+    (subst (λ (p : List ℕ). IsThread N p f' l' xs) (sym b)
+    (subst (λ (k : ℕ). IsThread N P k l' xs) (sym c)
+    (subst (λ (k : ℕ). IsThread N P f k xs) (sym d) t)))
+
+-- a slot is taken out of its list
+pub unlinked : (heads : List Head) (slots : List Slot) (id at : ℕ) (h' : Head) (slots' : List Slot) → IsThreaded heads slots → id < length heads
+    → IsIn at (list_at heads slots id)
+    → h'.first ≡ start_past (nexts slots) (head_at heads id).first at
+    → h'.last ≡ start_past (previouses slots) (head_at heads id).last at
+    → h'.len ≡ (head_at heads id).len - 1
+    → nexts slots' ≡ step_past (nexts slots) (head_at heads id).first (get_or (previouses slots) at 0) at
+    → previouses slots' ≡ step_past (previouses slots) (head_at heads id).last (get_or (nexts slots) at 0) at
+    → owners slots' ≡ owners slots
+    → IsAfter heads slots (set heads id h') slots' id (without at (list_at heads slots id))
+unlinked heads slots id at h' slots' ok within there first last len nexts_are previouses_are owners_are =
+    let h : Head = head_at heads id in
+    let N : List ℕ = nexts slots in
+    let P : List ℕ = previouses slots in
+    let N' : List ℕ = step_past N h.first (get_or P at 0) at in
+    let P' : List ℕ = step_past P h.last (get_or N at 0) at in
+    let xs : List ℕ = list_at heads slots id in
+    let parts : IsAround xs at = around xs at there in
+    let ys : List ℕ = parts.before in
+    let zs : List ℕ = parts.after in
+    let t : IsThread N P h.first h.last (ys ++ at ∷ zs) = subst (IsThread N P h.first h.last) parts.is (ok.thread id within) in
+    let cut : without at xs ≡ ys ++ zs = ap (without at) parts.is ∙ without-around ys at zs t.apart in
+    let mine : IsThread (nexts slots') (previouses slots') h'.first h'.last (ys ++ zs) =
+    thread-by N' (nexts slots') P' (previouses slots') (start_past N h.first at) h'.first (start_past P h.last at) h'.last (ys ++ zs)
+    nexts_are previouses_are first last (thread-past N P h.first h.last ys at zs t) in
+    let mine' : IsThread (nexts slots') (previouses slots') h'.first h'.last (without at xs) =
+    subst (IsThread (nexts slots') (previouses slots') h'.first h'.last) (sym cut) mine in
+    let len1 : length ys + length (at ∷ zs) ≡ h.len = sym (length-append ys (at ∷ zs)) ∙ (ap length (sym parts.is) ∙ length-list_at heads slots id within) in
+    let len2 : length (without at xs) ≡ length ys + length zs = ap length cut ∙ length-append ys zs in
+    let len' : h'.len ≡ length (without at xs) = omega (arith, len, len1, len2) in
+    let in_lists : id < length (lists heads slots) = subst (λ (n : ℕ). id < n) (sym (length-map heads (list_of slots))) within in
+    rebuilt heads slots id h' slots' (without at xs) within mine' len'
+    (λ j jo n. thread-by N' (nexts slots') P' (previouses slots') (head_at heads j).first (head_at heads j).first (head_at heads j).last (head_at heads j).last (list_at heads slots j)
+    nexts_are previouses_are refl refl
+    (thread-beside N P h.first h.last ys at zs t (head_at heads j).first (head_at heads j).last (list_at heads slots j)
+    (λ x k. apart_lists heads slots ok id j n x (subst (IsIn x) (sym parts.is) k)) (ok.thread j jo)))
+    (λ j s k. ap (λ (l : List ℕ). get_or l s 0) owners_are ∙ elim (cases_eq j id) [
+      | inl e ↦
+          let k1 : IsIn s (get_or (set (lists heads slots) id (without at xs)) id []) = subst (λ (i : ℕ). IsIn s (get_or (set (lists heads slots) id (without at xs)) i [])) e k in
+          let k2 : IsIn s (without at xs) = subst (IsIn s) (get_or-set_same (lists heads slots) id (without at xs) [] in_lists) k1 in
+          let k3 : IsIn s (ys ++ at ∷ zs) = IsIn-out_of s ys at zs (subst (IsIn s) cut k2) in
+          ok.owned id s (subst (IsIn s) (sym parts.is) k3) ∙ sym e
+      | inr n ↦ ok.owned j s (subst (IsIn s) (get_or-set_other (lists heads slots) id j (without at xs) [] n) k)
+    ])
+
+-- a list of different numbers below n has n at most
+
+pub IsIn-without : (x : ℕ) (y : ℕ) (xs : List ℕ) → IsIn x (without y xs) → IsIn x xs × (x ≢ y)
+IsIn-without x y [] has = absurd has
+IsIn-without x y (z ∷ zs) has =
+    elim (cases_eq z y) [
+      | inl e ↦
+          let test : eqb z y ≡ true = eq-eqb z y e in
+          let has' : IsIn x (without y zs) = rw test at has in
+          let rest : IsIn x zs × (x ≢ y) = IsIn-without x y zs has' in
+          (inr rest.0, rest.1)
+      | inr n ↦
+          let test : eqb z y ≡ false = ne_eqb z y n in
+          let has' : IsIn x (z ∷ without y zs) = rw test at has in
+          elim has' [
+            | inl same ↦ (inl same, λ e. n (sym same ∙ e))
+            | inr later ↦ let rest : IsIn x zs × (x ≢ y) = IsIn-without x y zs later in (inr rest.0, rest.1)
+          ]
+    ]
+
+pub distinct-without : (y : ℕ) (xs : List ℕ) → IsDistinct xs → IsDistinct (without y xs)
+distinct-without y [] apart = tt
+distinct-without y (z ∷ zs) apart =
+    elim (cases_eq z y) [
+      | inl e ↦ let test : eqb z y ≡ true = eq-eqb z y e in rw test (distinct-without y zs apart.1)
+      | inr n ↦
+          let test : eqb z y ≡ false = ne_eqb z y n in
+          rw test (λ h. apart.0 (IsIn-without z y zs h).0, distinct-without y zs apart.1)
+    ]
+
+pub length-without_one : (y : ℕ) (xs : List ℕ) → IsDistinct xs → length xs ≤ suc (length (without y xs))
+length-without_one y [] apart = omega arith
+length-without_one y (z ∷ zs) apart =
+    elim (cases_eq z y) [
+      | inl e ↦
+          let test : eqb z y ≡ true = eq-eqb z y e in
+          let same : without y zs ≡ zs = without_out y zs (λ h. apart.0 (subst (λ (k : ℕ). IsIn k zs) (sym e) h)) in
+          let len : length (without y zs) ≡ length zs = ap length same in
+          rw test (omega (arith, len))
+      | inr n ↦ let test : eqb z y ≡ false = ne_eqb z y n in rw test (omega (arith, length-without_one y zs apart.1))
+    ]
+
+pub pigeon : (n : ℕ) (xs : List ℕ) → IsDistinct xs → ((x : ℕ) → IsIn x xs → x < n) → length xs ≤ n
+pigeon zero [] apart below = omega arith
+pigeon zero (x ∷ xs) apart below = let h : x < 0 = below x (inl refl) in absurd (omega arith)
+pigeon (suc n) xs apart below =
+    let rest : length (without n xs) ≤ n = pigeon n (without n xs) (distinct-without n xs apart)
+    (λ x h. let w : IsIn x xs × (x ≢ n) = IsIn-without x n xs h in let lt : x < suc n = below x w.0 in let ne : x ≢ n = w.1 in omega arith) in
+    omega (arith, rest, length-without_one n xs apart)
+
+-- a slot that stands in no list is put last in one
+
+pub room_for : (heads : List Head) (slots : List Slot) (id at : ℕ) → IsThreaded heads slots → id < length heads → at < length slots
+    → ¬ IsIn at (list_at heads slots id) → (head_at heads id).len < length slots
+room_for heads slots id at ok within at_within out =
+    let xs : List ℕ = list_at heads slots id in
+    let t : IsThread (nexts slots) (previouses slots) (head_at heads id).first (head_at heads id).last xs = ok.thread id within in
+    let count : length (nexts slots) ≡ length slots = length-map slots (λ (s : Slot). s.next) in
+    let le : length (xs ++ at ∷ []) ≤ length slots = pigeon (length slots) (xs ++ at ∷ []) (distinct-push xs at t.apart out)
+    (λ x h. elim (IsIn-either x xs (at ∷ []) h) [
+      | inl e ↦ subst (λ (n : ℕ). x < n) count (t.within x e).0
+      | inr e ↦ elim e [ inl same ↦ subst (λ (k : ℕ). k < length slots) (sym same) at_within | inr none ↦ absurd none ]
+    ]) in
+    omega (arith, le, length_push xs at, length-list_at heads slots id within)
+
+pub linked : (heads : List Head) (slots : List Slot) (id at : ℕ) (h' : Head) (slots' : List Slot) → IsThreaded heads slots → id < length heads
+    → at < length slots → ((j : ℕ) → ¬ IsIn at (list_at heads slots j))
+    → h'.first ≡ start_onto (head_at heads id).len (head_at heads id).first at
+    → h'.last ≡ at
+    → h'.len ≡ (head_at heads id).len + 1
+    → nexts slots' ≡ step_onto (nexts slots) (head_at heads id).len (head_at heads id).last at
+    → previouses slots' ≡ set (previouses slots) at (head_at heads id).last
+    → owners slots' ≡ set (owners slots) at id
+    → IsAfter heads slots (set heads id h') slots' id (list_at heads slots id ++ at ∷ [])
+linked heads slots id at h' slots' ok within at_within out first last len nexts_are previouses_are owners_are =
+    let h : Head = head_at heads id in
+    let N : List ℕ = nexts slots in
+    let P : List ℕ = previouses slots in
+    let xs : List ℕ = list_at heads slots id in
+    let N' : List ℕ = step_onto N (length xs) h.last at in
+    let P' : List ℕ = set P at h.last in
+    let t : IsThread N P h.first h.last xs = ok.thread id within in
+    let count : length xs ≡ h.len = length-list_at heads slots id within in
+    let in_nexts : at < length N = subst (λ (n : ℕ). at < n) (sym (length-map slots (λ (s : Slot). s.next))) at_within in
+    let in_previouses : at < length P = subst (λ (n : ℕ). at < n) (sym (length-map slots (λ (s : Slot). s.previous))) at_within in
+    let in_owners : at < length (owners slots) = subst (λ (n : ℕ). at < n) (sym (length-map slots (λ (s : Slot). s.owner))) at_within in
+    let nexts_are' : nexts slots' ≡ N' = nexts_are ∙ ap (λ (n : ℕ). step_onto N n h.last at) (sym count) in
+    let first' : h'.first ≡ start_onto (length xs) h.first at = first ∙ ap (λ (n : ℕ). start_onto n h.first at) (sym count) in
+    let mine : IsThread (nexts slots') (previouses slots') h'.first h'.last (xs ++ at ∷ []) =
+    thread-by N' (nexts slots') P' (previouses slots') (start_onto (length xs) h.first at) h'.first at h'.last (xs ++ at ∷ [])
+    nexts_are' previouses_are first' last (thread-onto N P h.first h.last xs at t (out id) in_nexts in_previouses) in
+    let len' : h'.len ≡ length (xs ++ at ∷ []) = omega (arith, len, length_push xs at, count) in
+    let in_lists : id < length (lists heads slots) = subst (λ (n : ℕ). id < n) (sym (length-map heads (list_of slots))) within in
+    rebuilt heads slots id h' slots' (xs ++ at ∷ []) within mine len'
+    (λ j jo n. thread-by N' (nexts slots') P' (previouses slots') (head_at heads j).first (head_at heads j).first (head_at heads j).last (head_at heads j).last (list_at heads slots j)
+    nexts_are' previouses_are refl refl
+    (thread_onto-beside N P h.first h.last xs at t (head_at heads j).first (head_at heads j).last (list_at heads slots j)
+    (λ x k. apart_lists heads slots ok id j n x k) (out j) (ok.thread j jo)))
+    (λ j s k. ap (λ (l : List ℕ). get_or l s 0) owners_are ∙ elim (cases_eq j id) [
+      | inl e ↦
+          let k1 : IsIn s (get_or (set (lists heads slots) id (xs ++ at ∷ [])) id []) = subst (λ (i : ℕ). IsIn s (get_or (set (lists heads slots) id (xs ++ at ∷ [])) i [])) e k in
+          let k2 : IsIn s (xs ++ at ∷ []) = subst (IsIn s) (get_or-set_same (lists heads slots) id (xs ++ at ∷ []) [] in_lists) k1 in
+          elim (IsIn-either s xs (at ∷ []) k2) [
+            | inl old ↦
+                let n : s ≢ at = λ same. out id (subst (λ (i : ℕ). IsIn i xs) same old) in
+                get_or-set_other (owners slots) at s id 0 n ∙ (ok.owned id s old ∙ sym e)
+            | inr new ↦ elim new [
+              | inl same ↦ ap (λ (i : ℕ). get_or (set (owners slots) at id) i 0) same ∙ (get_or-set_same (owners slots) at id 0 in_owners ∙ sym e)
+              | inr none ↦ absurd none
+            ]
+          ]
+      | inr n ↦
+          let old : IsIn s (list_at heads slots j) = subst (IsIn s) (get_or-set_other (lists heads slots) id j (xs ++ at ∷ []) [] n) k in
+          let ne : s ≢ at = λ same. out j (subst (λ (i : ℕ). IsIn i (list_at heads slots j)) same old) in
+          get_or-set_other (owners slots) at s id 0 ne ∙ ok.owned j s old
+    ])
+
+-- where the ways of a slot that is taken out lead
+
+pub bounds_around : (heads : List Head) (slots : List Slot) (id at : ℕ) → IsThreaded heads slots → id < length heads → IsIn at (list_at heads slots id)
+    → (at < length slots) × (0 < (head_at heads id).len)
+bounds_around heads slots id at ok within there =
+    let t : IsThread (nexts slots) (previouses slots) (head_at heads id).first (head_at heads id).last (list_at heads slots id) = ok.thread id within in
+    let parts : IsAround (list_at heads slots id) at = around (list_at heads slots id) at there in (
+      subst (λ (n : ℕ). at < n) (length-map slots (λ (s : Slot). s.next)) (t.within at there).0,
+      omega (arith, length-list_at heads slots id within, ap length parts.is, length-append parts.before (at ∷ parts.after)),
+    )
+
+pub before_within : (heads : List Head) (slots : List Slot) (id at : ℕ) → IsThreaded heads slots → id < length heads → IsIn at (list_at heads slots id)
+    → (head_at heads id).first ≢ at → get_or (previouses slots) at 0 < length slots
+before_within heads slots id at ok within there away =
+    let h : Head = head_at heads id in
+    let parts : IsAround (list_at heads slots id) at = around (list_at heads slots id) at there in
+    let t : IsThread (nexts slots) (previouses slots) h.first h.last (parts.before ++ at ∷ parts.after) = subst (IsThread (nexts slots) (previouses slots) h.first h.last) parts.is (ok.thread id within) in
+    let b : ℕ = get_or (previouses slots) at 0 in
+    let is : last_or b parts.before ≡ b = back_gives (nexts slots) (previouses slots) h.first h.last parts.before at parts.after t in
+    subst (λ (n : ℕ). b < n) (length-map slots (λ (s : Slot). s.next)) (first_part (nexts slots) h.first parts.before at parts.after b t.ahead away is (λ x h. (t.within x (IsIn-left x parts.before (at ∷ parts.after) h)).0))
+  where
+    first_part : (step : List ℕ) (start : ℕ) (ys : List ℕ) (at : ℕ) (zs : List ℕ) (b : ℕ) → LeadsThrough step start (ys ++ at ∷ zs) → start ≢ at → last_or b ys ≡ b
+        → ((x : ℕ) → IsIn x ys → x < length step) → b < length step
+    first_part step start [] at zs b leads away is below = absurd (away leads.0)
+    first_part step start (y ∷ ys) at zs b leads away is below = below b (subst (λ (k : ℕ). IsIn k (y ∷ ys)) is (last_or-in y ys))
+
+pub after_within : (heads : List Head) (slots : List Slot) (id at : ℕ) → IsThreaded heads slots → id < length heads → IsIn at (list_at heads slots id)
+    → (head_at heads id).last ≢ at → get_or (nexts slots) at 0 < length slots
+after_within heads slots id at ok within there away =
+    let h : Head = head_at heads id in
+    let parts : IsAround (list_at heads slots id) at = around (list_at heads slots id) at there in
+    let t : IsThread (nexts slots) (previouses slots) h.first h.last (parts.before ++ at ∷ parts.after) = subst (IsThread (nexts slots) (previouses slots) h.first h.last) parts.is (ok.thread id within) in
+    let b : ℕ = get_or (nexts slots) at 0 in
+    let step : LeadsThrough (nexts slots) b parts.after = leads-after (nexts slots) h.first parts.before at parts.after t.ahead in
+    let back : LeadsThrough (previouses slots) h.last (reverse parts.after ++ at ∷ reverse parts.before) = subst (LeadsThrough (previouses slots) h.last) (reverse-around parts.before at parts.after) t.back in
+    subst (λ (n : ℕ). b < n) (length-map slots (λ (s : Slot). s.next))
+    (first_of_rest parts.after b (λ none. away (at_end (previouses slots) h.last parts.after at (reverse parts.before) none back)) (leads-first (nexts slots) b parts.after step)
+    (λ x h. (t.within x (IsIn-right x parts.before (at ∷ parts.after) (inr h))).0))
+  where
+    first_of_rest : {n : ℕ} (zs : List ℕ) (b : ℕ) → zs ≢ [] → first_or b zs ≡ b → ((x : ℕ) → IsIn x zs → x < n) → b < n
+    first_of_rest [] b some is below = absurd (some refl)
+    first_of_rest (z ∷ zs) b some is below = below b (inl (sym is))
+
+    at_end : (step : List ℕ) (start : ℕ) (zs : List ℕ) (at : ℕ) (rest : List ℕ) → zs ≡ [] → LeadsThrough step start (reverse zs ++ at ∷ rest) → start ≡ at
+    at_end step start zs at rest none leads =
+        let leads' : LeadsThrough step start (reverse [] ++ at ∷ rest) = subst (λ (l : List ℕ). LeadsThrough step start (reverse l ++ at ∷ rest)) none leads in
+        leads'.0
+
+pub last_within : (heads : List Head) (slots : List Slot) (id : ℕ) → IsThreaded heads slots → id < length heads → 0 < (head_at heads id).len
+    → (head_at heads id).last < length slots
+last_within heads slots id ok within some =
+    let h : Head = head_at heads id in
+    let xs : List ℕ = list_at heads slots id in
+    let t : IsThread (nexts slots) (previouses slots) h.first h.last xs = ok.thread id within in
+    let len : 0 < length xs = omega (arith, length-list_at heads slots id within) in
+    subst (λ (n : ℕ). h.last < n) (length-map slots (λ (s : Slot). s.next)) (of_some xs h.last len (last_gives (nexts slots) (previouses slots) h.first h.last xs t) (λ x k. (t.within x k).0))
+  where
+    of_some : {n : ℕ} (xs : List ℕ) (b : ℕ) → 0 < length xs → last_or b xs ≡ b → ((x : ℕ) → IsIn x xs → x < n) → b < n
+    of_some [] b some is below = absurd (omega arith)
+    of_some (x ∷ xs) b some is below = below b (subst (λ (k : ℕ). IsIn k (x ∷ xs)) is (last_or-in x xs))

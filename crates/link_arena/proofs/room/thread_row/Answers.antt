@@ -1,0 +1,30 @@
+use Rattle.std.proofs.Common.{take, refl, arith, ◌+◌}
+use Rattle.link_arena.proofs.Grown.{grown_arena, grown_threaded, grown_out, grown_out_next}
+use Rattle.link_arena.proofs.room.thread_row.Goals as goal
+
+pub returns-clause-arena : goal.returns-clause-arena
+returns-clause-arena c = (grown_arena c.args.heads.now (take c.args.at c.args.slots.now) c.args.slots.now c.args.at _ c.link.new.heads c.link.new.slots
+    c.link-2.new.heads c.link-2.new.slots c.requires refl c.link.ensures.after c.link.ensures.owners c.link-2.ensures.after c.link-2.ensures.owners).arena
+
+pub returns-clause-count : goal.returns-clause-count
+returns-clause-count c = (grown_arena c.args.heads.now (take c.args.at c.args.slots.now) c.args.slots.now c.args.at _ c.link.new.heads c.link.new.slots
+    c.link-2.new.heads c.link-2.new.slots c.requires refl c.link.ensures.after c.link.ensures.owners c.link-2.ensures.after c.link-2.ensures.owners).count
+
+pub returns-clause-view : goal.returns-clause-view
+returns-clause-view c = (grown_arena c.args.heads.now (take c.args.at c.args.slots.now) c.args.slots.now c.args.at _ c.link.new.heads c.link.new.slots
+    c.link-2.new.heads c.link-2.new.slots c.requires refl c.link.ensures.after c.link.ensures.owners c.link-2.ensures.after c.link-2.ensures.owners).view
+
+pub returns-clause-room : goal.returns-clause-room
+returns-clause-room c = (grown_arena c.args.heads.now (take c.args.at c.args.slots.now) c.args.slots.now c.args.at _ c.link.new.heads c.link.new.slots
+    c.link-2.new.heads c.link-2.new.slots c.requires refl c.link.ensures.after c.link.ensures.owners c.link-2.ensures.after c.link-2.ensures.owners).room
+
+pub link-requires-clause-threaded : goal.link-requires-clause-threaded
+link-requires-clause-threaded c = grown_threaded c.args.heads.now (take c.args.at c.args.slots.now) c.args.slots.now c.args.at c.requires
+
+pub link-requires-clause-out : goal.link-requires-clause-out
+link-requires-clause-out c = grown_out c.args.heads.now (take c.args.at c.args.slots.now) c.args.slots.now c.args.at c.args.at c.requires (omega arith)
+
+pub link-requires-2-clause-out : goal.link-requires-2-clause-out
+link-requires-2-clause-out c =
+    grown_out_next c.args.heads.now (take c.args.at c.args.slots.now) c.args.slots.now c.args.at (c.args.at + 1) c.link.new.heads c.link.new.slots
+    c.requires (omega arith) c.link.ensures.after

@@ -1,0 +1,14 @@
+use Rattle.std.proofs.Common.{◌≢◌, ℕ, ◌⊎◌}
+use Rattle.link_arena.specs.Threads.{IsIn, walk}
+use Rattle.link_arena.specs.Lists.{nexts, list_of, owner_at}
+use Rattle.link_arena.specs.Twins.{twin}
+use Rattle.link_arena.proofs.sides.find.Given as goal
+
+abbrev pub invariant-loop-left : goal.invariant-loop-left
+invariant-loop-left l = record {
+  rest : (s : ℕ) → IsIn s (walk (nexts l.slots) l.left l.at) → IsIn s (list_of l.slots l.fn.head);
+  passed : (s : ℕ) → IsIn s (list_of l.slots l.fn.head) → IsIn s (walk (nexts l.slots) l.left l.at) ⊎ (owner_at l.slots (twin s) ≢ l.fn.id);
+}
+
+abbrev pub decreases-loop-left : goal.decreases-loop-left
+decreases-loop-left l = l.left
