@@ -1,4 +1,5 @@
 pub mod CircleLemmas
+pub mod ClassOrderLemmas
 pub mod FirstLemmas
 pub mod KnownLemmas
 pub mod LineageLemmas

@@ -29,14 +29,14 @@ Contains-from_Has xs q h =
     let same : q ≡ a.1 = eqb-true q a.1 a.4 in
     (a.0, a.2, ap (λ d. slice_index_or xs a.0 d) same ∙ a.3 ∙ sym same)
 
-or_cases : (a b : Bool) → (a || b) ≡ true → (a ≡ true) ⊎ (b ≡ true)
+pub or_cases : (a b : Bool) → (a || b) ≡ true → (a ≡ true) ⊎ (b ≡ true)
 or_cases true b h = inl refl
 or_cases false b h = inr h
 
-or_left : (a b : Bool) → a ≡ true → (a || b) ≡ true
+pub or_left : (a b : Bool) → a ≡ true → (a || b) ≡ true
 or_left a b h = ap (λ x. x || b) h
 
-or_right : (a b : Bool) → b ≡ true → (a || b) ≡ true
+pub or_right : (a b : Bool) → b ≡ true → (a || b) ≡ true
 or_right true b h = refl
 or_right false b h = h
 
@@ -175,7 +175,7 @@ map_agree_on f g (s ∷ ss) same = ap (λ x. x ∷ map f ss) (same s (or_left _ 
 
 -- the superclasses' joint order, where there is one
 module _ (desc : MetaDesc) where
-  lineage_parts : (n c : ℕ) (r : List ℕ) → lineage_within desc (suc n) c ≡ Some r → (cs : List ℕ) × (all_joined [] (map (lineage_within desc n) (supers_of desc c)) ≡ Some cs) × (with_item cs c ≡ r)
+  pub lineage_parts : (n c : ℕ) (r : List ℕ) → lineage_within desc (suc n) c ≡ Some r → (cs : List ℕ) × (all_joined [] (map (lineage_within desc n) (supers_of desc c)) ≡ Some cs) × (with_item cs c ≡ r)
   lineage_parts n c r = by (all_joined [] (map (lineage_within desc n) (supers_of desc c))) refl
     where
       by : (o : Option (List ℕ)) → all_joined [] (map (lineage_within desc n) (supers_of desc c)) ≡ o → option_map (λ cs. with_item cs c) o ≡ Some r

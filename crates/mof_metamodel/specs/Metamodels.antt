@@ -136,6 +136,15 @@ own_props desc c = range_with_len (first_own desc c) (length (class_at desc c).p
 abbrev pub props_of : MetaDesc → ℕ → List ℕ
 props_of desc c = flat_map (own_props desc) (lineage_of desc c)
 
+-- the items of a list and of several lists, each once and at its first place
+abbrev pub joined_lists : List ℕ → List (List ℕ) → List ℕ
+joined_lists xs [] = xs
+joined_lists xs (ys ∷ rest) = joined_lists (joined xs ys) rest
+
+-- what the class inherits: the properties of its superclasses in the written order, each once and at its first place
+abbrev pub inherited_props : MetaDesc → ℕ → List ℕ
+inherited_props desc c = joined_lists [] (map (props_of desc) (supers_of desc c))
+
 abbrev pub is_primitive : List ℕ → Bool
 is_primitive name = same_name name (codes "String") || same_name name (codes "Integer") || same_name name (codes "Boolean")
 

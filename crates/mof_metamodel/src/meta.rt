@@ -1,4 +1,4 @@
-ghost use Rattle.std.specs.Prelude.{◌≡◌, ◌<◌, ◌↔◌, All, chars, IsTrue, IfOk, IfErr, IfSome, OnOk, IsOkUnless, MatchOption, MatchResult, None};
+ghost use Rattle.std.specs.Prelude.{◌≡◌, ◌<◌, ◌++◌, ◌↔◌, All, chars, IsTrue, IfOk, IfErr, IfSome, OnOk, IsOkUnless, MatchOption, MatchResult, None};
 ghost use Rattle.std.specs.Option.{option_map};
 ghost use Rattle.mof_metamodel.specs.MetaFaults.{WellMeta, IsRefusal, PassesNames, PassesCycles, IsAcyclic, IsFirstCircular, IsFaultOf};
 
@@ -115,7 +115,7 @@ fn check_props(alloc: Global, ordered: &Ordered) -> Result<(), MetaError>
 }
 
 impl MetaModel {
-    ghost use Rattle.mof_metamodel.specs.Metamodels.{class_count, class_number, class_at, enum_count, enum_number, enum_at, supers_of, Conforms, prop_count, props_of, prop_number, prop_at, opposite_of, IsProp};
+    ghost use Rattle.mof_metamodel.specs.Metamodels.{class_count, class_number, class_at, enum_count, enum_number, enum_at, supers_of, Conforms, prop_count, props_of, inherited_props, own_props, prop_number, prop_at, opposite_of, IsProp};
     ghost use Rattle.mof_metamodel.specs.Tables.{class_numbers, prop_numbers, IsClassOf, IsPropOf};
 
     /// The metamodel of a description, or its first fault: limits come first, then names, and then the kinds of faults in
@@ -207,6 +207,7 @@ impl MetaModel {
     pub fn props(&self, c: ClassId) -> &[PropId]
         requires { c.0 < class_count self.now }
         ensures numbers { prop_numbers result.now ≡ props_of self.now c.0 }
+        ensures order { props_of self.now c.0 ≡ inherited_props self.now c.0 ++ own_props self.now c.0 }
         ensures within { All (IsPropOf self.now) result.now }
     {
         self.ordered.props(c.0)
