@@ -1,10 +1,10 @@
 -- The class order by properties: what a class inherits are the properties of its superclasses, each once and at its first
 -- place, and its own properties follow.
-use Rattle.std.proofs.Common.{◌≡◌, ℕ, zero, suc, ◌+◌, ◌<◌, List, [], ◌∷◌, ◌++◌, Bool, true, false, cond, ◌||◌, refl, sym, ◌∙◌, ap, subst, arith, length, get_or, map, inl, inr, ◌⊎◌, eqb, eq-eqb}
+use Rattle.std.proofs.Common.{◌≡◌, ℕ, zero, suc, ◌+◌, ◌<◌, List, [], ◌∷◌, ◌++◌, Bool, true, false, cond, refl, sym, ◌∙◌, ap, subst, arith, length, get_or, map, inl, inr, eq-eqb}
 use Rattle.std.specs.Prelude.{◌≤◌, nat_eq, Option, Some, None, IsSome, sum_by, take}
 use Rattle.std.specs.List.{list_any, flat_map, range_with_len}
 use Rattle.std.specs.Option.{unwrap_or}
-use Rattle.std.proofs.lemmas.Bool.{eqb-true, ne_eqb, cases_lt}
+use Rattle.std.proofs.lemmas.Bool.{eqb-true, cases_lt}
 use Rattle.std.proofs.lemmas.List.{append-nil, append_assoc, get_or_past}
 use Rattle.std.proofs.lemmas.List.Concat.{flat_map-cons}
 use Rattle.std.proofs.lemmas.Grind.{flat_map-append}
@@ -12,9 +12,8 @@ use Rattle.std.proofs.lemmas.List.Sums.{sum_by-cons}
 use Rattle.mof_metamodel.specs.declared.desc.MetaDesc.{MetaDesc}
 use Rattle.mof_metamodel.specs.declared.desc.ClassDesc.{ClassDesc}
 use Rattle.mof_metamodel.specs.Metamodels.{class_count, class_at, no_class, supers_of, with_item, joined, all_joined, lineage_within, lineage_of, first_own, own_props, props_of, joined_lists, inherited_props}
-use Rattle.mof_metamodel.specs.MetaFaults.{IsAcyclic}
 use Rattle.mof_metamodel.specs.Tables.{IsGrounded}
-use Rattle.mof_metamodel.proofs.LineageLemmas.{Has, Contains-from_Has, Has-append_cases, Has-append_right, Has-append_left, Has-one, or_cases, or_left, or_right, all_joined-there, all_joined-cases, lineage_parts, lineage_sound, lineage_more, acyclic_from_grounded}
+use Rattle.mof_metamodel.proofs.LineageLemmas.{Has, Contains-from_Has, Has-append_cases, Has-append_right, Has-append_left, Has-one, or_cases, or_left, or_right, all_joined-cases, lineage_parts, lineage_sound, lineage_more, acyclic_from_grounded}
 
 -- ---- items of joint lists
 
@@ -66,14 +65,14 @@ sum_before (d ∷ ds) (suc a) (suc b) l w =
     let rest = sum_before ds a b (omega (arith, l)) (omega (arith, w)) in
     omega (arith, first, second, rest)
 
-range_bounds : (n a q : ℕ) → Has (range_with_len a n) q → (a ≤ q) × (q < a + n)
+pub range_bounds : (n a q : ℕ) → Has (range_with_len a n) q → (a ≤ q) × (q < a + n)
 range_bounds zero a q h = absurd (cc)
 range_bounds (suc n) a q h = elim (or_cases _ _ h) [
   | inl e ↦ (let same : q ≡ a = eqb-true q a e in (omega arith, omega arith))
   | inr k ↦ (let rest = range_bounds n (a + 1) q k in (omega (arith, rest.0), omega (arith, rest.1)))
 ]
 
-range_has : (n a q : ℕ) → a ≤ q → q < a + n → Has (range_with_len a n) q
+pub range_has : (n a q : ℕ) → a ≤ q → q < a + n → Has (range_with_len a n) q
 range_has zero a q l u = absurd (omega (arith, l, u))
 range_has (suc n) a q l u = elim (cases_lt a q) [
   | inl k ↦ or_right _ _ (range_has n (a + 1) q (omega (arith, k)) (omega (arith, u)))
@@ -82,7 +81,7 @@ range_has (suc n) a q l u = elim (cases_lt a q) [
 
 module _ (desc : MetaDesc) where
   -- no two classes own one property
-  own_once : (a b q : ℕ) → Has (own_props desc a) q → Has (own_props desc b) q → a ≡ b
+  pub own_once : (a b q : ℕ) → Has (own_props desc a) q → Has (own_props desc b) q → a ≡ b
   own_once a b q h k =
       let x = range_bounds (length (class_at desc a).props) (first_own desc a) q h in
       let y = range_bounds (length (class_at desc b).props) (first_own desc b) q k in
@@ -101,14 +100,14 @@ module _ (desc : MetaDesc) where
       ]
 
   -- a property of several classes is one's own
-  flat_owner : (cs : List ℕ) (q : ℕ) → Has (flat_map (own_props desc) cs) q → (a : ℕ) × Has cs a × Has (own_props desc a) q
+  pub flat_owner : (cs : List ℕ) (q : ℕ) → Has (flat_map (own_props desc) cs) q → (a : ℕ) × Has cs a × Has (own_props desc a) q
   flat_owner [] q h = absurd (cc)
   flat_owner (c ∷ cs) q h = elim (Has-append_cases (own_props desc c) (flat_map (own_props desc) cs) q (subst (λ xs. Has xs q) (flat_map-cons (own_props desc) c cs) h)) [
     | inl e ↦ (c, or_left _ _ (eq-eqb c c refl), e)
     | inr e ↦ (let rest = flat_owner cs q e in (rest.0, or_right _ _ rest.1, rest.2))
   ]
 
-  flat_has : (cs : List ℕ) (a q : ℕ) → Has cs a → Has (own_props desc a) q → Has (flat_map (own_props desc) cs) q
+  pub flat_has : (cs : List ℕ) (a q : ℕ) → Has cs a → Has (own_props desc a) q → Has (flat_map (own_props desc) cs) q
   flat_has [] a q h k = absurd (cc)
   flat_has (c ∷ cs) a q h k = subst (λ xs. Has xs q) (sym (flat_map-cons (own_props desc) c cs)) (elim (or_cases _ _ h) [
     | inl e ↦ Has-append_left (own_props desc c) _ q (let P : ℕ → Type 0 = λ z. Has (own_props desc z) q in subst P (eqb-true a c e) k)
@@ -165,6 +164,7 @@ module _ (desc : MetaDesc) where
         where
           found : (s : ℕ) (r : List ℕ) → lineage_within desc k s ≡ Some r → lineage_of desc s ≡ r
           found s r h = ap (λ o. unwrap_or o (s ∷ [])) (ap (λ n. lineage_within desc n s) e ∙ lineage_more desc k s r h)
+
           by : (o : Option (List ℕ)) → lineage_within desc (class_count desc) c ≡ o → IsSome o → props_of desc c ≡ inherited_props desc c ++ own_props desc c
           by None g s = absurd (cc)
           by (Some r) g s =
@@ -179,5 +179,5 @@ module _ (desc : MetaDesc) where
               circle cs j h = elim (all_joined-cases (lineage_within desc k) [] (supers_of desc c) cs c j h) [
                 | inl none ↦ cc
                 | inr m ↦ (let back = lineage_sound desc k m.0 c m.1 m.3 m.4 in
-                  acyclic_from_grounded desc grounded c l (m.0, back.0, Contains-from_Has (supers_of desc c) m.0 m.2, back.1))
+                    acyclic_from_grounded desc grounded c l (m.0, back.0, Contains-from_Has (supers_of desc c) m.0 m.2, back.1))
               ]

@@ -5,6 +5,7 @@ pub mod KnownLemmas
 pub mod LineageLemmas
 pub mod NameLemmas
 pub mod OrderLemmas
+pub mod PlaceLemmas
 pub mod RepeatLemmas
 pub mod RoundLemmas
 pub mod TableLemmas

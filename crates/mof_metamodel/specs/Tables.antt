@@ -1,6 +1,6 @@
 -- What the tables of a metamodel hold: what its description says, by number.
-use Rattle.std.specs.Prelude.{◌≡◌, ℕ, ◌<◌, List, [], ◌∷◌, ◌++◌, Option, None, map, length, slice_index_or, position, All, IsSome, IsTrue, is_some, nat_eq, if◌then◌else◌}
-use Rattle.std.specs.List.{range_with_len, list_any}
+use Rattle.std.specs.Prelude.{◌≡◌, ℕ, ◌<◌, List, [], ◌∷◌, ◌++◌, Option, None, map, length, slice_index_or, position, All, IsSome, IsTrue, is_some, nat_eq, take, if◌then◌else◌}
+use Rattle.std.specs.List.{range_with_len, list_any, flat_map}
 use Rattle.std.specs.Map.{lookup}
 use Rattle.std.specs.Option.{option_map, unwrap_or}
 use Rattle.indexmap.specs.IndexSet.{IndexSet}
@@ -10,7 +10,7 @@ use Rattle.mof_metamodel.specs.declared.desc.MetaDesc.{MetaDesc}
 use Rattle.mof_metamodel.specs.declared.desc.ClassId.{ClassId}
 use Rattle.mof_metamodel.specs.declared.desc.PropId.{PropId}
 use Rattle.mof_metamodel.specs.declared.desc.Prop.{Prop}
-use Rattle.mof_metamodel.specs.Metamodels.{same_name, class_count, class_at, no_prop, prop_count, declared_props, first_own, supers_of, with_item, all_joined, Reaches, IsCircular, lineage_within, props_of, IsProp}
+use Rattle.mof_metamodel.specs.Metamodels.{same_name, class_count, class_at, no_prop, prop_count, declared_props, first_own, supers_of, with_item, all_joined, Reaches, IsCircular, lineage_within, lineage_of, own_props, props_of, IsProp}
 use Rattle.mof_metamodel.specs.MetaFaults.{WellMeta, is_within_limits}
 
 -- what f says of each number below n
@@ -108,9 +108,14 @@ later_line desc orders c = if is_some (line_at orders c) then None else new_line
 abbrev pub lineage_in : {S : Type 0} → Option (IndexSet ℕ S) → ℕ → List ℕ
 lineage_in order c = unwrap_or (line order) (c ∷ [])
 
-pub record IsOrdered {S : Type 0} (desc : MetaDesc) (orders : List (Option (IndexSet ℕ S))) (props : List (List PropId)) : Type 0 where
+-- for each class of a class order, how many properties the classes before it have
+abbrev pub starts_of : MetaDesc → List ℕ → List ℕ
+starts_of desc cs = table (λ i. length (flat_map (own_props desc) (take i cs))) (length cs)
+
+pub record IsOrdered {S : Type 0} (desc : MetaDesc) (orders : List (Option (IndexSet ℕ S))) (props : List (List PropId)) (starts : List (List ℕ)) : Type 0 where
   pub lines_are : AreLines desc (class_count desc) orders
   pub props_are : map prop_numbers props ≡ table (props_of desc) (class_count desc)
+  pub starts_are : starts ≡ table (λ c. starts_of desc (lineage_of desc c)) (class_count desc)
 
 -- the classes that the class reaches by one superclass or more
 abbrev pub IsReach : MetaDesc → ℕ → List ℕ → Type 0

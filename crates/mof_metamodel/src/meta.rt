@@ -1,4 +1,4 @@
-ghost use Rattle.std.specs.Prelude.{◌≡◌, ◌<◌, ◌++◌, ◌↔◌, All, chars, IsTrue, IfOk, IfErr, IfSome, OnOk, IsOkUnless, MatchOption, MatchResult, None};
+ghost use Rattle.std.specs.Prelude.{nat_eq, position, ◌≡◌, ◌<◌, ◌++◌, ◌↔◌, All, chars, IsTrue, IfOk, IfErr, IfSome, OnOk, IsOkUnless, MatchOption, MatchResult, None};
 ghost use Rattle.std.specs.Option.{option_map};
 ghost use Rattle.mof_metamodel.specs.MetaFaults.{WellMeta, IsRefusal, PassesNames, PassesCycles, IsAcyclic, IsFirstCircular, IsFaultOf};
 
@@ -211,6 +211,14 @@ impl MetaModel {
         ensures within { All (IsPropOf self.now) result.now }
     {
         self.ordered.props(c.0)
+    }
+
+    /// The place of a property in `props(c)`, or `None` where the class doesn't have it. In constant time.
+    pub fn place_of(&self, c: ClassId, p: PropId) -> Option<usize>
+        requires { c.0 < class_count self.now }
+        ensures { result ≡ position (nat_eq p.0) (props_of self.now c.0) }
+    {
+        self.ordered.place_of(c.0, p.0)
     }
 
     /// The property of this name of a class, inherited ones included.

@@ -1,7 +1,7 @@
-ghost use Rattle.std.specs.Prelude.{◌≡◌, ◌<◌, ◌↔◌, ◌++◌, All, map, chars, is_some, IsTrue, IfOk, IfSome, OnOk};
+ghost use Rattle.std.specs.Prelude.{nat_eq, position, ◌≡◌, ◌<◌, ◌↔◌, ◌++◌, All, map, chars, is_some, IsTrue, IfOk, IfSome, OnOk};
 ghost use Rattle.std.specs.List.{flat_map, list_all};
-ghost use Rattle.mof_metamodel.specs.Metamodels.{class_count, prop_count, own_props, own_number, first_found, props_of};
-ghost use Rattle.mof_metamodel.specs.Tables.{prop_numbers, lineage_in, table, AreLines};
+ghost use Rattle.mof_metamodel.specs.Metamodels.{class_count, prop_count, own_props, own_number, first_found, props_of, lineage_of};
+ghost use Rattle.mof_metamodel.specs.Tables.{prop_numbers, lineage_in, table, AreLines, starts_of};
 
 use crate::desc::PropId;
 use crate::hierarchy::Hierarchy;
@@ -9,6 +9,7 @@ use crate::lineages::{Line, all_lines};
 use crate::memory::NoMemory;
 use crate::named::Named;
 use crate::seq::Seq;
+use indexmap::IndexSet;
 use std::alloc::Global;
 use std::marker::Model;
 
@@ -18,6 +19,7 @@ pub(crate) struct Ordered {
     hierarchy: Hierarchy,
     lines: Vec<Line>,
     orders: Vec<Seq<PropId>>,
+    starts: Vec<Seq<usize>>,
 }
 
 impl Model for Ordered {
@@ -28,7 +30,7 @@ impl Model for Ordered {
 
     ghost view = { λ o. o.hierarchy };
 
-    ghost invariant = { λ o. IsOrdered o.hierarchy o.lines.items o.orders.items };
+    ghost invariant = { λ o. IsOrdered o.hierarchy o.lines.items o.orders.items o.starts.items };
 }
 
 impl Ordered {
@@ -40,11 +42,15 @@ impl Ordered {
         ensures { IfOk result (λ o. o ≡ hierarchy) }
     {
         let lines = all_lines(alloc, &hierarchy)?;
-        let orders = prop_orders(alloc, hierarchy.named(), lines.as_slice())?;
+        let named = hierarchy.named();
+        let found = lines.as_slice();
+        let orders = prop_orders(alloc, named, found)?;
+        let starts = prop_starts(alloc, named, found, orders.as_slice())?;
         Ok(Ordered {
             hierarchy,
             lines,
             orders,
+            starts,
         })
     }
 
@@ -69,6 +75,23 @@ impl Ordered {
         ensures within { All (IsPropOf self.now) result.now }
     {
         self.orders[c as usize].as_slice()
+    }
+
+    /// The place of a property among those of a class in class order: behind those of the classes before its owner.
+    pub(crate) fn place_of(&self, c: u32, p: u32) -> Option<usize>
+        requires class { c < class_count self.now }
+        requires grounded { IsGrounded self.now }
+        ensures { result ≡ position (nat_eq p) (props_of self.now c) }
+    {
+        if p >= self.named().prop_count() {
+            return None;
+        }
+        let order = &self.orders[c as usize];
+        let starts = &self.starts[c as usize];
+        match &self.lines[c as usize] {
+            Some(line) => place_in(self.named(), line, order, starts, p),
+            None => None,
+        }
     }
 
     /// Whether each class has a class order.
@@ -174,4 +197,84 @@ fn prop_orders(alloc: Global, named: &Named, lines: &[Line]) -> Result<Vec<Seq<P
         orders.push(order)?;
     }
     Ok(orders)
+}
+
+/// How many properties the classes before each class of a class order have; all their properties are given.
+fn starts_in(
+    alloc: Global,
+    named: &Named,
+    classes: &[u32],
+    order: &Seq<PropId>,
+) -> Result<Seq<usize>, NoMemory>
+    requires within { All (λ c. c < class_count named.now) classes.now }
+    requires order { prop_numbers order.now ≡ flat_map (own_props named.now) classes.now }
+    ensures { IfOk result (λ starts. starts ≡ starts_of named.now classes.now) }
+{
+    let _ = order.as_slice();
+    let mut starts = Seq::new(alloc);
+    let mut next = 0;
+    for c in classes {
+        starts.push(next)?;
+        next += named.class(*c).props.len();
+    }
+    Ok(starts)
+}
+
+/// The same of a class, by its class order.
+fn start_order(
+    alloc: Global,
+    named: &Named,
+    line: &Line,
+    c: u32,
+    order: &Seq<PropId>,
+) -> Result<Seq<usize>, NoMemory>
+    requires class { c < class_count named.now }
+    requires within { All (λ a. a < class_count named.now) (lineage_in line.now c) }
+    requires order { prop_numbers order.now ≡ flat_map (own_props named.now) (lineage_in line.now c) }
+    ensures { IfOk result (λ starts. starts ≡ starts_of named.now (lineage_in line.now c)) }
+{
+    match line {
+        Some(classes) => starts_in(alloc, named, classes.as_slice(), order),
+        None => starts_in(alloc, named, &[c], order),
+    }
+}
+
+/// The same of each class.
+fn prop_starts(
+    alloc: Global,
+    named: &Named,
+    lines: &[Line],
+    orders: &[Seq<PropId>],
+) -> Result<Vec<Seq<usize>>, NoMemory>
+    requires lines { AreLines named.now (class_count named.now) lines.now }
+    requires orders { map prop_numbers orders.now ≡ table (props_of named.now) (class_count named.now) }
+    ensures { IfOk result (λ starts. starts.items ≡ table (λ c. starts_of named.now (lineage_of named.now c)) (class_count named.now)) }
+{
+    let mut starts = Vec::new(alloc);
+    for c in 0..named.class_count() {
+        let order = &orders[c as usize];
+        let start = start_order(alloc, named, &lines[c as usize], c, order)?;
+        starts.push(start)?;
+    }
+    Ok(starts)
+}
+
+/// The place of a property among those of classes, which are given with their starts.
+fn place_in(
+    named: &Named,
+    classes: &IndexSet<u32>,
+    order: &Seq<PropId>,
+    starts: &Seq<usize>,
+    p: u32,
+) -> Option<usize>
+    requires prop { p < prop_count named.now }
+    requires order { prop_numbers order.now ≡ flat_map (own_props named.now) classes.now.keys }
+    requires starts { starts.now ≡ starts_of named.now classes.now.keys }
+    ensures { result ≡ position (nat_eq p) (flat_map (own_props named.now) classes.now.keys) }
+{
+    let _ = order.as_slice();
+    let starts = starts.as_slice();
+    let owner = named.owner(p);
+    let i = classes.get_index_of(&owner)?;
+    Some(starts[i] + (p - named.first_own(owner)) as usize)
 }
