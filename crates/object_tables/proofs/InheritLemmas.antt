@@ -1,9 +1,8 @@
 -- Who owns a property, which classes have it, and what a well-formed metamodel says of the classes at the ends of an opposite pair.
-use Rattle.std.proofs.Common.{◌≡◌, ℕ, ◌+◌, ◌-◌, ◌<◌, ◌≤◌, zero, suc, List, [], ◌∷◌, ◌++◌, length, get_or, map, take, refl, ap, sym, ◌∙◌, arith, subst, Option, Some, None, Bool, true, false, inl, inr}
-use Rattle.std.specs.Prelude.{Contains, sum_by, ◌==◌, ◌&&◌, not}
+use Rattle.std.proofs.Common.{◌≡◌, ℕ, ◌+◌, ◌-◌, ◌<◌, ◌≤◌, zero, suc, List, [], ◌∷◌, length, get_or, map, take, refl, ap, sym, ◌∙◌, arith, subst, Option, Some, None, Bool, true, false, inl, inr}
+use Rattle.std.specs.Prelude.{Contains, sum_by, ◌&&◌, not}
 use Rattle.std.specs.List.{flat_map, range_with_len}
-use Rattle.std.specs.Option.{option_or}
-use Rattle.std.proofs.lemmas.Bool.{cases_lt, eqb-true, cases_eq}
+use Rattle.std.proofs.lemmas.Bool.{cases_lt, eqb-true}
 use Rattle.std.proofs.lemmas.List.{get_or_append_left, get_or-append_right, get_or-map, length-map, length-append, get_or_past}
 use Rattle.std.proofs.lemmas.List.Sums.{sum_by-cons}
 use Rattle.std.proofs.lemmas.List.FromFn.{length-range_with_len, get_or-range_with_len}
@@ -13,7 +12,7 @@ use Rattle.mof_metamodel.specs.declared.desc.ClassDesc.{ClassDesc}
 use Rattle.mof_metamodel.specs.declared.desc.PropDesc.{PropDesc}
 use Rattle.mof_metamodel.specs.declared.desc.PropType.{PropType}
 use Rattle.mof_metamodel.specs.declared.desc.PropType.TheVariants as types
-use Rattle.mof_metamodel.specs.Metamodels.{class_count, class_at, no_class, no_prop, first_own, own_props, props_of, prop_count, prop_at, declared_from, declared_at, lineage_of, opposite_number, opposite_of, type_of, owner_of, Conforms}
+use Rattle.mof_metamodel.specs.Metamodels.{class_count, class_at, no_class, no_prop, first_own, own_props, props_of, prop_count, prop_at, declared_from, lineage_of, opposite_number, opposite_of, type_of, owner_of, Conforms}
 use Rattle.mof_metamodel.specs.MetaFaults.{WellMeta, is_class}
 use Rattle.mof_metamodel.proofs.LineageLemmas.{Has-from_Contains, Contains-from_Has, conforms_exactly, grounded_from_acyclic}
 use Rattle.object_tables.specs.Models.{is_class_type, ConformsTo}

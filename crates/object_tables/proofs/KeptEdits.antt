@@ -1,23 +1,19 @@
 -- Each edit of a model keeps what every model keeps.
-use Rattle.std.proofs.Common.{◌≡◌, ◌≢◌, ℕ, ◌<◌, ◌≤◌, ◌⊎◌, List, [], ◌∷◌, ◌++◌, length, get_or, map, filter, replicate, refl, ap, sym, ◌∙◌, arith, subst, Option, Some, None, Bool, true, false, not, inl, inr}
-use Rattle.std.specs.Prelude.{Contains, AllPairs, option_map, IsTrue, ◌==◌}
-use Rattle.std.proofs.lemmas.Bool.{cases_lt, cases_eq}
-use Rattle.std.proofs.lemmas.List.{get_or_past, get_or_append_left, get_or_push, length_push, length-replicate, length-map, get_or-replicate}
+use Rattle.std.proofs.Common.{◌≡◌, ◌≢◌, ℕ, ◌<◌, ◌⊎◌, List, [], ◌∷◌, ◌++◌, refl, ap, sym, ◌∙◌, subst, Option, Some, None, Bool, true, false, not, inl, inr}
+use Rattle.std.specs.Prelude.{Contains, AllPairs, option_map, ◌==◌}
 use Rattle.std.proofs.lemmas.List.Elements.{Contains-get_or, Contains-push_cases}
 use Rattle.std.proofs.lemmas.List.Kept.{AllPairs-filter}
 use Rattle.std.proofs.lemmas.List.Quantifiers.{all_pairs_push}
 use Rattle.mof_metamodel.specs.declared.desc.MetaDesc.{MetaDesc}
-use Rattle.mof_metamodel.specs.Characters.{is_identifier_text}
-use Rattle.mof_metamodel.specs.Metamodels.{class_count, class_at as meta_class, props_of, prop_at, type_of, opposite_of}
-use Rattle.mof_metamodel.specs.MetaFaults.{WellMeta}
+use Rattle.mof_metamodel.specs.Metamodels.{class_count, props_of, prop_at, type_of, opposite_of}
 use Rattle.object_tables.specs.declared.value.Value.{Value}
 use Rattle.object_tables.specs.Objects.{Object, Slot}
-use Rattle.object_tables.specs.Models.{ModelData, object_at, class_at, id_at, no_slot, slot_in, values_at, partners_at, is_class_type, IsLinked, IsReferenceOf, IsAttributeOf, IsPartnerFor, IsSlotOf, IsContainedIn, IsTop, IsFree, IsAddable, HasId, with_values, with_order, with_partner, without_partner, without_number, at_opposite, linked, unlinked, added, new_object}
-use Rattle.object_tables.specs.Kept.{Kept, IsWellObject}
+use Rattle.object_tables.specs.Models.{ModelData, object_at, class_at, partners_at, is_class_type, IsLinked, IsReferenceOf, IsAttributeOf, IsPartnerFor, IsSlotOf, IsTop, IsFree, with_values, with_order, with_partner, without_partner, without_number, at_opposite, linked, unlinked}
+use Rattle.object_tables.specs.Kept.{Kept}
 use Rattle.object_tables.proofs.ListLemmas.{Contains-filter}
 use Rattle.object_tables.proofs.InheritLemmas.{IsPairOf, pair_of_opposites}
-use Rattle.object_tables.proofs.SlotLemmas.{slot_at, IsSlotted, class-with_slot, slot_cases, slot_here, linked-with_partner, still-with_partner, now-with_partner, linked-without_partner, gone-without_partner, still-without_partner}
-use Rattle.object_tables.proofs.KeptLemmas.{IsSound, sound_of, slotted_of, linked_reference, both_ways, one_container, no_more_containers, IsGoodSlot, sound-with_slot}
+use Rattle.object_tables.proofs.SlotLemmas.{IsSlotted, class-with_slot, slot_cases, linked-with_partner, still-with_partner, now-with_partner, linked-without_partner, gone-without_partner, still-without_partner}
+use Rattle.object_tables.proofs.KeptLemmas.{IsSound, sound_of, slotted_of, both_ways, one_container, no_more_containers, sound-with_slot}
 
 -- a property is a reference or an attribute
 not_both : (t : Bool) → t ≡ true → t ≡ false → ⊥
@@ -264,19 +260,3 @@ kept_unlinked m p a b k =
           ]) ((k.opposites z v x y e').0 (n.old z x y h)));
       containers = no_more_containers m new k n.meta n.old;
     }
-
--- ---- no object
-
-pub kept_empty : (meta : MetaDesc) → WellMeta meta → Kept (record { meta = meta; objects = [] })
-kept_empty meta w = record {
-  well = w;
-  objects = λ o ob h. absurd cc;
-  identifiers = λ a b id ha hb. absurd cc;
-  attributes = λ o p r. absurd (let h = r.class_is in cc);
-  references = λ o p r. absurd (let h = r.class_is in cc);
-  opposites = λ p q a b e. ((λ h. absurd (none h)), (λ h. absurd (none h)));
-  containers = λ o a b p q g h. absurd (none g.linked);
-}
-  where
-    none : {x : ℕ} → Contains {X = ℕ} [] x → ⊥
-    none (k, l, e) = omega arith

@@ -1,13 +1,12 @@
 -- What every model keeps, in two parts: what is said of each object by itself, and what is said of links.
-use Rattle.std.proofs.Common.{◌≡◌, ◌≢◌, ℕ, ◌<◌, ◌⊎◌, List, [], ◌∷◌, length, get_or, refl, ap, sym, ◌∙◌, arith, subst, Option, Some, None, Bool, true, false, inl, inr}
+use Rattle.std.proofs.Common.{◌≡◌, ◌≢◌, ℕ, ◌<◌, ◌⊎◌, List, [], length, refl, ap, sym, ◌∙◌, arith, subst, Some, Bool, true, false, inl, inr}
 use Rattle.std.specs.Prelude.{Contains, AllPairs, ◌↔◌, IsTrue}
 use Rattle.mof_metamodel.specs.Characters.{is_identifier_text}
 use Rattle.mof_metamodel.specs.Metamodels.{class_count, class_at as meta_class, props_of, prop_at, type_of, opposite_of}
 use Rattle.mof_metamodel.specs.MetaFaults.{WellMeta}
 use Rattle.object_tables.specs.Objects.{Object, Slot}
-use Rattle.object_tables.specs.Models.{ModelData, object_at, class_at, id_at, values_at, partners_at, is_class_type, IsLive, IsLinked, IsReferenceOf, IsAttributeOf, IsPartnerFor, IsSlotOf, IsContainedIn, IsTop, with_slot}
+use Rattle.object_tables.specs.Models.{ModelData, object_at, class_at, id_at, is_class_type, IsLinked, IsReferenceOf, IsAttributeOf, IsPartnerFor, IsSlotOf, IsContainedIn, IsTop, with_slot}
 use Rattle.object_tables.specs.Kept.{Kept, IsWellObject, IsWellAttribute, IsWellReference}
-use Rattle.object_tables.proofs.ModelLemmas.{live_from_class}
 use Rattle.object_tables.proofs.InheritLemmas.{pair_of_opposites}
 use Rattle.object_tables.proofs.SlotLemmas.{slot_at, IsSlotted, class-with_slot, id-with_slot, object_before, slot_cases, linked_at}
 

@@ -1,20 +1,19 @@
 -- A new object and a deletion keep what every model keeps.
-use Rattle.std.proofs.Common.{◌≡◌, ◌≢◌, ℕ, ◌<◌, ◌≤◌, ◌⊎◌, List, [], ◌∷◌, ◌++◌, length, get_or, map, filter, replicate, refl, ap, sym, ◌∙◌, arith, subst, Option, Some, None, Bool, true, false, not, inl, inr}
+use Rattle.std.proofs.Common.{◌≡◌, ◌≢◌, ℕ, ◌<◌, ◌⊎◌, List, [], ◌∷◌, ◌++◌, length, get_or, map, replicate, refl, ap, sym, ◌∙◌, arith, subst, Option, Some, None, false, not, inl, inr}
 use Rattle.std.specs.Prelude.{Contains, AllPairs, option_map, IsTrue, ◌==◌}
 use Rattle.std.proofs.lemmas.Bool.{cases_lt, cases_eq}
 use Rattle.std.proofs.lemmas.List.{get_or_past, get_or_append_left, get_or_push, length_push, length-replicate, length-map, get_or-replicate}
 use Rattle.std.proofs.lemmas.List.Kept.{AllPairs-filter}
 use Rattle.mof_metamodel.specs.declared.desc.MetaDesc.{MetaDesc}
 use Rattle.mof_metamodel.specs.Characters.{is_identifier_text}
-use Rattle.mof_metamodel.specs.Metamodels.{class_count, class_at as meta_class, props_of, opposite_of}
-use Rattle.object_tables.specs.Lists.{update_at}
+use Rattle.mof_metamodel.specs.Metamodels.{class_count, class_at as meta_class, props_of}
 use Rattle.object_tables.specs.Objects.{Object, Slot}
-use Rattle.object_tables.specs.Models.{ModelData, object_at, class_at, id_at, no_slot, slot_in, slot_number, values_at, partners_at, IsLinked, IsReferenceOf, IsAttributeOf, IsPartnerFor, IsSlotOf, HasId, without_number, slot_without, object_without, deleted, added, new_object}
+use Rattle.object_tables.specs.Models.{ModelData, object_at, class_at, id_at, no_slot, slot_in, slot_number, partners_at, IsLinked, IsSlotOf, HasId, without_number, slot_without, object_without, deleted, added, new_object}
 use Rattle.object_tables.specs.Kept.{Kept, IsWellObject}
 use Rattle.object_tables.proofs.ListLemmas.{get_or-update_at_same, get_or-update_at_other, update_at_past, Contains-filter}
 use Rattle.object_tables.proofs.ModelLemmas.{get_or-map_default}
 use Rattle.object_tables.proofs.SlotLemmas.{slot_at, other_number, not_number}
-use Rattle.object_tables.proofs.KeptLemmas.{IsSound, sound_of, linked_reference, linked_partner, both_ways, no_more_containers}
+use Rattle.object_tables.proofs.KeptLemmas.{IsSound, sound_of, both_ways, no_more_containers}
 
 no_link : {y : ℕ} → Contains {X = ℕ} [] y → ⊥
 no_link (k, l, e) = omega arith

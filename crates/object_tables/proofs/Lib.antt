@@ -12,3 +12,4 @@ pub mod SlotLemmas
 pub mod KeptLemmas
 pub mod KeptEdits
 pub mod KeptObjects
+pub mod WholeLemmas

@@ -1,7 +1,7 @@
 -- What stands at each slot of a model after one slot is changed.
 use Rattle.std.proofs.Common.{◌≡◌, ◌≢◌, ℕ, ◌<◌, ◌≤◌, ◌⊎◌, zero, suc, List, [], ◌∷◌, ◌++◌, length, get_or, filter, refl, ap, sym, ◌∙◌, arith, subst, Option, Some, None, Bool, true, false, cond, not, inl, inr, eq-eqb}
 use Rattle.std.specs.Prelude.{Contains, option_map, ◌==◌}
-use Rattle.std.proofs.lemmas.Bool.{cases_lt, cases_eq, eqb-true, ne_eqb}
+use Rattle.std.proofs.lemmas.Bool.{cases_lt, cases_eq, ne_eqb}
 use Rattle.std.proofs.lemmas.List.{get_or_past}
 use Rattle.std.proofs.lemmas.List.Elements.{Contains-push_cases, Contains-append_left, Contains-push, All-contains, filter_passes}
 use Rattle.mof_metamodel.specs.declared.desc.MetaDesc.{MetaDesc}

@@ -1,6 +1,6 @@
 -- What every model keeps (MOF 2.5.1, Reflection: typed values, links with two ends, and at most one container). The bounds of properties
 -- and circles of containers are not among it.
-use Rattle.std.specs.Prelude.{◌≡◌, ◌≢◌, ◌↔◌, ℕ, ◌<◌, false, List, [], length, Option, Some, IsTrue, AllPairs}
+use Rattle.std.specs.Prelude.{◌≡◌, ◌≢◌, ◌↔◌, ℕ, ◌<◌, false, List, [], length, Some, IsTrue, AllPairs}
 use Rattle.mof_metamodel.specs.declared.desc.MetaDesc.{MetaDesc}
 use Rattle.mof_metamodel.specs.Characters.{is_identifier_text}
 use Rattle.mof_metamodel.specs.Metamodels.{class_count, class_at as meta_class, props_of, opposite_of}
