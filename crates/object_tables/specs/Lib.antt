@@ -8,3 +8,4 @@ pub mod AddFaults
 pub mod Ids
 pub mod Kept
 pub mod Whole
+pub mod Places
