@@ -7,3 +7,11 @@ pub mod MetaLemmas
 pub mod EditLemmas
 pub mod AddLemmas
 pub mod DeleteLemmas
+pub mod InheritLemmas
+pub mod SlotLemmas
+pub mod KeptLemmas
+pub mod KeptEdits
+pub mod KeptObjects
+pub mod WholeLemmas
+pub mod DistinctLemmas
+pub mod ContainerLemmas

@@ -9,8 +9,8 @@ use Rattle.std.proofs.lemmas.List.Sums.{sum_by_more, sum_by-take-le, sum_by-cons
 use Rattle.std.proofs.lemmas.List.Elements.{Contains-append_cases}
 use Rattle.mof_metamodel.specs.declared.desc.MetaDesc.{MetaDesc}
 use Rattle.mof_metamodel.specs.declared.desc.ClassDesc.{ClassDesc}
-use Rattle.mof_metamodel.specs.Metamodels.{props_of, own_props, prop_count, no_class, declared_from, lineage_of, opposite_of, type_of, owner_of}
-use Rattle.mof_metamodel.specs.MetaFaults.{WellMeta, first_of, unless, agree, is_number, is_class, prop_name}
+use Rattle.mof_metamodel.specs.Metamodels.{props_of, own_props, prop_count, no_class, declared_from, lineage_of, opposite_of, type_of, owner_of, prop_at}
+use Rattle.mof_metamodel.specs.MetaFaults.{WellMeta, first_of, unless, agree, is_number, is_class, prop_name, has_one_container}
 
 -- ---- properties of a class are properties
 
@@ -50,15 +50,15 @@ prop_known desc c p h =
 
 -- ---- opposites
 
-none_first : {X : Type 0} (x y : Option X) → option_or x y ≡ None → x ≡ None
+pub none_first : {X : Type 0} (x y : Option X) → option_or x y ≡ None → x ≡ None
 none_first None y h = refl
 none_first (Some x) y h = absurd cc
 
-none_second : {X : Type 0} (x y : Option X) → option_or x y ≡ None → y ≡ None
+pub none_second : {X : Type 0} (x y : Option X) → option_or x y ≡ None → y ≡ None
 none_second None y h = h
 none_second (Some x) y h = absurd cc
 
-first_of-none : (f : ℕ → Option (List ℕ)) (a n p : ℕ) → first_of f (range_with_len a n) ≡ None → a ≤ p → p < a + n → f p ≡ None
+pub first_of-none : (f : ℕ → Option (List ℕ)) (a n p : ℕ) → first_of f (range_with_len a n) ≡ None → a ≤ p → p < a + n → f p ≡ None
 first_of-none f a zero p h le l = absurd (omega arith)
 first_of-none f a (suc n) p h le l = elim (cases_eq a p) [
   | inl e ↦ ap f (sym e) ∙ none_first (f a) (first_of f (range_with_len (a + 1) n)) h
@@ -102,3 +102,8 @@ pub opposite_types : (desc : MetaDesc) (p q : ℕ) → WellMeta desc → p < pro
 opposite_types desc p q w l e =
     let a : agree desc p (Some q) ≡ true = ap (agree desc p) (sym e) ∙ agrees desc p w l in
     (right_of _ _ (left_of _ _ (left_of _ _ a)), right_of _ _ (left_of _ _ a))
+
+pub one_container : (desc : MetaDesc) (p q : ℕ) → WellMeta desc → p < prop_count desc → opposite_of desc p ≡ Some q → not ((prop_at desc p).composite && (prop_at desc q).composite) ≡ true
+one_container desc p q w l e =
+    ap (has_one_container desc p) (sym e)
+    ∙ unless-none _ (prop_name desc p) (first_of-none (λ p. unless (has_one_container desc p (opposite_of desc p)) (prop_name desc p)) 0 (prop_count desc) p w.containers (omega arith) (omega arith))

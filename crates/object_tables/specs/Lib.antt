@@ -6,3 +6,6 @@ pub mod Models
 pub mod Tied
 pub mod AddFaults
 pub mod Ids
+pub mod Kept
+pub mod Whole
+pub mod Places
