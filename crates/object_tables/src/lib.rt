@@ -13,6 +13,7 @@
 #![tactic(auto)]
 
 mod fault;
+mod limit;
 mod model;
 mod partners;
 mod places;
@@ -20,6 +21,7 @@ mod tables;
 mod value;
 
 pub use fault::AddFault;
+pub use limit::LimitKind;
 pub use model::Model;
 pub use partners::Partners;
 pub use value::{ObjId, Value};
