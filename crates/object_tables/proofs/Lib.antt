@@ -7,3 +7,5 @@ pub mod MetaLemmas
 pub mod EditLemmas
 pub mod AddLemmas
 pub mod DeleteLemmas
+pub mod SamenessLemmas
+pub mod CopyLemmas

@@ -6,3 +6,4 @@ pub mod Models
 pub mod Tied
 pub mod AddFaults
 pub mod Ids
+pub mod Sameness

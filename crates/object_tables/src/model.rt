@@ -4,6 +4,7 @@ ghost use Rattle.object_tables.specs.Ids.{object_ids};
 ghost use Rattle.object_tables.specs.Models.{object_at, IsLive, class_at, id_at, values_at, partners_at, IsLinked, IsReferenceOf, IsAttributeOf, live_count};
 
 mod changes;
+mod copies;
 mod links;
 
 use crate::partners::Partners;

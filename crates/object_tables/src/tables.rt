@@ -5,6 +5,8 @@ ghost use Rattle.object_tables.specs.Flat.{end_at, entry_at, home_at, address, f
 ghost use Rattle.object_tables.specs.Lists.{update_at};
 ghost use Rattle.object_tables.specs.Rows.{row_at, place_at, joined_at, with_place, with_joined, with_last, without_address, without_join, with_values, fresh_row, cleared_place, cleared_upto, unnamed, IsRanged, IsMutual};
 
+mod copies;
+
 use crate::value::Value;
 use link_arena::{Arena, Others};
 use mof_metamodel::{Seq, Text};
