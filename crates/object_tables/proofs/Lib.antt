@@ -9,3 +9,5 @@ pub mod AddLemmas
 pub mod DeleteLemmas
 pub mod SamenessLemmas
 pub mod CopyLemmas
+pub mod OrderLemmas
+pub mod ReorderLemmas

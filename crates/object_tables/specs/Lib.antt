@@ -7,3 +7,4 @@ pub mod Tied
 pub mod AddFaults
 pub mod Ids
 pub mod Sameness
+pub mod Orders

@@ -13,10 +13,14 @@ impl Tables {
         let entries = copy_entries(alloc, &self.entries)?;
         let homes = copy_homes(alloc, &self.homes)?;
         let arena = self.arena.duplicate(alloc)?;
+        let marks = Vec::from_slice(alloc, self.marks.as_slice())?;
+        let order = Vec::with_capacity(alloc, self.entries.len())?;
         Ok(Tables {
             entries,
             homes,
             arena,
+            marks,
+            order,
             alloc,
         })
     }
