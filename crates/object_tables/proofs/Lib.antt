@@ -11,3 +11,9 @@ pub mod SamenessLemmas
 pub mod CopyLemmas
 pub mod OrderLemmas
 pub mod ReorderLemmas
+pub mod InheritLemmas
+pub mod SlotLemmas
+pub mod KeptLemmas
+pub mod KeptEdits
+pub mod KeptObjects
+pub mod WholeLemmas

@@ -9,8 +9,8 @@ use Rattle.std.proofs.lemmas.List.Sums.{sum_by_more, sum_by-take-le, sum_by-cons
 use Rattle.std.proofs.lemmas.List.Elements.{Contains-append_cases}
 use Rattle.mof_metamodel.specs.declared.desc.MetaDesc.{MetaDesc}
 use Rattle.mof_metamodel.specs.declared.desc.ClassDesc.{ClassDesc}
-use Rattle.mof_metamodel.specs.Metamodels.{props_of, own_props, prop_count, no_class, declared_from, lineage_of, opposite_of, type_of, owner_of}
-use Rattle.mof_metamodel.specs.MetaFaults.{WellMeta, first_of, unless, agree, is_number, is_class, prop_name}
+use Rattle.mof_metamodel.specs.Metamodels.{props_of, own_props, prop_count, no_class, declared_from, lineage_of, opposite_of, type_of, owner_of, prop_at}
+use Rattle.mof_metamodel.specs.MetaFaults.{WellMeta, first_of, unless, agree, is_number, is_class, prop_name, has_one_container}
 
 -- ---- properties of a class are properties
 
@@ -102,3 +102,8 @@ pub opposite_types : (desc : MetaDesc) (p q : ℕ) → WellMeta desc → p < pro
 opposite_types desc p q w l e =
     let a : agree desc p (Some q) ≡ true = ap (agree desc p) (sym e) ∙ agrees desc p w l in
     (right_of _ _ (left_of _ _ (left_of _ _ a)), right_of _ _ (left_of _ _ a))
+
+pub one_container : (desc : MetaDesc) (p q : ℕ) → WellMeta desc → p < prop_count desc → opposite_of desc p ≡ Some q → not ((prop_at desc p).composite && (prop_at desc q).composite) ≡ true
+one_container desc p q w l e =
+    ap (has_one_container desc p) (sym e)
+    ∙ unless-none _ (prop_name desc p) (first_of-none (λ p. unless (has_one_container desc p (opposite_of desc p)) (prop_name desc p)) 0 (prop_count desc) p w.containers (omega arith) (omega arith))

@@ -1,13 +1,16 @@
 -- A model whose object has its partners in another order.
 use Rattle.std.proofs.Common.{◌≡◌, ℕ, List, map, ap, sym, ◌∙◌, subst, Some, inl, inr}
 use Rattle.std.specs.Prelude.{Contains, Option, IsPermutation}
-use Rattle.std.proofs.lemmas.List.Sorted.{Contains-permutation}
+use Rattle.std.proofs.lemmas.List.Sorted.{Contains-permutation, IsPermutation-sym}
+use Rattle.link_arena.proofs.Orders.{AllPairs-permutation}
 use Rattle.mof_metamodel.specs.declared.desc.MetaDesc.{MetaDesc}
 use Rattle.mof_metamodel.specs.Metamodels.{props_of}
 use Rattle.object_tables.specs.Rows.{Row, place_at, joined_at, with_joined}
 use Rattle.object_tables.specs.Orders.{AreOfObjects, IsReordered}
-use Rattle.object_tables.specs.Models.{ModelData, class_at, partners_at, with_order}
+use Rattle.object_tables.specs.Models.{ModelData, class_at, partners_at, with_order, IsReferenceOf}
+use Rattle.object_tables.specs.Kept.{Kept}
 use Rattle.object_tables.specs.Tied.{near, far, class_in, IsTied}
+use Rattle.object_tables.proofs.KeptEdits.{kept_with_order}
 use Rattle.object_tables.proofs.ModelLemmas.{seen, partners_seen}
 use Rattle.object_tables.proofs.EditLemmas.{IsAlike, tied-alike, alike-with_place, joined-with_joined, seen-with_place}
 
@@ -53,3 +56,12 @@ pub order_seen : (meta : MetaDesc) (rows : List Row) (v : ModelData) (o c p k : 
     → IsPermutation order (partners_at v o p) → IsPermutation order (map (λ e. e.0) (joined_at rows o k))
 order_seen meta rows v o c p k order e hc ek h =
     subst (λ xs. IsPermutation order xs) (partners_seen meta rows v o p c e hc ∙ ap (λ z. map (λ e. e.0) (joined_at rows o z)) (sym ek)) h
+
+-- and is kept
+pub kept_reordered : (m : ModelData) (o p : ℕ) (order : List ℕ) → Kept m → IsReferenceOf m o p → IsPermutation order (partners_at m o p) → Kept (with_order m o p order)
+kept_reordered m o p order k r same =
+    let back : IsPermutation (partners_at m o p) order = IsPermutation-sym order (partners_at m o p) same in
+    kept_with_order m o p order k r
+    (λ b. Contains-permutation order (partners_at m o p) b same)
+    (λ b. Contains-permutation (partners_at m o p) order b back)
+    (AllPairs-permutation (partners_at m o p) order back (k.references o p r).distinct)

@@ -8,3 +8,5 @@ pub mod AddFaults
 pub mod Ids
 pub mod Sameness
 pub mod Orders
+pub mod Kept
+pub mod Whole

@@ -1,6 +1,7 @@
 ghost use Rattle.std.specs.Prelude.{false, ◌≡◌, ◌≢◌, ℕ, ◌+◌, ◌<◌, ◌≤◌, ◌^◌, List, [], ◌∷◌, ◌++◌, length, map, ◌↔◌, IsTrue, IsSome, IfOk, OnOk, OnErr, IfSome, IfNone, Contains, Option, Some, None, chars, count_by, is_some, All};
 ghost use Rattle.mof_metamodel.specs.Metamodels.{class_count, class_at as meta_class};
 ghost use Rattle.object_tables.specs.Ids.{object_ids};
+ghost use Rattle.object_tables.specs.Kept.{Kept};
 ghost use Rattle.object_tables.specs.Models.{object_at, IsLive, class_at, id_at, values_at, partners_at, IsLinked, IsReferenceOf, IsAttributeOf, live_count};
 
 mod changes;
@@ -31,13 +32,13 @@ impl<'m> std::marker::Model for Model<'m> {
     ghost use Rattle.std.specs.HashMap.{get_by_text};
     ghost use Rattle.object_tables.specs.Models.{ModelData};
     ghost use Rattle.object_tables.specs.Objects.{object_of};
-    ghost use Rattle.object_tables.specs.Tied.{IsTied};
+    ghost use Rattle.object_tables.specs.Whole.{IsWhole};
 
     ghost Value = { ModelData };
 
     ghost view = { λ m. record { meta = m.meta.now; objects = map object_of m.tables } };
 
-    ghost invariant = { λ m. IsTied m.meta.now m.tables (get_by_text m.names) m.live };
+    ghost invariant = { λ m. IsWhole m.meta.now m.tables (get_by_text m.names) m.live };
 }
 
 impl<'m> Model<'m> {
@@ -69,9 +70,10 @@ impl<'m> Model<'m> {
         self.live
     }
 
-    /// The number that the next object gets.
+    /// The number that the next object gets. A caller also learns here what every model keeps.
     pub fn end(&self) -> u32
-        ensures { result ≡ length self.now.objects }
+        ensures number { result ≡ length self.now.objects }
+        ensures kept { Kept self.now }
     {
         self.tables.len() as u32
     }

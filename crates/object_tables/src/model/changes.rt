@@ -69,6 +69,7 @@ impl<'m> Model<'m> {
     /// Enters an object and its identifier.
     fn enter(&mut self, class: ClassId, id: Text, count: u32) -> Result<ObjId, AddFault>
         requires class { class.0 < class_count self.old.meta }
+        requires identifier { IsTrue (is_identifier_text id) }
         requires addable { IsAddable self.old class.0 id }
         requires count { count ≡ suc (suc (length (props_of self.old.meta class.0))) }
         ensures ok { IfOk result (λ o. (o.0 ≡ length self.old.objects) × (self.new ≡ added self.old class.0 id)) }

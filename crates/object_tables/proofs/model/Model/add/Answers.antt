@@ -8,7 +8,7 @@ use Rattle.object_tables.proofs.model.Model.add.Goals.{then-self-ge-MAX_OBJECTS-
 
 pub returns-then-self-ge-MAX_OBJECTS-clause-causes : goal.returns-then-self-ge-MAX_OBJECTS-clause-causes
 returns-then-self-ge-MAX_OBJECTS-clause-causes c =
-    full_from _ _ _ _ _ c.self.invariant c.self.view_is
+    full_from _ _ _ _ _ c.self.invariant.tied c.self.view_is
     (elim c.then-self-ge-MAX_OBJECTS.branch [
       | then-self-ge-MAX_OBJECTS-via-then-self-ge-MAX_OBJECTS w ↦ inl (omega arith)
       | then-self-ge-MAX_OBJECTS-via-else-self-ge-MAX_OBJECTS+then-len-ge-MAX_END w ↦ inr (omega arith)
@@ -16,46 +16,46 @@ returns-then-self-ge-MAX_OBJECTS-clause-causes c =
 
 pub returns-then-is_abstract-clause-causes : goal.returns-then-is_abstract-clause-causes
 returns-then-is_abstract-clause-causes c = (
-  room_from _ _ _ _ _ c.self.invariant c.self.view_is c.if-self-ge-MAX_OBJECTS.false (let e = c.len.ensures in let l = c.if-len-ge-MAX_END.false in omega arith),
+  room_from _ _ _ _ _ c.self.invariant.tied c.self.view_is c.if-self-ge-MAX_OBJECTS.false (let e = c.len.ensures in let l = c.if-len-ge-MAX_END.false in omega arith),
   ap (λ m. (meta_class m.meta c.args.class.0).is_abstract) (sym c.self.view_is) ∙ sym c.is_abstract.ensures ∙ c.if-is_abstract.true,
 )
 
 pub returns-then-contains_key-clause-causes : goal.returns-then-contains_key-clause-causes
 returns-then-contains_key-clause-causes c = (
-  room_from _ _ _ _ _ c.self.invariant c.self.view_is c.if-self-ge-MAX_OBJECTS.false (let e = c.len.ensures in let l = c.if-len-ge-MAX_END.false in omega arith),
+  room_from _ _ _ _ _ c.self.invariant.tied c.self.view_is c.if-self-ge-MAX_OBJECTS.false (let e = c.len.ensures in let l = c.if-len-ge-MAX_END.false in omega arith),
   ap (λ m. (meta_class m.meta c.args.class.0).is_abstract) (sym c.self.view_is) ∙ sym c.is_abstract.ensures ∙ c.if-is_abstract.false,
-  is_found _ _ _ _ _ c.args.id c.self.invariant c.self.view_is
+  is_found _ _ _ _ _ c.args.id c.self.invariant.tied c.self.view_is
       (ap (λ b. is_some (get_by_text c.self.inside.names b)) (sym c.as_str.ensures.bytes) ∙ sym c.contains_key.ensures ∙ c.if-contains_key.true),
 )
 
 pub returns-in-None-clause-causes : goal.returns-in-None-clause-causes
 returns-in-None-clause-causes c = record {
-  room = room_from _ _ _ _ _ c.self.invariant c.self.view_is c.if-self-ge-MAX_OBJECTS.false (let e = c.len.ensures in let l = c.if-len-ge-MAX_END.false in omega arith);
+  room = room_from _ _ _ _ _ c.self.invariant.tied c.self.view_is c.if-self-ge-MAX_OBJECTS.false (let e = c.len.ensures in let l = c.if-len-ge-MAX_END.false in omega arith);
   concrete = ap (λ m. (meta_class m.meta c.args.class.0).is_abstract) (sym c.self.view_is) ∙ sym c.is_abstract.ensures ∙ c.if-is_abstract.false;
-  new = is_absent _ _ _ _ _ c.args.id c.self.invariant c.self.view_is
+  new = is_absent _ _ _ _ _ c.args.id c.self.invariant.tied c.self.view_is
       (ap (λ b. is_some (get_by_text c.self.inside.names b)) (sym c.as_str.ensures.bytes) ∙ sym c.contains_key.ensures ∙ c.if-contains_key.false);
 }
 
 pub enter-requires-clause-addable : goal.enter-requires-clause-addable
 enter-requires-clause-addable c = record {
-  room = room_from _ _ _ _ _ c.self.invariant c.self.view_is c.if-self-ge-MAX_OBJECTS.false (let e = c.len.ensures in let l = c.if-len-ge-MAX_END.false in omega arith);
+  room = room_from _ _ _ _ _ c.self.invariant.tied c.self.view_is c.if-self-ge-MAX_OBJECTS.false (let e = c.len.ensures in let l = c.if-len-ge-MAX_END.false in omega arith);
   concrete = ap (λ m. (meta_class m.meta c.args.class.0).is_abstract) (sym c.self.view_is) ∙ sym c.is_abstract.ensures ∙ c.if-is_abstract.false;
-  new = is_absent _ _ _ _ _ c.args.id c.self.invariant c.self.view_is
+  new = is_absent _ _ _ _ _ c.args.id c.self.invariant.tied c.self.view_is
       (ap (λ b. is_some (get_by_text c.self.inside.names b)) (sym c.as_str.ensures.bytes) ∙ sym c.contains_key.ensures ∙ c.if-contains_key.false);
 }
 
 pub returns-clause-causes_ok : goal.returns-clause-causes_ok
 returns-clause-causes_ok c = if_ok_any c.enter.result _ (record {
-  room = room_from _ _ _ _ _ c.self.invariant c.self.view_is c.if-self-ge-MAX_OBJECTS.false (let e = c.len.ensures in let l = c.if-len-ge-MAX_END.false in omega arith);
+  room = room_from _ _ _ _ _ c.self.invariant.tied c.self.view_is c.if-self-ge-MAX_OBJECTS.false (let e = c.len.ensures in let l = c.if-len-ge-MAX_END.false in omega arith);
   concrete = ap (λ m. (meta_class m.meta c.args.class.0).is_abstract) (sym c.self.view_is) ∙ sym c.is_abstract.ensures ∙ c.if-is_abstract.false;
-  new = is_absent _ _ _ _ _ c.args.id c.self.invariant c.self.view_is
+  new = is_absent _ _ _ _ _ c.args.id c.self.invariant.tied c.self.view_is
       (ap (λ b. is_some (get_by_text c.self.inside.names b)) (sym c.as_str.ensures.bytes) ∙ sym c.contains_key.ensures ∙ c.if-contains_key.false);
 })
 
 pub returns-clause-causes : goal.returns-clause-causes
 returns-clause-causes c = memory_cause c.enter.result c.args.self.now c.args.class.0 c.args.id c.enter.ensures.memory (record {
-  room = room_from _ _ _ _ _ c.self.invariant c.self.view_is c.if-self-ge-MAX_OBJECTS.false (let e = c.len.ensures in let l = c.if-len-ge-MAX_END.false in omega arith);
+  room = room_from _ _ _ _ _ c.self.invariant.tied c.self.view_is c.if-self-ge-MAX_OBJECTS.false (let e = c.len.ensures in let l = c.if-len-ge-MAX_END.false in omega arith);
   concrete = ap (λ m. (meta_class m.meta c.args.class.0).is_abstract) (sym c.self.view_is) ∙ sym c.is_abstract.ensures ∙ c.if-is_abstract.false;
-  new = is_absent _ _ _ _ _ c.args.id c.self.invariant c.self.view_is
+  new = is_absent _ _ _ _ _ c.args.id c.self.invariant.tied c.self.view_is
       (ap (λ b. is_some (get_by_text c.self.inside.names b)) (sym c.as_str.ensures.bytes) ∙ sym c.contains_key.ensures ∙ c.if-contains_key.false);
 })

@@ -4,15 +4,15 @@ use Rattle.object_tables.proofs.ModelLemmas.{placed_seen, near-within, has_seen,
 use Rattle.object_tables.proofs.model.Model.attr.Goals as goal
 
 pub near_place-place-requires-clause-class : goal.near_place-place-requires-clause-class
-near_place-place-requires-clause-class c = (placed_seen _ _ _ _ _ _ _ c.self.invariant c.self.view_is c.class_of.ensures.class).class
+near_place-place-requires-clause-class c = (placed_seen _ _ _ _ _ _ _ c.self.invariant.tied c.self.view_is c.class_of.ensures.class).class
 
 pub near_place-place-requires-clause-small : goal.near_place-place-requires-clause-small
-near_place-place-requires-clause-small c = (placed_seen _ _ _ _ _ _ _ c.self.invariant c.self.view_is c.class_of.ensures.class).small
+near_place-place-requires-clause-small c = (placed_seen _ _ _ _ _ _ _ c.self.invariant.tied c.self.view_is c.class_of.ensures.class).small
 
 pub values-requires-clause-place : goal.values-requires-clause-place
 values-requires-clause-place c =
     rw c.near_place-place.ensures
-    (near-within _ _ _ _ _ (placed_seen _ _ _ _ _ _ _ c.self.invariant c.self.view_is c.class_of.ensures.class)
+    (near-within _ _ _ _ _ (placed_seen _ _ _ _ _ _ _ c.self.invariant.tied c.self.view_is c.class_of.ensures.class)
     (has_seen _ _ _ _ _ _ _ c.self.view_is c.class_of.ensures.class c.requires.class_is c.requires.has))
 
 pub returns : goal.returns
