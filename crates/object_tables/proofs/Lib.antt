@@ -7,6 +7,7 @@ pub mod MetaLemmas
 pub mod EditLemmas
 pub mod AddLemmas
 pub mod DeleteLemmas
+pub mod MapLemmas
 pub mod SamenessLemmas
 pub mod CopyLemmas
 pub mod OrderLemmas

@@ -17,20 +17,9 @@ use Rattle.object_tables.specs.declared.value.ObjId.{ObjId}
 use Rattle.object_tables.specs.Rows.{Row, joined_at, with_joined}
 use Rattle.object_tables.specs.Flat.{rows_of, home_at, address, end_at, IsFlat, IsSpot}
 use Rattle.object_tables.specs.Orders.{AreOfObjects, IsReordered, IsMarkedFor}
-use Rattle.object_tables.proofs.ListLemmas.{Contains-cons, Contains-map, Contains-from_map}
+use Rattle.object_tables.proofs.ListLemmas.{Contains-map, Contains-from_map}
+use Rattle.object_tables.proofs.MapLemmas.{map-map, map-back}
 use Rattle.object_tables.proofs.FlatLemmas.{joined_seen, rows-links, others_ranged}
-
--- ---- maps
-
-map-map : {X Y Z : Type 0} (f : X → Y) (g : Y → Z) (xs : List X) → map g (map f xs) ≡ map (λ x. g (f x)) xs
-map-map f g [] = refl
-map-map f g (x ∷ xs) = ap (λ ys. g (f x) ∷ ys) (map-map f g xs)
-
-map-back : {X Y : Type 0} (f : X → Y) (g : Y → X) (xs : List X) → ((x : X) → Contains xs x → g (f x) ≡ x) → map g (map f xs) ≡ xs
-map-back f g [] h = refl
-map-back f g (x ∷ xs) h =
-    let a : g (f x) ≡ x = h x (0, omega arith, refl) in
-    let b : map g (map f xs) ≡ xs = map-back f g xs (λ y c. h y (Contains-cons x xs y c)) in cc
 
 -- ---- the objects of ends
 

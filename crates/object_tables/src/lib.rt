@@ -18,6 +18,7 @@ mod limit;
 mod model;
 mod partners;
 mod places;
+mod sameness;
 mod tables;
 mod value;
 
@@ -25,4 +26,5 @@ pub use fault::AddFault;
 pub use limit::LimitKind;
 pub use model::Model;
 pub use partners::Partners;
+pub use sameness::{same_back, same_through};
 pub use value::{ObjId, Value};
