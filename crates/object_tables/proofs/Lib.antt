@@ -18,3 +18,5 @@ pub mod KeptLemmas
 pub mod KeptEdits
 pub mod KeptObjects
 pub mod WholeLemmas
+pub mod DistinctLemmas
+pub mod ContainerLemmas

@@ -10,3 +10,4 @@ pub mod Sameness
 pub mod Orders
 pub mod Kept
 pub mod Whole
+pub mod Places
