@@ -7,6 +7,11 @@ pub mod MetaLemmas
 pub mod EditLemmas
 pub mod AddLemmas
 pub mod DeleteLemmas
+pub mod MapLemmas
+pub mod SamenessLemmas
+pub mod CopyLemmas
+pub mod OrderLemmas
+pub mod ReorderLemmas
 pub mod InheritLemmas
 pub mod SlotLemmas
 pub mod KeptLemmas
