@@ -13,3 +13,6 @@ pub mod KeptLemmas
 pub mod KeptEdits
 pub mod KeptObjects
 pub mod WholeLemmas
+pub mod ContainmentLemmas
+pub mod BreachLemmas
+pub mod ClassOrderLemmas

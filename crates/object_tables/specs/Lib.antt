@@ -8,3 +8,5 @@ pub mod AddFaults
 pub mod Ids
 pub mod Kept
 pub mod Whole
+pub mod Containment
+pub mod Validity

@@ -12,6 +12,7 @@
 //! deleted one keeps them.
 #![tactic(auto)]
 
+mod breach;
 mod fault;
 mod model;
 mod partners;
@@ -19,6 +20,7 @@ mod places;
 mod tables;
 mod value;
 
+pub use breach::{Breach, BreachKind};
 pub use fault::AddFault;
 pub use model::Model;
 pub use partners::Partners;
