@@ -11,7 +11,7 @@ use Rattle.object_tables.specs.Objects.{Object, Slot}
 use Rattle.object_tables.specs.Models.{ModelData, object_at, class_at, id_at, no_slot, slot_in, slot_number, partners_at, IsLinked, IsSlotOf, HasId, without_number, slot_without, object_without, deleted, added, new_object}
 use Rattle.object_tables.specs.Kept.{Kept, IsWellObject}
 use Rattle.object_tables.proofs.ListLemmas.{get_or-update_at_same, get_or-update_at_other, update_at_past, Contains-filter}
-use Rattle.object_tables.proofs.ModelLemmas.{get_or-map_default}
+use Rattle.std.proofs.Math.ListN.{get_or-map}
 use Rattle.object_tables.proofs.SlotLemmas.{slot_at, other_number, not_number}
 use Rattle.object_tables.proofs.KeptLemmas.{IsSound, sound_of, both_ways, no_more_containers}
 
@@ -23,7 +23,7 @@ no_link (k, l, e) = omega arith
 pub object-deleted : (m : ModelData) (o i : ℕ)
     → ((i ≡ o) × (object_at (deleted m o) i ≡ None)) ⊎ ((i ≢ o) × (object_at (deleted m o) i ≡ object_without o (object_at m i)))
 object-deleted m o i = elim (cases_eq i o) [
-  | inr ne ↦ inr (ne, get_or-update_at_other (map (object_without o) m.objects) o i (λ _. None) None ne ∙ get_or-map_default (object_without o) m.objects i None)
+  | inr ne ↦ inr (ne, get_or-update_at_other (map (object_without o) m.objects) o i (λ _. None) None ne ∙ get_or-map (object_without o) m.objects i None)
   | inl e ↦ inl (
     e,
     ap (object_at (deleted m o)) e ∙ elim (cases_lt o (length (map (object_without o) m.objects))) [
@@ -43,7 +43,7 @@ id-without o (Some ob) = refl
 
 slot-without : (meta : MetaDesc) (o q : ℕ) (x : Option Object) → slot_in meta q (object_without o x) ≡ slot_without o (slot_in meta q x)
 slot-without meta o q None = refl
-slot-without meta o q (Some ob) = get_or-map_default (slot_without o) ob.slots (slot_number meta ob.class q) no_slot
+slot-without meta o q (Some ob) = get_or-map (slot_without o) ob.slots (slot_number meta ob.class q) no_slot
 
 -- an object that is live afterwards was live before, and is another one
 class-deleted : (m : ModelData) (o i c : ℕ) → class_at (deleted m o) i ≡ Some c → (i ≢ o) × (class_at m i ≡ Some c) × ((q : ℕ) → slot_at (deleted m o) i q ≡ slot_without o (slot_at m i q))

@@ -15,4 +15,5 @@ pub mod KeptObjects
 pub mod WholeLemmas
 pub mod ContainmentLemmas
 pub mod BreachLemmas
-pub mod ClassOrderLemmas
+pub mod DistinctLemmas
+pub mod ContainerLemmas

@@ -50,15 +50,15 @@ prop_known desc c p h =
 
 -- ---- opposites
 
-none_first : {X : Type 0} (x y : Option X) → option_or x y ≡ None → x ≡ None
+pub none_first : {X : Type 0} (x y : Option X) → option_or x y ≡ None → x ≡ None
 none_first None y h = refl
 none_first (Some x) y h = absurd cc
 
-none_second : {X : Type 0} (x y : Option X) → option_or x y ≡ None → y ≡ None
+pub none_second : {X : Type 0} (x y : Option X) → option_or x y ≡ None → y ≡ None
 none_second None y h = h
 none_second (Some x) y h = absurd cc
 
-first_of-none : (f : ℕ → Option (List ℕ)) (a n p : ℕ) → first_of f (range_with_len a n) ≡ None → a ≤ p → p < a + n → f p ≡ None
+pub first_of-none : (f : ℕ → Option (List ℕ)) (a n p : ℕ) → first_of f (range_with_len a n) ≡ None → a ≤ p → p < a + n → f p ≡ None
 first_of-none f a zero p h le l = absurd (omega arith)
 first_of-none f a (suc n) p h le l = elim (cases_eq a p) [
   | inl e ↦ ap f (sym e) ∙ none_first (f a) (first_of f (range_with_len (a + 1) n)) h

@@ -87,7 +87,7 @@ index-within (q ∷ qs) p c = by_test (λ d. index-within qs p d) (q == p) refl 
   by_test rest true h = omega arith
   by_test rest false h = let i = rest (rest_has q p qs h c) in omega arith
 
-pub get_or-map_default : {X Y : Type 0} (f : X → Y) (xs : List X) (i : ℕ) (d : X) → get_or (map f xs) i (f d) ≡ f (get_or xs i d)
+get_or-map_default : {X Y : Type 0} (f : X → Y) (xs : List X) (i : ℕ) (d : X) → get_or (map f xs) i (f d) ≡ f (get_or xs i d)
 get_or-map_default f [] i d = refl
 get_or-map_default f (x ∷ xs) zero d = refl
 get_or-map_default f (x ∷ xs) (suc i) d = get_or-map_default f xs i d

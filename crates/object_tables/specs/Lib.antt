@@ -10,3 +10,4 @@ pub mod Kept
 pub mod Whole
 pub mod Containment
 pub mod Validity
+pub mod Places

@@ -6,7 +6,7 @@
 //! partners of a reference. Each edit is one equation between two such data.
 //!
 //! Costs, where p is the number of properties of an object's class: `class_of`, `id_of`, `by_id`, `is_live`, `len` and `end`
-//! are constant; `attr`, `set_attr` and `partners` take p and what is returned; `add` takes p, amortised; `linked`, `link` and
+//! are constant; `container` takes p; `attr`, `set_attr` and `partners` take p and what is returned; `add` takes p, amortised; `linked`, `link` and
 //! `unlink` take p and the smaller of the numbers of partners of the two ends; `delete` takes p and the links of the object.
 //! An object takes one place for each property of its class and two more, some fifty bytes each besides the values; a
 //! deleted one keeps them.

@@ -5,6 +5,7 @@ ghost use Rattle.object_tables.specs.Kept.{Kept};
 ghost use Rattle.object_tables.specs.Models.{object_at, IsLive, class_at, id_at, values_at, partners_at, IsLinked, IsReferenceOf, IsAttributeOf, live_count};
 
 mod changes;
+mod containment;
 mod links;
 
 use crate::partners::Partners;
