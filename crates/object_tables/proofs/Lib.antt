@@ -18,5 +18,7 @@ pub mod KeptLemmas
 pub mod KeptEdits
 pub mod KeptObjects
 pub mod WholeLemmas
+pub mod ContainmentLemmas
+pub mod BreachLemmas
 pub mod DistinctLemmas
 pub mod ContainerLemmas

@@ -14,6 +14,7 @@
 //! deleted one keeps them.
 #![tactic(auto)]
 
+mod breach;
 mod fault;
 mod limit;
 mod model;
@@ -23,6 +24,7 @@ mod sameness;
 mod tables;
 mod value;
 
+pub use breach::{Breach, BreachKind};
 pub use fault::AddFault;
 pub use limit::LimitKind;
 pub use model::Model;
