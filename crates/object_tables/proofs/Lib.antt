@@ -22,3 +22,4 @@ pub mod ContainmentLemmas
 pub mod BreachLemmas
 pub mod DistinctLemmas
 pub mod ContainerLemmas
+pub mod PlaceLemmas

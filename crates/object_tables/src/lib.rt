@@ -5,11 +5,11 @@
 //! its identifier and a slot for each property of its class, in class order, with the values of an attribute and the
 //! partners of a reference. Each edit is one equation between two such data.
 //!
-//! Costs, where p is the number of properties of an object's class: `class_of`, `id_of`, `by_id`, `is_live`, `len` and `end`
-//! are constant; `container` takes p; `attr`, `set_attr` and `partners` take p and what is returned; `add` takes p, amortised;
-//! `linked`, `link` and `unlink` take p and the smaller of the numbers of partners of the two ends; `set_order` takes p and the
-//! number of partners; `delete` takes p and the links of the object; `duplicate` takes the places, values and links of all
-//! objects.
+//! Costs: `class_of`, `id_of`, `by_id`, `is_live`, `len` and `end` are constant; `attr`, `set_attr` and `partners` take what is
+//! given or returned; `linked`, `link` and `unlink` the smaller of the numbers of partners of the two ends; `set_order` the
+//! number of partners; `add` and `container` the number of properties of the object's class; `delete` that and the links of the
+//! object; `depth` what `container` takes for each container above; `duplicate` the places, values and links of all objects.
+//! What takes memory is amortised.
 //! An object takes one place for each property of its class and two more, some fifty bytes each besides the values; a
 //! deleted one keeps them.
 #![tactic(auto)]

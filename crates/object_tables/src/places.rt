@@ -1,22 +1,20 @@
 ghost use Rattle.std.specs.Prelude.{◌≡◌, ◌<◌, ◌≤◌, ◌^◌, suc, length, Some, IfSome};
 ghost use Rattle.mof_metamodel.specs.Metamodels.{class_count, prop_count, props_of};
-ghost use Rattle.mof_metamodel.specs.Tables.{prop_numbers};
 ghost use Rattle.object_tables.specs.Models.{index_of};
 ghost use Rattle.object_tables.specs.Tied.{near, far, nameless, far_among};
 
 use mof_metamodel::{ClassId, MetaModel, PropId};
 
-/// The first place of a property in a list, or the list's length.
-fn index_of(props: &[PropId], p: PropId) -> usize
-    ensures value { result ≡ index_of (prop_numbers props.now) p.0 }
-    ensures within { result ≤ length props.now }
+/// The place of a property in the class order of a class, or the number of the class's properties.
+fn index_of(meta: &MetaModel, class: ClassId, p: PropId) -> usize
+    requires { class.0 < class_count meta.now }
+    ensures value { result ≡ index_of (props_of meta.now class.0) p.0 }
+    ensures within { result ≤ length (props_of meta.now class.0) }
 {
-    for (i, q) in props.iter().enumerate() {
-        if *q == p {
-            return i;
-        }
+    match meta.place_of(class, p) {
+        Some(i) => i,
+        None => meta.props(class).len(),
     }
-    props.len()
 }
 
 /// The place of a property of an object of the class.
@@ -25,7 +23,7 @@ pub(crate) fn near_place(meta: &MetaModel, class: ClassId, p: PropId) -> u32
     requires small { suc (suc (length (props_of meta.now class.0))) < 2 ^ 32 }
     ensures { result ≡ near meta.now class.0 p.0 }
 {
-    index_of(meta.props(class), p) as u32 + 2
+    index_of(meta, class, p) as u32 + 2
 }
 
 /// The far end of a reference without an opposite.
@@ -45,21 +43,20 @@ pub(crate) fn far_place(meta: &MetaModel, class: ClassId, p: PropId) -> u32
 {
     let otherwise = nameless_place(meta, p);
     match meta.opposite(p) {
-        Some(q) => far_among(meta.props(class), q, otherwise),
+        Some(q) => far_among(meta, class, q, otherwise),
         None => otherwise,
     }
 }
 
 /// The place of the opposite among the properties of a class.
-fn far_among(props: &[PropId], q: PropId, otherwise: u32) -> u32
-    requires { suc (suc (length props.now)) < 2 ^ 32 }
-    ensures { result ≡ far_among (prop_numbers props.now) (Some q.0) otherwise }
+fn far_among(meta: &MetaModel, class: ClassId, q: PropId, otherwise: u32) -> u32
+    requires class { class.0 < class_count meta.now }
+    requires small { suc (suc (length (props_of meta.now class.0))) < 2 ^ 32 }
+    ensures { result ≡ far_among (props_of meta.now class.0) (Some q.0) otherwise }
 {
-    let i = index_of(props, q);
-    if i < props.len() {
-        i as u32 + 2
-    } else {
-        otherwise
+    match meta.place_of(class, q) {
+        Some(i) => i as u32 + 2,
+        None => otherwise,
     }
 }
 
