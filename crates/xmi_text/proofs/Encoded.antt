@@ -1,20 +1,25 @@
 -- The bytes of a character from U+0080 on are stepped over as one character.
-use Rattle.std.proofs.Common.{◌≡◌, ℕ, ◌+◌, ◌*◌, ◌/◌, ◌%◌, ◌≤◌, ◌<◌, Bool, true, false, refl, ◌∙◌, ap, arith, cond, None, Some}
-use Rattle.std.specs.Prelude.{◌||◌, ◌&&◌, not, nat_lt, nat_le, if◌then◌else◌}
-use Rattle.std.proofs.lemmas.Bool.{or_from, le-ltb, le-leb, lt-leb}
+use Rattle.std.proofs.Common.{◌≡◌, ℕ, ◌+◌, ◌-◌, ◌*◌, ◌/◌, ◌%◌, ◌≤◌, ◌<◌, Bool, true, false, List, [], ◌∷◌, ◌++◌, refl, sym, ◌∙◌, ap, arith, cond, Option, None, Some, inl, inr, ⊎_elim}
+use Rattle.std.specs.Prelude.{◌==◌, ◌||◌, ◌&&◌, not, nat_lt, nat_le, if◌then◌else◌}
+use Rattle.std.proofs.lemmas.Bool.{cases_lt, cases_eq, or_from, lt-ltb, le-ltb, le-leb, lt-leb, eq-eqb, ne_eqb}
 use lib.Utf8.{encode, scalar_cases}
 use lib.Utf8 as utf8
-use Rattle.xmi_text.specs.ByteClass.{within, holds_in_name}
+use Rattle.xmi_text.specs.ByteClass.{within, holds_in_name, continues_name}
 use Rattle.xmi_text.specs.AttrNames.{has_name}
 use Rattle.xmi_text.specs.UtfEight.{begun, extended, added, opened, scalar, found}
+use Rattle.xmi_text.specs.States.{complete, cleared}
 use Rattle.xmi_text.specs.Automaton.{step, step_by, character_step, character_by, ascii, lead, lead_on, ends_twin, whole, partial_by}
+use Rattle.xmi_text.specs.Reading.{state_from, marks_from}
+use Rattle.xmi_text.specs.Trees.{Event, told}
 use Rattle.xmi_text.specs.declared.utf_eight.Partial.{Partial}
+use Rattle.xmi_text.specs.declared.utf_eight.Rest.{Rest}
 use Rattle.xmi_text.specs.declared.utf_eight.Rest.TheVariants as rest
 use Rattle.xmi_text.specs.declared.utf_eight.Growth.TheVariants as growths
 use Rattle.xmi_text.specs.declared.state.State.{State}
 use Rattle.xmi_text.specs.declared.state.Mode.{Mode}
 use Rattle.xmi_text.specs.declared.state.Mode.TheVariants.{Failed, Reference, Doctype, EndName, AttrName, Start}
 use Rattle.xmi_text.specs.declared.state.Ready.TheVariants.{Nothing}
+use Rattle.xmi_text.proofs.Walks.{Walk, Walk-none, Walk-step, Walk-last}
 
 -- a state between two characters, with no mark that waits
 abbrev pub at_mode : State → Mode → Bool → State
@@ -118,3 +123,195 @@ last_byte p c l h r small ok =
     ∙ if_false (nat_lt 0x4fff (c / 64)) growths.Broken (found (scalar (c / 64 * 64 + b % 64))) (le-ltb 0x4fff (c / 64) (omega arith))
     ∙ ap (λ n. found (scalar n)) (last_bits c)
     ∙ ap found (is_scalar c ok)
+
+record Lead (at b second : ℕ) (r : Rest) : Type 0 where
+  pub p : Partial
+  pub begun : begun at b ≡ Some p
+  pub lead : p.lead ≡ at
+  pub low : p.low ≤ second
+  pub high : second ≤ p.high
+  pub rest : p.rest ≡ r
+
+abbrev partial_of : ℕ → ℕ → ℕ → Rest → Partial
+partial_of at low high r = record { lead = at; low = low; high = high; rest = r }
+
+not_two : (at b : ℕ) → 224 ≤ b → begun at b ≡ (if b == 0xe0 then opened at 0xa0 0xbf (rest.Two 0) else if b == 0xed then opened at 0x80 0x9f (rest.Two 13) else if within 0xe1 0xef b then opened at 0x80 0xbf (rest.Two (b % 16)) else if b == 0xf0 then opened at 0x90 0xbf (rest.Three 0) else if within 0xf1 0xf3 b then opened at 0x80 0xbf (rest.Three (b % 8)) else if b == 0xf4 then opened at 0x80 0x8f (rest.Three 4) else None)
+not_two at b h = if_false (within 0xc2 0xdf b) _ _ (within_above 0xc2 0xdf b (omega arith))
+
+from_three : (at c : ℕ) → 2048 ≤ c → c < 65536 → utf8.scalar c ≡ true → Lead at (224 + c / 4096) (128 + c / 64 % 64) (rest.Two (c / 4096))
+from_three at c l h ok =
+    let q : ℕ = c / 4096 in
+    elim (cases_eq q 0) [
+      | inl e ↦ record {
+        p = partial_of at 0xa0 0xbf (rest.Two 0);
+        begun = ap (λ n. begun at (224 + n)) e;
+        lead = refl;
+        low = omega arith;
+        high = omega arith;
+        rest = ap rest.Two (sym e);
+      }
+      | inr n ↦ elim (cases_eq q 13) [
+        | inl e ↦ record {
+          p = partial_of at 0x80 0x9f (rest.Two 13);
+          begun = ap (λ n. begun at (224 + n)) e;
+          lead = refl;
+          low = omega arith;
+          high = ⊎_elim (λ k. omega arith) (λ k. omega arith) (scalar_cases c ok);
+          rest = ap rest.Two (sym e);
+        }
+        | inr k ↦ record {
+          p = partial_of at 0x80 0xbf (rest.Two q);
+          begun = not_two at (224 + q) (omega arith)
+              ∙ if_false ((224 + q) == 0xe0) _ _ (ne_eqb _ _ (λ x. n (omega arith)))
+              ∙ if_false ((224 + q) == 0xed) _ _ (ne_eqb _ _ (λ x. k (omega arith)))
+              ∙ if_true (within 0xe1 0xef (224 + q)) _ _ (within_from 0xe1 0xef (224 + q) (positive n) (omega arith))
+              ∙ ap (λ x. opened at 0x80 0xbf (rest.Two x)) (low_four q (omega arith));
+          lead = refl;
+          low = omega arith;
+          high = omega arith;
+          rest = refl;
+        }
+      ]
+    ]
+  where
+    low_four : (q : ℕ) → q < 16 → (224 + q) % 16 ≡ q
+    low_four q h = omega arith
+
+    positive : {q : ℕ} → (q ≡ 0 → ⊥) → 225 ≤ 224 + q
+    positive {q} n = elim (cases_lt 0 q) [ inl x ↦ omega arith | inr x ↦ absurd (n (omega arith)) ]
+
+from_four : (at c : ℕ) → 65536 ≤ c → c < 1114112 → Lead at (240 + c / 262144) (128 + c / 4096 % 64) (rest.Three (c / 262144))
+from_four at c l h =
+    let q : ℕ = c / 262144 in
+    elim (cases_eq q 0) [
+      | inl e ↦ record {
+        p = partial_of at 0x90 0xbf (rest.Three 0);
+        begun = ap (λ n. begun at (240 + n)) e;
+        lead = refl;
+        low = omega arith;
+        high = omega arith;
+        rest = ap rest.Three (sym e);
+      }
+      | inr n ↦ elim (cases_eq q 4) [
+        | inl e ↦ record {
+          p = partial_of at 0x80 0x8f (rest.Three 4);
+          begun = ap (λ n. begun at (240 + n)) e;
+          lead = refl;
+          low = omega arith;
+          high = omega arith;
+          rest = ap rest.Three (sym e);
+        }
+        | inr k ↦ record {
+          p = partial_of at 0x80 0xbf (rest.Three q);
+          begun = not_two at (240 + q) (omega arith)
+              ∙ if_false ((240 + q) == 0xe0) _ _ (ne_eqb _ _ (λ x. omega arith))
+              ∙ if_false ((240 + q) == 0xed) _ _ (ne_eqb _ _ (λ x. omega arith))
+              ∙ if_false (within 0xe1 0xef (240 + q)) _ _ (within_above 0xe1 0xef (240 + q) (omega arith))
+              ∙ if_false ((240 + q) == 0xf0) _ _ (ne_eqb _ _ (λ x. n (omega arith)))
+              ∙ if_true (within 0xf1 0xf3 (240 + q)) _ _ (within_from 0xf1 0xf3 (240 + q) (positive q n) (fewer q k (omega arith)))
+              ∙ ap (λ x. opened at 0x80 0xbf (rest.Three x)) (low_three q (omega arith));
+          lead = refl;
+          low = omega arith;
+          high = omega arith;
+          rest = refl;
+        }
+      ]
+    ]
+  where
+    low_three : (q : ℕ) → q < 5 → (240 + q) % 8 ≡ q
+    low_three q h = omega arith
+
+    positive : (q : ℕ) → (q ≡ 0 → ⊥) → 241 ≤ 240 + q
+    positive q n = elim (cases_lt 0 q) [ inl x ↦ omega arith | inr x ↦ absurd (n (omega arith)) ]
+
+    fewer : (q : ℕ) → (q ≡ 4 → ⊥) → q < 5 → 240 + q ≤ 243
+    fewer q n h = elim (cases_lt q 4) [ inl x ↦ omega arith | inr x ↦ absurd (n (omega arith)) ]
+
+-- a byte between the first and the last
+two_of : (p : Partial) (q n b : ℕ) → p.rest ≡ rest.Two q → p.low ≤ b → b ≤ p.high → q * 64 + b % 64 ≡ n → extended p b ≡ growths.Partial (partial_of p.lead 0x80 0xbf (rest.One n))
+two_of p q n b r l h e = in_range p b l h ∙ ap (λ x. added p x b) r ∙ ap (λ x. growths.Partial (partial_of p.lead 0x80 0xbf (rest.One x))) e
+
+three_of : (p : Partial) (q n b : ℕ) → p.rest ≡ rest.Three q → p.low ≤ b → b ≤ p.high → q * 64 + b % 64 ≡ n → extended p b ≡ growths.Partial (partial_of p.lead 0x80 0xbf (rest.Two n))
+three_of p q n b r l h e = in_range p b l h ∙ ap (λ x. added p x b) r ∙ ap (λ x. growths.Partial (partial_of p.lead 0x80 0xbf (rest.Two x))) e
+
+-- a whole character was stepped over
+pub record Far (at : ℕ) (s : State) (m : Mode) (r : Bool) (c : ℕ) : Type 0 where
+  pub p : Partial
+  pub place : ℕ
+  pub begins : p.lead ≡ at
+  pub walk : Walk at (at_mode s m r) (encode c) (told (complete (behind_whole s m r p place c))) (cleared (behind_whole s m r p place c))
+
+far_two : (at : ℕ) (s : State) (m : Mode) (r : Bool) (c : ℕ) → IsPlain m → utf8.scalar c ≡ true → 128 ≤ c → c < 2048 → Walk at (at_mode s m r) ((192 + c / 64) ∷ (128 + c % 64) ∷ []) (told (complete (behind_whole s m r (partial_of at 0x80 0xbf (rest.One (c / 64))) (at + 1) c))) (cleared (behind_whole s m r (partial_of at 0x80 0xbf (rest.One (c / 64))) (at + 1) c))
+far_two at s m r c plain ok l h =
+    let p : Partial = partial_of at 0x80 0xbf (rest.One (c / 64)) in
+    Walk-step at (at_mode s m r) (within_character s m r p) _ (192 + c / 64) _ _ (first s m r at (192 + c / 64) p plain (omega arith) (omega arith) (from_two at c l h))
+    (Walk-last (at + 1) (within_character s m r p) (behind_whole s m r p (at + 1) c) (128 + c % 64)
+    (last s m r (at + 1) (128 + c % 64) c p plain (last_byte p c refl refl refl (omega arith) ok)))
+
+far_three : (at : ℕ) (s : State) (m : Mode) (r : Bool) (c : ℕ) (f : Lead at (224 + c / 4096) (128 + c / 64 % 64) (rest.Two (c / 4096))) → IsPlain m → utf8.scalar c ≡ true → 2048 ≤ c → c < 65536 → Walk at (at_mode s m r) ((224 + c / 4096) ∷ (128 + c / 64 % 64) ∷ (128 + c % 64) ∷ []) (told (complete (behind_whole s m r (partial_of f.p.lead 0x80 0xbf (rest.One (c / 64))) (at + 1 + 1) c))) (cleared (behind_whole s m r (partial_of f.p.lead 0x80 0xbf (rest.One (c / 64))) (at + 1 + 1) c))
+far_three at s m r c f plain ok l h =
+    let q : Partial = partial_of f.p.lead 0x80 0xbf (rest.One (c / 64)) in
+    Walk-step at (at_mode s m r) (within_character s m r f.p) _ (224 + c / 4096) _ _ (first s m r at (224 + c / 4096) f.p plain (omega arith) (omega arith) f.begun)
+    (Walk-step (at + 1) (within_character s m r f.p) (within_character s m r q) _ (128 + c / 64 % 64) _ _
+    (next s m r (at + 1) (128 + c / 64 % 64) f.p q plain (two_of f.p (c / 4096) (c / 64) (128 + c / 64 % 64) f.rest f.low f.high (omega arith)))
+    (Walk-last (at + 1 + 1) (within_character s m r q) (behind_whole s m r q (at + 1 + 1) c) (128 + c % 64)
+    (last s m r (at + 1 + 1) (128 + c % 64) c q plain (last_byte q c refl refl refl (omega arith) ok))))
+
+far_four : (at : ℕ) (s : State) (m : Mode) (r : Bool) (c : ℕ) (f : Lead at (240 + c / 262144) (128 + c / 4096 % 64) (rest.Three (c / 262144))) → IsPlain m → utf8.scalar c ≡ true → 65536 ≤ c → c < 1114112 → Walk at (at_mode s m r) ((240 + c / 262144) ∷ (128 + c / 4096 % 64) ∷ (128 + c / 64 % 64) ∷ (128 + c % 64) ∷ []) (told (complete (behind_whole s m r (partial_of f.p.lead 0x80 0xbf (rest.One (c / 64))) (at + 1 + 1 + 1) c))) (cleared (behind_whole s m r (partial_of f.p.lead 0x80 0xbf (rest.One (c / 64))) (at + 1 + 1 + 1) c))
+far_four at s m r c f plain ok l h =
+    let p : Partial = partial_of f.p.lead 0x80 0xbf (rest.Two (c / 4096)) in
+    let q : Partial = partial_of f.p.lead 0x80 0xbf (rest.One (c / 64)) in
+    Walk-step at (at_mode s m r) (within_character s m r f.p) _ (240 + c / 262144) _ _ (first s m r at (240 + c / 262144) f.p plain (omega arith) (omega arith) f.begun)
+    (Walk-step (at + 1) (within_character s m r f.p) (within_character s m r p) _ (128 + c / 4096 % 64) _ _
+    (next s m r (at + 1) (128 + c / 4096 % 64) f.p p plain (three_of f.p (c / 262144) (c / 4096) (128 + c / 4096 % 64) f.rest f.low f.high (omega arith)))
+    (Walk-step (at + 1 + 1) (within_character s m r p) (within_character s m r q) _ (128 + c / 64 % 64) _ _
+    (next s m r (at + 1 + 1) (128 + c / 64 % 64) p q plain (two_of p (c / 4096) (c / 64) (128 + c / 64 % 64) refl (omega arith) (omega arith) (omega arith)))
+    (Walk-last (at + 1 + 1 + 1) (within_character s m r q) (behind_whole s m r q (at + 1 + 1 + 1) c) (128 + c % 64)
+    (last s m r (at + 1 + 1 + 1) (128 + c % 64) c q plain (last_byte q c refl refl refl (omega arith) ok)))))
+
+-- how a character from U+0080 on is written
+encode_two : (c : ℕ) → 128 ≤ c → c < 2048 → encode c ≡ (192 + c / 64) ∷ (128 + c % 64) ∷ []
+unfolding encode
+encode_two c l h = rw (le-ltb c 128 l, lt-ltb c 2048 h) refl
+
+encode_three : (c : ℕ) → 2048 ≤ c → c < 65536 → encode c ≡ (224 + c / 4096) ∷ (128 + c / 64 % 64) ∷ (128 + c % 64) ∷ []
+unfolding encode
+encode_three c l h = rw (le-ltb c 128 (omega arith), le-ltb c 2048 l, lt-ltb c 65536 h) refl
+
+encode_four : (c : ℕ) → 65536 ≤ c → encode c ≡ (240 + c / 262144) ∷ (128 + c / 4096 % 64) ∷ (128 + c / 64 % 64) ∷ (128 + c % 64) ∷ []
+unfolding encode
+encode_four c l = rw (le-ltb c 128 (omega arith), le-ltb c 2048 (omega arith), le-ltb c 65536 l) refl
+
+Walk-over : (at : ℕ) (s t : State) (xs ys : List ℕ) (es : List Event) → ys ≡ xs → Walk at s xs es t → Walk at s ys es t
+Walk-over at s t xs ys es e w = record { state = ap (state_from at s) e ∙ w.state; events = ap (λ x. told (marks_from at s x)) e ∙ w.events }
+
+-- a character from U+0080 on
+pub far : (at : ℕ) (s : State) (m : Mode) (r : Bool) (c : ℕ) → IsPlain m → utf8.scalar c ≡ true → 128 ≤ c → Far at s m r c
+far at s m r c plain ok l =
+    let small : c < 1114112 = ⊎_elim (λ k. omega arith) (λ k. omega arith) (scalar_cases c ok) in
+    elim (cases_lt c 2048) [
+      | inl h ↦ record {
+        p = partial_of at 0x80 0xbf (rest.One (c / 64));
+        place = at + 1;
+        begins = refl;
+        walk = Walk-over at _ _ _ _ _ (encode_two c l h) (far_two at s m r c plain ok l h);
+      }
+      | inr h ↦ elim (cases_lt c 65536) [
+        | inl k ↦
+            let f = from_three at c h k ok in
+            record {
+              p = partial_of f.p.lead 0x80 0xbf (rest.One (c / 64));
+              place = at + 1 + 1;
+              begins = f.lead;
+              walk = Walk-over at _ _ _ _ _ (encode_three c h k) (far_three at s m r c f plain ok h k);
+            }
+        | inr k ↦
+            let f = from_four at c k small in
+            record {
+              p = partial_of f.p.lead 0x80 0xbf (rest.One (c / 64));
+              place = at + 1 + 1 + 1;
+              begins = f.lead;
+              walk = Walk-over at _ _ _ _ _ (encode_four c k) (far_four at s m r c f plain ok k small);
+            }
+      ]
+    ]

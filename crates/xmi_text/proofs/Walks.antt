@@ -1,5 +1,5 @@
 -- Stepping over bytes: the state behind them and the events of the marks that they complete.
-use Rattle.std.proofs.Common.{◌≡◌, ℕ, ◌+◌, List, [], ◌∷◌, ◌++◌, length, refl, ◌∙◌, ap, ap₂}
+use Rattle.std.proofs.Common.{◌≡◌, ℕ, ◌+◌, List, [], ◌∷◌, ◌++◌, length, refl, ◌∙◌, ap, ap₂, append-nil}
 use Rattle.xmi_text.specs.States.{complete, cleared}
 use Rattle.xmi_text.specs.Automaton.{step}
 use Rattle.xmi_text.specs.Reading.{state_from, marks_from}
@@ -42,3 +42,14 @@ Walk-append at s t u xs ys es fs v w = record {
       ∙ ap (λ q. told (marks_from at s xs) ++ told (marks_from (at + length xs) q ys)) v.state
       ∙ ap₂ (λ (x y : List Event). x ++ y) v.events w.events;
 }
+
+-- one byte
+pub Walk-last : (at : ℕ) (s t : State) (b : ℕ) → step s at b ≡ t → Walk at s (b ∷ []) (told (complete t)) (cleared t)
+Walk-last at s t b e = record {
+  state = ap cleared e;
+  events = ap (λ q. told (complete q ++ [])) e ∙ ap told (append-nil (complete t));
+}
+
+-- the same walk, said otherwise
+pub Walk-to : (at : ℕ) (s t u : State) (bytes : List ℕ) (es fs : List Event) → t ≡ u → es ≡ fs → Walk at s bytes es t → Walk at s bytes fs u
+Walk-to at s t u bytes es fs e f w = record { state = w.state ∙ e; events = w.events ∙ f }
