@@ -45,10 +45,10 @@ plain_step s at b (EndName l n) p = absurd p
 plain_step s at b Start p = refl
 plain_step s at b _ p = refl
 
-if_true : {A : Type 0} (b : Bool) (x y : A) → b ≡ true → (if b then x else y) ≡ x
+pub if_true : {A : Type 0} (b : Bool) (x y : A) → b ≡ true → (if b then x else y) ≡ x
 if_true b x y e = ap (λ t. if t then x else y) e
 
-if_false : {A : Type 0} (b : Bool) (x y : A) → b ≡ false → (if b then x else y) ≡ y
+pub if_false : {A : Type 0} (b : Bool) (x y : A) → b ≡ false → (if b then x else y) ≡ y
 if_false b x y e = ap (λ t. if t then x else y) e
 
 pub within_from : (low high b : ℕ) → low ≤ b → b ≤ high → within low high b ≡ true
@@ -282,7 +282,7 @@ encode_four : (c : ℕ) → 65536 ≤ c → encode c ≡ (240 + c / 262144) ∷ 
 unfolding encode
 encode_four c l = rw (le-ltb c 128 (omega arith), le-ltb c 2048 (omega arith), le-ltb c 65536 l) refl
 
-Walk-over : (at : ℕ) (s t : State) (xs ys : List ℕ) (es : List Event) → ys ≡ xs → Walk at s xs es t → Walk at s ys es t
+pub Walk-over : (at : ℕ) (s t : State) (xs ys : List ℕ) (es : List Event) → ys ≡ xs → Walk at s xs es t → Walk at s ys es t
 Walk-over at s t xs ys es e w = record { state = ap (state_from at s) e ∙ w.state; events = ap (λ x. told (marks_from at s x)) e ∙ w.events }
 
 -- a character from U+0080 on

@@ -4,3 +4,6 @@ pub mod Literals
 pub mod Staying
 pub mod Walks
 pub mod Encoded
+pub mod Stepping
+pub mod NameSteps
+pub mod Asides
