@@ -101,7 +101,7 @@ from_two lead c l h =
     if_true (within 0xc2 0xdf (192 + c / 64)) _ _ (within_from 0xc2 0xdf (192 + c / 64) (omega arith) (omega arith))
     ∙ ap (λ n. opened lead 0x80 0xbf (rest.One n)) (digits_low (c / 64) (omega arith))
 
-is_scalar : (c : ℕ) → utf8.scalar c ≡ true → scalar c ≡ Some c
+pub is_scalar : (c : ℕ) → utf8.scalar c ≡ true → scalar c ≡ Some c
 is_scalar c e = if_true _ (Some c) None (or_cond (nat_lt c 0xd800) (nat_le 0xe000 c && nat_lt c 0x110000) ∙ e)
   where
     or_cond : (x y : Bool) → (x || y) ≡ cond x true y

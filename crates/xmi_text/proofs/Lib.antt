@@ -7,3 +7,4 @@ pub mod Encoded
 pub mod Stepping
 pub mod NameSteps
 pub mod Asides
+pub mod ValueSteps

@@ -161,23 +161,29 @@ target_naming = record {
 
 -- ## blanks
 
-pub blank_run : (from to : Mode) → ((at c : ℕ) (s : State) → is_blank c ≡ true → Walk at (at_mode s from false) (encode c) [] (at_mode s to false)) → ((at c : ℕ) (s : State) → is_blank c ≡ true → Walk at (at_mode s to false) (encode c) [] (at_mode s to false)) → (at : ℕ) (s : State) (c : ℕ) (cs : List ℕ) → list_all is_blank (c ∷ cs) ≡ true → Walk at (at_mode s from false) (encodes (c ∷ cs)) [] (at_mode s to false)
-blank_run from to f g at s c [] e =
-    let p = and_parts (is_blank c) true e in
-    Walk-append at _ _ _ (encode c) [] [] [] (f at c s p.0) (Walk-none (at + length (encode c)) (at_mode s to false))
-blank_run from to f g at s c (d ∷ cs) e =
-    let p = and_parts (is_blank c) (list_all is_blank (d ∷ cs)) e in
-    Walk-append at _ _ _ (encode c) (encodes (d ∷ cs)) [] [] (f at c s p.0) (blank_run to to g g (at + length (encode c)) s d cs p.1)
-
 -- one blank
-pub blank_step : (from to : Mode) → IsPlain from → ((at : ℕ) (s : State) (r : Bool) → ascii (at_mode s from r) from at 32 ≡ at_mode s to false) → ((at : ℕ) (s : State) (r : Bool) → ascii (at_mode s from r) from at 9 ≡ at_mode s to false) → ((at : ℕ) (s : State) (r : Bool) → ascii (at_mode s from r) from at 10 ≡ at_mode s to false) → ((at : ℕ) (s : State) (r : Bool) → ascii (at_mode s from r) from at 13 ≡ at_mode s to false) → (at c : ℕ) (s : State) (r : Bool) → is_blank c ≡ true → Walk at (at_mode s from r) (encode c) [] (at_mode s to false)
-blank_step from to plain space tab feed return at c s r e = elim (blank_cases c e) [
-  | inl x ↦ subst (λ q. Walk at (at_mode s from r) (encode q) [] (at_mode s to false)) (sym x) (quiet at s from r 32 s to false plain refl (λ h. space at s r) (λ h p last b. absurd (omega arith)))
-  | inr k ↦ elim k [
-    | inl x ↦ subst (λ q. Walk at (at_mode s from r) (encode q) [] (at_mode s to false)) (sym x) (quiet at s from r 9 s to false plain refl (λ h. tab at s r) (λ h p last b. absurd (omega arith)))
-    | inr l ↦ elim l [
-      | inl x ↦ subst (λ q. Walk at (at_mode s from r) (encode q) [] (at_mode s to false)) (sym x) (quiet at s from r 10 s to false plain refl (λ h. feed at s r) (λ h p last b. absurd (omega arith)))
-      | inr x ↦ subst (λ q. Walk at (at_mode s from r) (encode q) [] (at_mode s to false)) (sym x) (quiet at s from r 13 s to false plain refl (λ h. return at s r) (λ h p last b. absurd (omega arith)))
+pub blank_step : (s : State) (from to : Mode) (r : Bool) → IsPlain from → ((at : ℕ) → ascii (at_mode s from r) from at 32 ≡ at_mode s to false) → ((at : ℕ) → ascii (at_mode s from r) from at 9 ≡ at_mode s to false) → ((at : ℕ) → ascii (at_mode s from r) from at 10 ≡ at_mode s to false) → ((at : ℕ) → ascii (at_mode s from r) from at 13 ≡ at_mode s to false) → (at c : ℕ) → is_blank c ≡ true → Walk at (at_mode s from r) (encode c) [] (at_mode s to false)
+blank_step s from to r plain space tab feed return at c e =
+    let one : (d : ℕ) → c ≡ d → utf8.scalar d ≡ true → d < 128 → ascii (at_mode s from r) from at d ≡ at_mode s to false → Walk at (at_mode s from r) (encode c) [] (at_mode s to false) = λ d x ok l f.
+    subst (λ q. Walk at (at_mode s from r) (encode q) [] (at_mode s to false)) (sym x) (quiet at s from r d s to false plain ok (λ h. f) (λ h p last b. absurd (omega arith))) in
+    elim (blank_cases c e) [
+      | inl x ↦ one 32 x refl (omega arith) (space at)
+      | inr k ↦ elim k [
+        | inl x ↦ one 9 x refl (omega arith) (tab at)
+        | inr l ↦ elim l [ inl x ↦ one 10 x refl (omega arith) (feed at) | inr x ↦ one 13 x refl (omega arith) (return at) ]
+      ]
     ]
-  ]
-]
+
+-- blanks, the first of which leads to where they go on
+pub blank_run : (s : State) (from to : Mode) (r : Bool) → ((at c : ℕ) → is_blank c ≡ true → Walk at (at_mode s from r) (encode c) [] (at_mode s to false)) → ((at c : ℕ) → is_blank c ≡ true → Walk at (at_mode s to false) (encode c) [] (at_mode s to false)) → (at c : ℕ) (cs : List ℕ) → list_all is_blank (c ∷ cs) ≡ true → Walk at (at_mode s from r) (encodes (c ∷ cs)) [] (at_mode s to false)
+blank_run s from to r f g at c [] e =
+    let p = and_parts (is_blank c) true e in
+    Walk-append at _ _ _ (encode c) [] [] [] (f at c p.0) (Walk-none (at + length (encode c)) (at_mode s to false))
+blank_run s from to r f g at c (d ∷ cs) e =
+    let p = and_parts (is_blank c) (list_all is_blank (d ∷ cs)) e in
+    Walk-append at _ _ _ (encode c) (encodes (d ∷ cs)) [] [] (f at c p.0) (blank_run s to to false g g (at + length (encode c)) d cs p.1)
+
+-- blanks in a place where they leave nothing
+pub blanks_run : (s : State) (to : Mode) → ((at c : ℕ) → is_blank c ≡ true → Walk at (at_mode s to false) (encode c) [] (at_mode s to false)) → (at : ℕ) (cs : List ℕ) → list_all is_blank cs ≡ true → Walk at (at_mode s to false) (encodes cs) [] (at_mode s to false)
+blanks_run s to g at [] e = Walk-none at (at_mode s to false)
+blanks_run s to g at (c ∷ cs) e = blank_run s to to false g g at c cs e
