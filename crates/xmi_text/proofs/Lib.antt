@@ -8,3 +8,4 @@ pub mod Stepping
 pub mod NameSteps
 pub mod Asides
 pub mod ValueSteps
+pub mod TagSteps
