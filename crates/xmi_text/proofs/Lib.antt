@@ -9,3 +9,4 @@ pub mod NameSteps
 pub mod Asides
 pub mod ValueSteps
 pub mod TagSteps
+pub mod Spelled

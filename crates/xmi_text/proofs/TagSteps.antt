@@ -231,11 +231,10 @@ attributes_walk at s place names (a ∷ attributes) n ok e =
 -- ## start tags
 
 -- an element may begin
-pub Admits : State → Type 0
+abbrev pub Admits : State → Type 0
 Admits s = ((is_inside s ≡ true) × (nat_lt (length s.elements) 256 ≡ true)) ⊎ ((is_inside s ≡ false) × (s.rooted ≡ false))
 
 admitted_element : (s : State) (place at c : ℕ) → Admits s → steps.begin_element s place at c ≡ states.begin_tag s place c
-unfolding Admits
 admitted_element s place at c a = elim a [
   | inl x ↦ if_true (is_inside s) _ _ x.0 ∙ if_true (nat_lt (length s.elements) 256) _ _ x.1
   | inr x ↦ if_false (is_inside s) _ _ x.0 ∙ if_false s.rooted _ _ x.1
@@ -251,7 +250,6 @@ begins_other : (c d : ℕ) → begins_name c ≡ true → begins_name d ≡ fals
 begins_other c d e f = other c d (λ x. true≢false (sym (subst (λ q. begins_name q ≡ true) x e) ∙ f))
 
 less_low : (s : State) (place at c : ℕ) → Admits s → begins_name c ≡ true → ascii (at_mode s (modes.Less place) false) (modes.Less place) at c ≡ states.begin_tag (at_mode s (modes.Less place) false) place c
-unfolding Admits
 less_low s place at c a e =
     if_false (c == 33) _ _ (begins_other c 33 e refl)
     ∙ if_false (c == 63) _ _ (begins_other c 63 e refl)
@@ -260,14 +258,12 @@ less_low s place at c a e =
     ∙ admitted_element (at_mode s (modes.Less place) false) place at c a
 
 less_high : (s : State) (place : ℕ) (p : Partial) (last c : ℕ) → Admits s → is_unstorable c ≡ false → behind_whole s (modes.Less place) false p last c ≡ states.begin_tag (at_mode s (modes.Less place) false) place c
-unfolding Admits
 less_high s place p last c a f =
     let t : State = within_character s (modes.Less place) false p in
     ap whole_of (if_false (is_unstorable c) (unstorable t (modes.Less place) p.lead last) (steps.begin_element t place p.lead c) f)
     ∙ ap whole_of (admitted_element t place p.lead c a)
 
 first_of_tag : (at place : ℕ) (s : State) (run : List ℕ) (c : ℕ) → utf8.scalar c ≡ true → (begins_name c || is_far c) ≡ true → Admits s → Walk at (at_mode (record s { run = run }) (modes.Less place) false) (encode c) (say run []) (at_mode (tag_begun s place (c ∷ [])) (modes.TagName false) false)
-unfolding Admits
 first_of_tag at place s [] c ok e a =
     let s1 : State = record s { run = [] } in
     one_character at s1 (modes.Less place) false c (states.begin_tag (at_mode s1 (modes.Less place) false) place c) tt ok
@@ -296,7 +292,7 @@ pub record Tagged (at place : ℕ) (s : State) (run : List ℕ) (tag : Tag) : Ty
   pub pairs : map pair_of attrs ≡ map pair tag.attributes
   pub walk : Walk at (at_mode (record s { run = run }) (modes.Less place) false) (encodes (tag_text tag)) (say run []) (at_mode (record s { run = []; tag = tag.name; tag_at = place; attrs = attrs; attr = last; rooted = true }) (mode_at behind) false)
 
-tag_walk : (at place : ℕ) (s : State) (run : List ℕ) (tag : Tag) → scalars (tag_text tag) ≡ true → IsTag tag → Admits s → Tagged at place s run tag
+pub tag_walk : (at place : ℕ) (s : State) (run : List ℕ) (tag : Tag) → scalars (tag_text tag) ≡ true → IsTag tag → Admits s → Tagged at place s run tag
 tag_walk at place s run tag ok e a =
     let o = scalars-parts tag.name (attributes_text tag.attributes ++ tag.blanks) ok in
     let q = scalars-parts (attributes_text tag.attributes) tag.blanks o.1 in
@@ -321,7 +317,7 @@ tag_walk at place s run tag ok e a =
 abbrev pub opened : State → ℕ → State
 opened s at = record s { elements = s.elements ++ s.tag ∷ []; run_at = at + 1; tag = []; attrs = [] }
 
-open_end : (at : ℕ) (s : State) (place : Place) → Walk at (at_mode s (mode_at place) false) (encode 62) (Opens s.tag (map pair_of s.attrs) ∷ []) (at_mode (opened s at) modes.Inside false)
+pub open_end : (at : ℕ) (s : State) (place : Place) → Walk at (at_mode s (mode_at place) false) (encode 62) (Opens s.tag (map pair_of s.attrs) ∷ []) (at_mode (opened s at) modes.Inside false)
 open_end at s (Name k) = one_character at s (modes.TagName k) false 62 (states.open_tag (at_mode s (modes.TagName k) false) at) tt refl (λ l. refl) (λ l p last b. absurd (omega arith))
 open_end at s Quoted = one_character at s modes.AfterValue false 62 (states.open_tag (at_mode s modes.AfterValue false) at) tt refl (λ l. refl) (λ l p last b. absurd (omega arith))
 open_end at s Blank = one_character at s modes.Tag false 62 (states.open_tag (at_mode s modes.Tag false) at) tt refl (λ l. refl) (λ l p last b. absurd (omega arith))
@@ -330,12 +326,12 @@ open_end at s Blank = one_character at s modes.Tag false 62 (states.open_tag (at
 abbrev pub emptied_tag : State → ℕ → State
 emptied_tag s at = record s { run_at = at + 1; tag = []; attrs = [] }
 
-slash_walk : (at : ℕ) (s : State) (place : Place) → Walk at (at_mode s (mode_at place) false) (encode 47) [] (at_mode s modes.Slash false)
+pub slash_walk : (at : ℕ) (s : State) (place : Place) → Walk at (at_mode s (mode_at place) false) (encode 47) [] (at_mode s modes.Slash false)
 slash_walk at s (Name k) = quiet at s (modes.TagName k) false 47 s modes.Slash false tt refl (λ l. refl) (λ l p last b. absurd (omega arith))
 slash_walk at s Quoted = quiet at s modes.AfterValue false 47 s modes.Slash false tt refl (λ l. refl) (λ l p last b. absurd (omega arith))
 slash_walk at s Blank = quiet at s modes.Tag false 47 s modes.Slash false tt refl (λ l. refl) (λ l p last b. absurd (omega arith))
 
-empty_end : (at : ℕ) (s : State) → Walk at (at_mode s modes.Slash false) (encode 62) (Opens s.tag (map pair_of s.attrs) ∷ Closes ∷ []) (at_mode (emptied_tag s at) (around s) false)
+pub empty_end : (at : ℕ) (s : State) → Walk at (at_mode s modes.Slash false) (encode 62) (Opens s.tag (map pair_of s.attrs) ∷ Closes ∷ []) (at_mode (emptied_tag s at) (around s) false)
 empty_end at s = one_character at s modes.Slash false 62 (states.empty_tag (at_mode s modes.Slash false) at) tt refl (λ l. refl) (λ l p last b. absurd (omega arith))
 
 -- ## end tags
@@ -349,7 +345,7 @@ slash_first at place s (x ∷ run) e =
     let s1 : State = record s { run = x ∷ run } in
     one_character at s1 (modes.Less place) false 47 (states.begin_end (at_mode s1 (modes.Less place) false) place) tt refl (λ l. if_true (is_inside s) _ _ e) (λ l p last b. absurd (omega arith))
 
-get_seam : {A : Type 0} (xs : List A) (y : A) (ys : List A) → slice_get (xs ++ y ∷ ys) (length xs) ≡ Some y
+pub get_seam : {A : Type 0} (xs : List A) (y : A) (ys : List A) → slice_get (xs ++ y ∷ ys) (length xs) ≡ Some y
 get_seam [] y ys = refl
 get_seam (x ∷ xs) y ys = get_seam xs y ys
 
