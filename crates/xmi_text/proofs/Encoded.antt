@@ -1,10 +1,10 @@
 -- The bytes of a character from U+0080 on are stepped over as one character.
-use Rattle.std.proofs.Common.{◌≡◌, ℕ, ◌+◌, ◌-◌, ◌*◌, ◌/◌, ◌%◌, ◌≤◌, ◌<◌, Bool, true, false, List, [], ◌∷◌, ◌++◌, refl, sym, ◌∙◌, ap, arith, cond, Option, None, Some, inl, inr, ⊎_elim}
+use Rattle.std.proofs.Common.{◌≡◌, ℕ, ◌+◌, ◌*◌, ◌/◌, ◌%◌, ◌≤◌, ◌<◌, Bool, true, false, List, [], ◌∷◌, refl, sym, ◌∙◌, ap, arith, cond, None, Some, inl, inr, ⊎_elim}
 use Rattle.std.specs.Prelude.{◌==◌, ◌||◌, ◌&&◌, not, nat_lt, nat_le, if◌then◌else◌}
-use Rattle.std.proofs.lemmas.Bool.{cases_lt, cases_eq, or_from, lt-ltb, le-ltb, le-leb, lt-leb, eq-eqb, ne_eqb}
+use Rattle.std.proofs.lemmas.Bool.{cases_lt, cases_eq, or_from, lt-ltb, le-ltb, le-leb, lt-leb, ne_eqb}
 use lib.Utf8.{encode, scalar_cases}
 use lib.Utf8 as utf8
-use Rattle.xmi_text.specs.ByteClass.{within, holds_in_name, continues_name}
+use Rattle.xmi_text.specs.ByteClass.{within, holds_in_name}
 use Rattle.xmi_text.specs.AttrNames.{has_name}
 use Rattle.xmi_text.specs.UtfEight.{begun, extended, added, opened, scalar, found}
 use Rattle.xmi_text.specs.States.{complete, cleared}
@@ -19,7 +19,7 @@ use Rattle.xmi_text.specs.declared.state.State.{State}
 use Rattle.xmi_text.specs.declared.state.Mode.{Mode}
 use Rattle.xmi_text.specs.declared.state.Mode.TheVariants.{Failed, Reference, Doctype, EndName, AttrName, Start}
 use Rattle.xmi_text.specs.declared.state.Ready.TheVariants.{Nothing}
-use Rattle.xmi_text.proofs.Walks.{Walk, Walk-none, Walk-step, Walk-last}
+use Rattle.xmi_text.proofs.Walks.{Walk, Walk-step, Walk-last}
 
 -- a state between two characters, with no mark that waits
 abbrev pub at_mode : State → Mode → Bool → State

@@ -10,3 +10,5 @@ pub mod Asides
 pub mod ValueSteps
 pub mod TagSteps
 pub mod Spelled
+pub mod EventTrees
+pub mod Written

@@ -10,3 +10,4 @@ pub mod Names
 pub mod Writing
 pub mod Trees
 pub mod Markup
+pub mod Calls
