@@ -1,5 +1,6 @@
 ghost use Rattle.std.specs.Prelude.{◌≡◌, ℕ, List, ◌++◌, Some};
 ghost use Rattle.xmi_text.specs.Reading.{marks_of, fault_of};
+ghost use Rattle.xmi_text.specs.Markup.{Markup};
 ghost use Rattle.xmi_text.specs.Trees.{Tree, Spells};
 ghost use Rattle.xmi_text.specs.declared.error.TextFault.{TextFault};
 ghost use Rattle.xmi_text.specs.declared.mark.Mark.{Mark};
@@ -19,4 +20,9 @@ pub fn faults_stay()
 /// Bytes spell one tree at most.
 pub fn one_tree()
     ensures { (bytes : List ℕ) (first second : Tree) → Spells bytes first → Spells bytes second → first ≡ second }
+{}
+
+/// The bytes of a document are read without a fault, and as the document's tree.
+pub fn documents_are_read()
+    ensures { (bytes : List ℕ) (tree : Tree) → Markup bytes tree → Spells bytes tree }
 {}
