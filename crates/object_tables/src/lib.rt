@@ -8,8 +8,9 @@
 //! Costs: `class_of`, `id_of`, `by_id`, `is_live`, `len` and `end` are constant; `attr`, `set_attr` and `partners` take what is
 //! given or returned; `linked`, `link` and `unlink` the smaller of the numbers of partners of the two ends; `set_order` the
 //! number of partners; `add` and `container` the number of properties of the object's class; `delete` that and the links of the
-//! object; `depth` what `container` takes for each container above; `duplicate` the places, values and links of all objects.
-//! What takes memory is amortised.
+//! object; `depth` what `container` takes for each container above; `duplicate` the places, values and links of all objects;
+//! `validity` constant time for each property of each object, and for cycles one `container` for each object where containers
+//! come before what they contain, at worst the square. What takes memory is amortised.
 //! An object takes one place for each property of its class and two more, some fifty bytes each besides the values; a
 //! deleted one keeps them.
 #![tactic(auto)]
