@@ -13,7 +13,7 @@ use Rattle.object_tables.specs.Tied.{near, far_among, nameless, IsTied}
 use Rattle.object_tables.specs.Kept.{Kept}
 use Rattle.object_tables.specs.Places.{IsPlaceOf}
 use Rattle.object_tables.proofs.ListLemmas.{Contains-map, Contains-from_map}
-use Rattle.object_tables.proofs.ModelLemmas.{seen, class_seen, placed_seen, partners_seen, live_class, live_from_class, same_class, class_of_rows, has_seen, near-within, index-within, index-found}
+use Rattle.object_tables.proofs.ModelLemmas.{seen, class_seen, placed_seen, partners_seen, live_class, same_class, class_of_rows, has_seen, near-within, index-within, index-found}
 use Rattle.object_tables.proofs.MetaLemmas.{prop_known}
 use Rattle.object_tables.proofs.InheritLemmas.{pair_of_opposites}
 use Rattle.object_tables.proofs.DistinctLemmas.{property_place}
@@ -180,9 +180,6 @@ nameless_none meta rows number live o a p v t both e k none alone h =
 
 pub container_reference : (m : ModelData) (o a p : ℕ) → Kept m → IsContainedIn m o a p → IsReferenceOf m a p
 container_reference m o a p k h = linked_reference m p a o (sound_of m k) h.linked
-
-pub container_live : (m : ModelData) (o a p : ℕ) → Kept m → IsContainedIn m o a p → IsLive m a
-container_live m o a p k h = let r = container_reference m o a p k h in live_from_class m a r.class r.class_is
 
 pub top_from_both : (m : ModelData) (o : ℕ) → ((a p : ℕ) → opposite_of m.meta p ≡ None → IsContainedIn m o a p → ⊥) → ((a p q : ℕ) → opposite_of m.meta p ≡ Some q → IsContainedIn m o a p → ⊥) → IsTop m o
 top_from_both m o alone paired a p h = by_opposite (opposite_of m.meta p) refl where
