@@ -7,6 +7,10 @@ pub mod MetaLemmas
 pub mod EditLemmas
 pub mod AddLemmas
 pub mod DeleteLemmas
+pub mod SamenessLemmas
+pub mod CopyLemmas
+pub mod OrderLemmas
+pub mod ReorderLemmas
 pub mod InheritLemmas
 pub mod SlotLemmas
 pub mod KeptLemmas

@@ -6,6 +6,8 @@ pub mod Models
 pub mod Tied
 pub mod AddFaults
 pub mod Ids
+pub mod Sameness
+pub mod Orders
 pub mod Kept
 pub mod Whole
 pub mod Places

@@ -6,7 +6,9 @@ ghost use Rattle.object_tables.specs.Models.{object_at, IsLive, class_at, id_at,
 
 mod changes;
 mod containment;
+mod copies;
 mod links;
+mod orders;
 
 use crate::partners::Partners;
 use crate::places::{far_place, near_place};

@@ -5,6 +5,10 @@ ghost use Rattle.object_tables.specs.Flat.{end_at, entry_at, home_at, address, f
 ghost use Rattle.object_tables.specs.Lists.{update_at};
 ghost use Rattle.object_tables.specs.Rows.{row_at, place_at, joined_at, with_place, with_joined, with_last, without_address, without_join, with_values, fresh_row, cleared_place, cleared_upto, unnamed, IsRanged, IsMutual};
 
+mod copies;
+mod orders;
+
+use crate::tables::orders::need_marks;
 use crate::value::Value;
 use link_arena::{Arena, Others};
 use mof_metamodel::{Seq, Text};
@@ -41,6 +45,10 @@ pub(crate) struct Tables {
     entries: Vec<Entry>,
     homes: Vec<Home>,
     arena: Arena,
+    /// For each object room for an end.
+    marks: Vec<u32>,
+    /// Room for as many ends as there are objects.
+    order: Vec<u32>,
     alloc: Global,
 }
 
@@ -50,11 +58,13 @@ impl Model for Tables {
 
     ghost Value = { List Row };
 
+    ghost use Rattle.std.specs.Prelude.{length, ◌≤◌};
+    ghost use Rattle.std.specs.Vec.{vec_capacity};
     ghost use Rattle.object_tables.specs.Flat.{rows_of, IsFlat};
 
     ghost view = { λ t. rows_of t.entries.items t.homes.items t.arena };
 
-    ghost invariant = { λ t. IsFlat t.entries.items t.homes.items t.arena };
+    ghost invariant = { λ t. IsFlat t.entries.items t.homes.items t.arena × (length t.entries.items ≤ length t.marks.items) × (length t.entries.items ≤ vec_capacity t.order) };
 }
 
 impl Tables {
@@ -66,6 +76,8 @@ impl Tables {
             entries: Vec::new(alloc),
             homes: Vec::new(alloc),
             arena: Arena::new(alloc),
+            marks: Vec::new(alloc),
+            order: Vec::new(alloc),
             alloc,
         }
     }
@@ -148,6 +160,10 @@ impl Tables {
         if self.homes.reserve(count as usize).is_err() {
             return Err(named);
         }
+        let objects = self.entries.len() + 1;
+        let Ok(()) = need_marks(&mut self.marks, &mut self.order, objects) else {
+            return Err(named);
+        };
         match self.arena.add_ends(count) {
             Ok(()) => {
                 push_homes(&mut self.homes, self.alloc, object, count);

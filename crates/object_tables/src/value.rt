@@ -1,4 +1,7 @@
-use mof_metamodel::{EnumId, Text};
+ghost use Rattle.std.specs.Prelude.{◌≡◌, IfOk};
+
+use mof_metamodel::{EnumId, NoMemory, Text};
+use std::alloc::Global;
 
 /// The number of an object. Numbers are given out from 0 in the order in which objects are added, and none is used again.
 #[derive(Clone, Copy, Debug, PartialEq, Eq, PartialOrd, Ord, Hash)]
@@ -12,4 +15,18 @@ pub enum Value {
     Bool(bool),
     /// A literal of an enumeration, by its place there, from 0.
     Lit(EnumId, u32),
+}
+
+impl Value {
+    /// Another value that is equal.
+    pub fn duplicate(&self, alloc: Global) -> Result<Value, NoMemory>
+        ensures { IfOk result (λ copy. copy ≡ self.now) }
+    {
+        match self {
+            Value::Str(text) => Ok(Value::Str(text.duplicate(alloc)?)),
+            Value::Int(number) => Ok(Value::Int(*number)),
+            Value::Bool(bool) => Ok(Value::Bool(*bool)),
+            Value::Lit(of, place) => Ok(Value::Lit(*of, *place)),
+        }
+    }
 }

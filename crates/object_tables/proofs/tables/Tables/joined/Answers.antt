@@ -4,14 +4,14 @@ use Rattle.object_tables.proofs.FlatLemmas.{spot_of, end_small, end_placed, join
 use Rattle.object_tables.proofs.tables.Tables.joined.Goals as goal
 
 pub end_of-end-requires-clause-small : goal.end_of-end-requires-clause-small
-end_of-end-requires-clause-small c = rw c.deref.ensures.value (end_small _ _ _ _ _ c.self.invariant (spot_of _ _ _ _ _ _ c.self.view_is c.requires.object c.requires.place))
+end_of-end-requires-clause-small c = rw c.deref.ensures.value (end_small _ _ _ _ _ c.self.invariant.0 (spot_of _ _ _ _ _ _ c.self.view_is c.requires.object c.requires.place))
 
 pub others-requires : goal.others-requires
-others-requires c = rw (c.end_of-end.ensures, c.deref.ensures.value, c.self.invariant.ends) (end_placed _ _ _ _ _ c.self.invariant (spot_of _ _ _ _ _ _ c.self.view_is c.requires.object c.requires.place))
+others-requires c = rw (c.end_of-end.ensures, c.deref.ensures.value, c.self.invariant.0.ends) (end_placed _ _ _ _ _ c.self.invariant.0 (spot_of _ _ _ _ _ _ c.self.view_is c.requires.object c.requires.place))
 
 pub invariant_of-result : goal.invariant_of-result
 invariant_of-result c =
-    rw c.as_slice.ensures.value (others_all c.self.inside.homes.items c.self.inside.arena c.others.result c.end_of-end.result c.self.invariant.ends c.others.ensures.simple c.others.ensures.list)
+    rw c.as_slice.ensures.value (others_all c.self.inside.homes.items c.self.inside.arena c.others.result c.end_of-end.result c.self.invariant.0.ends c.others.ensures.simple c.others.ensures.list)
 
 pub returns : goal.returns
 returns c =

@@ -3,6 +3,6 @@ use Rattle.object_tables.proofs.tables.Tables.look.Goals as goal
 
 pub returns : goal.returns
 returns c = record {
-  ranged = ranged_seen _ _ _ _ c.self.invariant c.end_count.ensures.simple c.self.view_is;
-  both = mutual_seen _ _ _ _ c.self.invariant c.end_count.ensures.simple c.self.view_is;
+  ranged = ranged_seen _ _ _ _ c.self.invariant.0 c.end_count.ensures.simple c.self.view_is;
+  both = mutual_seen _ _ _ _ c.self.invariant.0 c.end_count.ensures.simple c.self.view_is;
 }
