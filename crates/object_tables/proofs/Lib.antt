@@ -19,3 +19,6 @@ pub mod KeptObjects
 pub mod WholeLemmas
 pub mod DistinctLemmas
 pub mod ContainerLemmas
+pub mod ContainmentLemmas
+pub mod BreachLemmas
+pub mod ClassOrderLemmas

@@ -11,3 +11,5 @@ pub mod Orders
 pub mod Kept
 pub mod Whole
 pub mod Places
+pub mod Containment
+pub mod Validity

@@ -13,6 +13,7 @@
 //! deleted one keeps them.
 #![tactic(auto)]
 
+mod breach;
 mod fault;
 mod limit;
 mod model;
@@ -21,6 +22,7 @@ mod places;
 mod tables;
 mod value;
 
+pub use breach::{Breach, BreachKind};
 pub use fault::AddFault;
 pub use limit::LimitKind;
 pub use model::Model;

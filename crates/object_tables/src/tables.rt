@@ -198,6 +198,16 @@ impl Tables {
         count_of(&self.entries, o)
     }
 
+    /// How many places a place is joined to. In constant time.
+    pub(crate) fn degree(&self, o: u32, k: u32) -> usize
+        requires object { o < length self.now }
+        requires place { k < length (row_at self.now o).places }
+        ensures { result ≡ length (joined_at self.now o k) }
+    {
+        let end = end_of(&self.entries, o, k);
+        self.arena.degree(end)
+    }
+
     /// Parts all places of an object from all others, and drops their values. It takes no memory. What a place was joined to
     /// was a place.
     pub(crate) fn clear(&mut self, o: u32)
