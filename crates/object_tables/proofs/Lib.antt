@@ -21,4 +21,3 @@ pub mod DistinctLemmas
 pub mod ContainerLemmas
 pub mod ContainmentLemmas
 pub mod BreachLemmas
-pub mod ClassOrderLemmas

@@ -7,8 +7,10 @@ ghost use Rattle.object_tables.specs.Models.{object_at, IsLive, class_at, id_at,
 mod changes;
 mod containment;
 mod copies;
+mod depths;
 mod links;
 mod orders;
+mod validity;
 
 use crate::partners::Partners;
 use crate::places::{far_place, near_place};

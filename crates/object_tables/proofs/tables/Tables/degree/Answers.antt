@@ -5,10 +5,10 @@ use Rattle.object_tables.proofs.FlatLemmas.{spot_of, end_small, end_placed, join
 use Rattle.object_tables.proofs.tables.Tables.degree.Goals as goal
 
 pub end_of-end-requires-clause-small : goal.end_of-end-requires-clause-small
-end_of-end-requires-clause-small c = rw c.deref.ensures.value (end_small _ _ _ _ _ c.self.invariant (spot_of _ _ _ _ _ _ c.self.view_is c.requires.object c.requires.place))
+end_of-end-requires-clause-small c = rw c.deref.ensures.value (end_small _ _ _ _ _ c.self.invariant.0 (spot_of _ _ _ _ _ _ c.self.view_is c.requires.object c.requires.place))
 
 pub degree-requires : goal.degree-requires
-degree-requires c = rw (c.end_of-end.ensures, c.deref.ensures.value, c.self.invariant.ends) (end_placed _ _ _ _ _ c.self.invariant (spot_of _ _ _ _ _ _ c.self.view_is c.requires.object c.requires.place))
+degree-requires c = rw (c.end_of-end.ensures, c.deref.ensures.value, c.self.invariant.0.ends) (end_placed _ _ _ _ _ c.self.invariant.0 (spot_of _ _ _ _ _ _ c.self.view_is c.requires.object c.requires.place))
 
 pub returns : goal.returns
 returns c =

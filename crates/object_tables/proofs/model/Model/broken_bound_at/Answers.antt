@@ -1,0 +1,5 @@
+use Rattle.object_tables.proofs.ContainerLemmas.{place_known}
+use Rattle.object_tables.proofs.model.Model.broken_bound_at.Goals as goal
+
+pub bounds-lower-requires : goal.bounds-lower-requires
+bounds-lower-requires c = place_known _ _ _ _ _ _ c.self.view_is c.requires
