@@ -10,6 +10,6 @@ pub mod Sameness
 pub mod Orders
 pub mod Kept
 pub mod Whole
+pub mod Places
 pub mod Containment
 pub mod Validity
-pub mod Places

@@ -1,0 +1,3 @@
+mod ListLemmas
+mod FreeLemmas
+mod OrderLemmas

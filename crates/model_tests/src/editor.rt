@@ -1,0 +1,105 @@
+use crate::conditions::{are_values_of, attribute_type, is_free, is_partner_for, reference_type};
+use crate::rearranged::is_order_of;
+use crate::refusal::Refusal;
+use mof_metamodel::{ClassId, MetaModel, PropId, Seq, Text, is_identifier};
+use object_tables::{Model, ObjId, Value};
+use std::alloc::Global;
+
+/// A model whose edits test by the reading calls what they ask of their caller, and are refused where it doesn't hold.
+#[derive(Drop)]
+pub struct Editor<'m> {
+    model: Model<'m>,
+    alloc: Global,
+}
+
+impl<'m> Editor<'m> {
+    pub fn new(alloc: Global, meta: &'m MetaModel) -> Editor<'m> {
+        Editor::of(alloc, Model::new(alloc, meta))
+    }
+
+    /// An editor of a model.
+    pub fn of(alloc: Global, model: Model<'m>) -> Editor<'m> {
+        Editor { model, alloc }
+    }
+
+    pub fn model(&self) -> &Model<'m> {
+        &self.model
+    }
+
+    pub fn add(&mut self, class: ClassId, id: Text) -> Result<ObjId, Refusal> {
+        if class.0 >= self.model.meta().class_count() {
+            return Err(Refusal::NoClass);
+        }
+        if !is_identifier(id.as_str()) {
+            return Err(Refusal::BadIdentifier);
+        }
+        match self.model.add(class, id) {
+            Ok(o) => Ok(o),
+            Err(fault) => Err(Refusal::Fault(fault)),
+        }
+    }
+
+    pub fn set(&mut self, o: ObjId, p: PropId, values: Seq<Value>) -> Result<(), Refusal> {
+        let Some(ty) = attribute_type(&self.model, o, p) else {
+            return Err(Refusal::NoProperty);
+        };
+        if !are_values_of(self.model.meta(), p, ty, values.as_slice()) {
+            return Err(Refusal::WrongValues);
+        }
+        self.model.set_attr(o, p, values);
+        Ok(())
+    }
+
+    pub fn link(&mut self, p: PropId, a: ObjId, b: ObjId) -> Result<(), Refusal> {
+        let Some(class) = reference_type(&self.model, a, p) else {
+            return Err(Refusal::NoProperty);
+        };
+        if !self.model.is_live(b) {
+            return Err(Refusal::NoObject);
+        }
+        if !is_partner_for(&self.model, p, class, b) {
+            return Err(Refusal::WrongType);
+        }
+        if self.model.linked(p, a, b) {
+            return Err(Refusal::Linked);
+        }
+        if !is_free(&self.model, p, a, b) {
+            return Err(Refusal::Contained);
+        }
+        self.model.link(p, a, b)?;
+        Ok(())
+    }
+
+    pub fn unlink(&mut self, p: PropId, a: ObjId, b: ObjId) -> Result<(), Refusal> {
+        if reference_type(&self.model, a, p).is_none() {
+            return Err(Refusal::NoProperty);
+        }
+        if !self.model.is_live(b) {
+            return Err(Refusal::NoObject);
+        }
+        if !self.model.linked(p, a, b) {
+            return Err(Refusal::NotLinked);
+        }
+        self.model.unlink(p, a, b);
+        Ok(())
+    }
+
+    pub fn order(&mut self, p: PropId, a: ObjId, order: &[ObjId]) -> Result<(), Refusal> {
+        if reference_type(&self.model, a, p).is_none() {
+            return Err(Refusal::NoProperty);
+        }
+        if !is_order_of(self.alloc, &self.model, p, a, order)? {
+            return Err(Refusal::WrongOrder);
+        }
+        self.model.set_order(p, a, order);
+        Ok(())
+    }
+
+    pub fn delete(&mut self, o: ObjId) -> Result<(), Refusal> {
+        if !self.model.is_live(o) {
+            return Err(Refusal::NoObject);
+        }
+        self.model.delete(o);
+        Ok(())
+    }
+}
