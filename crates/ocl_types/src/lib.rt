@@ -1,0 +1,17 @@
+//! Types of expressions (OCL 2.4, chapters 9 and 11): the metamodels of a script, the names in reach, and what they
+//! give to the expressions that use them.
+#![tactic(auto)]
+
+mod env;
+mod fault;
+mod metas;
+mod name_map;
+mod of_types;
+#[cfg(test)]
+mod tests;
+mod variable;
+
+pub use env::Env;
+pub use fault::{TypeError, TypeFault};
+pub use metas::Metas;
+pub use variable::{Signature, Variable};

@@ -1,0 +1,138 @@
+use crate::env::Env;
+use crate::metas::Metas;
+use mof_metamodel::{
+    ClassDesc, ClassId, EnumDesc, EnumId, MetaDesc, MetaModel, NoMemory, Seq, Text,
+};
+use qv_syntax::{ModelSlot, Ty};
+use std::alloc::Global;
+use std::process::Abort;
+use std::test::Fail;
+
+fn text(alloc: Global, s: &str) -> Result<Text, NoMemory> {
+    Text::new(alloc, s)
+}
+
+/// A class without properties.
+fn class(alloc: Global, name: &str) -> Result<ClassDesc, NoMemory> {
+    Ok(ClassDesc {
+        name: text(alloc, name)?,
+        is_abstract: false,
+        supers: Seq::new(alloc),
+        props: Seq::new(alloc),
+    })
+}
+
+/// A metamodel with these classes and an enumeration.
+pub(crate) fn meta(
+    rt: &impl Abort,
+    alloc: Global,
+    name: &str,
+    classes: &[&str],
+    enumeration: &str,
+) -> Result<MetaModel, Fail> {
+    let mut descs = Seq::new(alloc);
+    for c in classes {
+        descs.push(class(alloc, c)?)?;
+    }
+    let mut literals = Seq::new(alloc);
+    literals.push(text(alloc, "one")?)?;
+    let mut enums = Seq::new(alloc);
+    enums.push(EnumDesc {
+        name: text(alloc, enumeration)?,
+        literals,
+    })?;
+    let desc = MetaDesc {
+        name: text(alloc, name)?,
+        classes: descs,
+        enums,
+    };
+    Ok(MetaModel::new(alloc, desc).expect(rt, "a metamodel"))
+}
+
+/// The metamodels `M` with the classes `A` and `B` and `N` with `B` and `C`, each with an enumeration.
+pub(crate) fn two_metas(rt: &impl Abort, alloc: Global) -> Result<Metas, Fail> {
+    let mut metas = Metas::new(alloc);
+    metas.push(meta(rt, alloc, "M", &["A", "B"], "E")?)?;
+    metas.push(meta(rt, alloc, "N", &["B", "C"], "F")?)?;
+    Ok(metas)
+}
+
+#[test]
+fn metamodels_stand_where_they_were_pushed(rt: HostRuntime) -> Result<(), Fail> {
+    let metas = two_metas(&rt, rt.alloc())?;
+    assert_eq!(rt; metas.len(), 2);
+    assert!(rt; metas.get(0).name() == "M");
+    assert!(rt; metas.get(1).name() == "N");
+    assert!(rt; metas.get(1).class_named("C") == Some(ClassId(1)));
+    Ok(())
+}
+
+#[test]
+fn names_are_bound(rt: HostRuntime) -> Result<(), Fail> {
+    let alloc = rt.alloc();
+    let metas = two_metas(&rt, alloc)?;
+    let mut names = Seq::new(alloc);
+    names.push(text(alloc, "M")?)?;
+    names.push(text(alloc, "N")?)?;
+    let mut models = Seq::new(alloc);
+    models.push(ModelSlot {
+        name: text(alloc, "m")?,
+        meta: 0,
+    })?;
+    models.push(ModelSlot {
+        name: text(alloc, "n")?,
+        meta: 1,
+    })?;
+    let mut env = Env::over(alloc, &metas, names, models);
+    let x = text(alloc, "x")?;
+    let a = Ty::Class(0, ClassId(1));
+    assert!(rt; !env.is_bound(&x));
+    assert!(rt; env.is_type(&Ty::Enum(1, EnumId(0))));
+    assert!(rt; !env.is_type(&Ty::Enum(1, EnumId(1))));
+    assert!(rt; !env.is_type(&Ty::Class(2, ClassId(0))));
+    assert!(rt; !env.is_type(&Ty::Null));
+    assert!(rt; env.is_object_type(&a, 0));
+    assert!(rt; !env.is_object_type(&a, 1));
+    assert!(rt; !env.is_object_type(&Ty::Int, 0));
+    env.bind(x, Ty::Int)?;
+    let y = text(alloc, "y")?;
+    assert!(rt; !env.is_bound(&y));
+    assert!(rt; env.is_object_type(&a, 0));
+    env.bind_object(y, a, 0)?;
+    let y = text(alloc, "y")?;
+    match env.variable(&y) {
+        Some((number, variable)) => {
+            assert_eq!(rt; number, 1);
+            assert_eq!(rt; variable.model, Some(0));
+            assert!(rt; variable.ty.same(&Ty::Class(0, ClassId(1))));
+        }
+        None => assert!(rt; false),
+    }
+    assert!(rt; env.is_bound(&text(alloc, "x")?));
+    assert!(rt; !env.is_bound(&text(alloc, "z")?));
+    Ok(())
+}
+
+#[test]
+fn queries_are_bound(rt: HostRuntime) -> Result<(), Fail> {
+    let alloc = rt.alloc();
+    let mut env = Env::new(alloc);
+    let mut params = Seq::new(alloc);
+    params.push(Ty::Str)?;
+    params.push(Ty::Bool)?;
+    let name = text(alloc, "q")?;
+    assert!(rt; !env.is_query(&name));
+    assert!(rt; env.are_types(params.as_slice()));
+    assert!(rt; env.is_type(&Ty::Int));
+    env.bind_query(name, params, Ty::Int)?;
+    match env.query(&text(alloc, "q")?) {
+        Some((number, signature)) => {
+            assert_eq!(rt; number, 0);
+            assert_eq!(rt; signature.params.len(), 2);
+            assert!(rt; signature.result.same(&Ty::Int));
+        }
+        None => assert!(rt; false),
+    }
+    assert!(rt; !env.is_bound(&text(alloc, "q")?));
+    Ok(())
+}
