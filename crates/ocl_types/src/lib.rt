@@ -2,8 +2,10 @@
 //! give to the expressions that use them.
 #![tactic(auto)]
 
+mod classifier;
 mod env;
 mod fault;
+mod look_up;
 mod metas;
 mod name_map;
 mod of_types;
@@ -11,6 +13,7 @@ mod of_types;
 mod tests;
 mod variable;
 
+pub use classifier::Classifier;
 pub use env::Env;
 pub use fault::{TypeError, TypeFault};
 pub use metas::Metas;

@@ -1,0 +1,120 @@
+ghost use Rattle.std.specs.Prelude.{◌≡◌, ◌<◌, ◌≤◌, length, chars, option_copied};
+ghost use Rattle.std.specs.Option.{option_map, option_to_list};
+ghost use Rattle.ocl_types.specs.Environments.{most};
+ghost use Rattle.ocl_types.specs.Classifiers.{class_in as class_meant, enum_in as enum_meant, is_meant as meant, classifiers_in, classifiers_from, classifier_type};
+ghost use Rattle.ocl_types.specs.Finding.{next_found, with_found, one_of};
+
+use crate::classifier::{Classifier, Found};
+use mof_metamodel::{MetaModel, Text};
+use qv_syntax::Ty;
+
+impl Found {
+    /// What is found with one more.
+    fn next(self, c: Classifier) -> Found
+        ensures { result ≡ next_found self c }
+    {
+        match self {
+            Found::Nothing => Found::One(c),
+            Found::One(_) => Found::Several,
+            Found::Several => Found::Several,
+        }
+    }
+
+    /// What is found with one more, if there is one.
+    fn with(self, more: Option<Classifier>) -> Found
+        ensures { result ≡ with_found self (option_to_list more) }
+    {
+        match more {
+            Some(c) => self.next(c),
+            None => self,
+        }
+    }
+
+    /// The classifier that is found alone.
+    pub(crate) fn one(self) -> Option<Classifier>
+        ensures { result ≡ one_of self }
+    {
+        match self {
+            Found::One(c) => Some(c),
+            _ => None,
+        }
+    }
+}
+
+/// The class of this name.
+fn class_in(m: u32, meta: &MetaModel, name: &str) -> Option<Classifier>
+    ensures { result ≡ class_meant m meta.now (chars name.now) }
+{
+    match meta.class_named(name) {
+        Some(c) => Some(Classifier::Class(m, c)),
+        None => None,
+    }
+}
+
+/// The enumeration of this name.
+fn enum_in(m: u32, meta: &MetaModel, name: &str) -> Option<Classifier>
+    ensures { result ≡ enum_meant m meta.now (chars name.now) }
+{
+    match meta.enum_named(name) {
+        Some(e) => Some(Classifier::Enum(m, e)),
+        None => None,
+    }
+}
+
+/// Whether the metamodel of a number is meant: no name of a metamodel is written, or its own.
+fn is_meant(names: &[Text], qualifier: Option<&Text>, m: usize) -> bool
+    requires { m < length names.now }
+    ensures { result ≡ meant names.now (option_copied qualifier.entry) m }
+{
+    match qualifier {
+        Some(q) => *q == names[m],
+        None => true,
+    }
+}
+
+/// What is found with the class and the enumeration of a name in a metamodel, if that is meant.
+fn find_in(
+    found: Found,
+    names: &[Text],
+    qualifier: Option<&Text>,
+    name: &str,
+    m: u32,
+    meta: &MetaModel,
+) -> Found
+    requires { m < length names.now }
+    ensures { result ≡ with_found found (classifiers_in names.now (option_copied qualifier.entry) (chars name.now) m meta.now) }
+{
+    if !is_meant(names, qualifier, m as usize) {
+        return found;
+    }
+    let with_class = found.with(class_in(m, meta, name));
+    with_class.with(enum_in(m, meta, name))
+}
+
+/// The classes and enumerations of a name in the metamodels that are meant.
+pub(crate) fn find(
+    metas: &[MetaModel],
+    names: &[Text],
+    qualifier: Option<&Text>,
+    name: &str,
+) -> Found
+    requires few { length metas.now ≤ most }
+    requires named { length names.now ≡ length metas.now }
+    ensures { result ≡ with_found Found.Nothing (classifiers_from 0 metas.now names.now (option_copied qualifier.entry) (chars name.now)) }
+{
+    let mut found = Found::Nothing;
+    for (m, meta) in metas.iter().enumerate() {
+        found = find_in(found, names, qualifier, name, m as u32, meta);
+    }
+    found
+}
+
+/// The type that a classifier is.
+pub(crate) fn type_of(classifier: Classifier) -> Ty
+    ensures { result ≡ classifier_type classifier }
+{
+    match classifier {
+        Classifier::Class(m, c) => Ty::Class(m, c),
+        Classifier::Enum(m, e) => Ty::Enum(m, e),
+    }
+}
