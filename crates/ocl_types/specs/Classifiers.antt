@@ -32,15 +32,12 @@ classifiers_from m [] names qualifier name = []
 classifiers_from m (meta ∷ metas) names qualifier name =
     classifiers_in names qualifier name m meta ++ classifiers_from (m + 1) metas names qualifier name
 
-abbrev pub classifiers : Environment → Option (List ℕ) → List ℕ → List Classifier
-classifiers env qualifier name = classifiers_from 0 env.metas env.names qualifier name
-
 -- those that a path names: `C` in all metamodels, `M::C` in those of the name M
-abbrev pub path_classifiers : Environment → List (List ℕ) → List Classifier
-path_classifiers env (c ∷ []) = classifiers env None c
-path_classifiers env (m ∷ c ∷ []) = classifiers env (Some m) c
-path_classifiers env [] = []
-path_classifiers env (a ∷ b ∷ c ∷ names) = []
+unfoldable pub path_classifiers : List MetaDesc → List (List ℕ) → List (List ℕ) → List Classifier
+path_classifiers metas names [] = []
+path_classifiers metas names (c ∷ []) = classifiers_from 0 metas names None c
+path_classifiers metas names (m ∷ c ∷ []) = classifiers_from 0 metas names (Some m) c
+path_classifiers metas names (a ∷ b ∷ c ∷ more) = []
 
 -- the one item of a list that has one
 abbrev pub only : {X : Type 0} → List X → Option X
@@ -54,4 +51,4 @@ classifier_type (Enum m e) = types.Enum m e
 
 -- the type that a path names: a class or an enumeration, if it names one alone
 abbrev pub named_type : Environment → List (List ℕ) → Option Ty
-named_type env names = option_map classifier_type (only (path_classifiers env names))
+named_type env names = option_map classifier_type (only (path_classifiers env.metas env.names names))

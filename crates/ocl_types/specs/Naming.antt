@@ -1,5 +1,7 @@
 -- How types are printed, and how a path is.
 use Rattle.std.specs.Prelude.{ℕ, List, [], ◌∷◌, ◌++◌, codes, map}
+use Rattle.std.specs.List.{flat_map}
+use Rattle.qv_syntax.specs.declared.name.Name.{Name}
 use Rattle.mof_metamodel.specs.declared.desc.MetaDesc.{MetaDesc}
 use Rattle.mof_metamodel.specs.Metamodels.{class_at, enum_at}
 use Rattle.qv_syntax.specs.declared.ty.Ty.{Ty, fold-Ty}
@@ -28,14 +30,20 @@ type_text_step metas of.Null = codes "Null"
 abbrev pub type_text : List MetaDesc → Ty → List ℕ
 type_text metas = fold-Ty (List ℕ) (type_text_step metas)
 
+-- names, each behind `::`
+abbrev pub behind_colons : List (List ℕ) → List ℕ
+behind_colons names = flat_map (λ name. codes "::" ++ name) names
+
 -- names with `::` between them
 abbrev pub joined_names : List (List ℕ) → List ℕ
 joined_names [] = []
-joined_names (name ∷ []) = name
-joined_names (name ∷ names) = name ++ codes "::" ++ joined_names names
+joined_names (name ∷ names) = name ++ behind_colons names
+
+abbrev pub texts_of : List Name → List (List ℕ)
+texts_of names = map (λ n. n.text) names
 
 abbrev pub names_of : Path → List (List ℕ)
-names_of path = map (λ n. n.text) path.names
+names_of path = texts_of path.names
 
 abbrev pub path_text : Path → List ℕ
 path_text path = joined_names (names_of path)

@@ -31,8 +31,8 @@ written_step env (of.Named path) = found_type (names_of path) (named_type env (n
 written_step env (of.Coll kind inner span) = collection_of kind inner
 
 -- the type that is written, or the fault: a path that doesn't name one class or enumeration alone
-abbrev pub written_type : Environment → TypeTree → Result Ty TypeFault
-written_type env = fold-TypeTree (Result Ty TypeFault) (written_step env)
+abbrev pub written : Environment → TypeTree → Result Ty TypeFault
+written env = fold-TypeTree (Result Ty TypeFault) (written_step env)
 
 -- the error is the fault that stands, unless memory ran out
 abbrev pub Fails : {X : Type 0} → TypeError → Result X TypeFault → Type 0

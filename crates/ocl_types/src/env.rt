@@ -1,12 +1,13 @@
 ghost use Rattle.std.specs.Prelude.{◌≡◌, ◌<◌, [], length, false, IfSome, IsTrue, None, Some, OnOk, OnErr};
 ghost use Rattle.std.specs.Option.{option_map};
 
+use crate::look_up::{find_path, type_of};
 use crate::metas::Metas;
 use crate::name_map::NameMap;
 use crate::of_types::{are_types, class_of, is_type};
 use crate::variable::{Signature, Variable};
 use mof_metamodel::{MetaModel, NoMemory, Seq, Text};
-use qv_syntax::{ModelSlot, Ty};
+use qv_syntax::{ModelSlot, Path, Ty};
 use std::alloc::Global;
 use std::marker::Model;
 
@@ -39,6 +40,8 @@ impl<'a> Model for Env<'a> {
 }
 
 impl<'a> Env<'a> {
+    ghost use Rattle.ocl_types.specs.Naming.{names_of};
+    ghost use Rattle.ocl_types.specs.Classifiers.{named_type as type_named};
     ghost use Rattle.ocl_types.specs.Environments.{nothing_in_reach, have_metas, is_type as typed, is_object_type as object_typed, are_types as all_typed, is_variable, is_bound as bound, is_query_bound as query_bound, with_variable, with_query, number_of, value_of};
 
     /// Nothing in reach, and no metamodels.
@@ -104,6 +107,18 @@ impl<'a> Env<'a> {
     {
         let (number, signature) = self.queries.find(name)?;
         Some((number as u32, signature))
+    }
+
+    /// The type that a path names: the class or the enumeration, if it names one alone.
+    #[tactic(auto, using(crate::proofs::FindLaws::one_found))]
+    pub fn named_type(&self, path: &Path) -> Option<Ty>
+        ensures { result ≡ type_named self.now (names_of path.now) }
+    {
+        let found = find_path(self.metas, self.names.as_slice(), path.names.as_slice());
+        match found.one() {
+            Some(classifier) => Some(type_of(classifier)),
+            None => None,
+        }
     }
 
     /// Whether a variable may have the type.

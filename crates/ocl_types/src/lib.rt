@@ -8,13 +8,17 @@ mod fault;
 mod look_up;
 mod metas;
 mod name_map;
+mod naming;
 mod of_types;
 #[cfg(test)]
 mod tests;
 mod variable;
+mod written;
 
 pub use classifier::Classifier;
 pub use env::Env;
 pub use fault::{TypeError, TypeFault};
 pub use metas::Metas;
+pub use naming::{path_text, type_text};
 pub use variable::{Signature, Variable};
+pub use written::written_type;

@@ -1,12 +1,13 @@
 ghost use Rattle.std.specs.Prelude.{◌≡◌, ◌<◌, ◌≤◌, length, chars, option_copied};
 ghost use Rattle.std.specs.Option.{option_map, option_to_list};
 ghost use Rattle.ocl_types.specs.Environments.{most};
-ghost use Rattle.ocl_types.specs.Classifiers.{class_in as class_meant, enum_in as enum_meant, is_meant as meant, classifiers_in, classifiers_from, classifier_type};
+ghost use Rattle.ocl_types.specs.Naming.{texts_of};
+ghost use Rattle.ocl_types.specs.Classifiers.{class_in as class_meant, enum_in as enum_meant, is_meant as meant, classifiers_in, classifiers_from, path_classifiers, classifier_type};
 ghost use Rattle.ocl_types.specs.Finding.{next_found, with_found, one_of};
 
 use crate::classifier::{Classifier, Found};
 use mof_metamodel::{MetaModel, Text};
-use qv_syntax::Ty;
+use qv_syntax::{Name, Ty};
 
 impl Found {
     /// What is found with one more.
@@ -107,6 +108,20 @@ pub(crate) fn find(
         found = find_in(found, names, qualifier, name, m as u32, meta);
     }
     found
+}
+
+/// The classes and enumerations that a path names: `C` in all metamodels, `M::C` in those of the name `M`.
+#[tactic(auto, unfolding(crate::specs::Classifiers::path_classifiers))]
+pub(crate) fn find_path(metas: &[MetaModel], meta_names: &[Text], path: &[Name]) -> Found
+    requires few { length metas.now ≤ most }
+    requires named { length meta_names.now ≡ length metas.now }
+    ensures { result ≡ with_found Found.Nothing (path_classifiers metas.now meta_names.now (texts_of path.now)) }
+{
+    match path {
+        [c] => find(metas, meta_names, None, c.text.as_str()),
+        [m, c] => find(metas, meta_names, Some(&m.text), c.text.as_str()),
+        _ => Found::Nothing,
+    }
 }
 
 /// The type that a classifier is.

@@ -1,9 +1,12 @@
 use crate::env::Env;
+use crate::fault::{TypeError, TypeFault};
 use crate::metas::Metas;
+use crate::naming::type_text;
+use crate::written::written_type;
 use mof_metamodel::{
-    ClassDesc, ClassId, EnumDesc, EnumId, MetaDesc, MetaModel, NoMemory, Seq, Text,
+    Boxed, ClassDesc, ClassId, EnumDesc, EnumId, MetaDesc, MetaModel, NoMemory, Seq, Span, Text,
 };
-use qv_syntax::{ModelSlot, Ty};
+use qv_syntax::{Kind, ModelSlot, Name, Path, Ty, TypeTree};
 use std::alloc::Global;
 use std::process::Abort;
 use std::test::Fail;
@@ -134,5 +137,64 @@ fn queries_are_bound(rt: HostRuntime) -> Result<(), Fail> {
         None => assert!(rt; false),
     }
     assert!(rt; !env.is_bound(&text(alloc, "q")?));
+    Ok(())
+}
+
+/// A path of these names.
+pub(crate) fn path(alloc: Global, names: &[&str]) -> Result<Path, NoMemory> {
+    let span = Span { start: 0, end: 0 };
+    let mut parts = Seq::new(alloc);
+    for name in names {
+        parts.push(Name {
+            text: text(alloc, name)?,
+            span,
+        })?;
+    }
+    Ok(Path { names: parts, span })
+}
+
+#[test]
+fn written_types(rt: HostRuntime) -> Result<(), Fail> {
+    let alloc = rt.alloc();
+    let metas = two_metas(&rt, alloc)?;
+    let mut names = Seq::new(alloc);
+    names.push(text(alloc, "M")?)?;
+    names.push(text(alloc, "N")?)?;
+    assert_eq!(rt; metas.len(), 2);
+    assert_eq!(rt; names.len(), 2);
+    let env = Env::over(alloc, &metas, names, Seq::new(alloc));
+    let cases: [(&[&str], &str); 7] = [
+        (&["A"], "A"),
+        (&["B"], "?B"),
+        (&["N", "B"], "B"),
+        (&["F"], "F"),
+        (&["M", "C"], "?M::C"),
+        (&["X"], "?X"),
+        (&["M", "E", "one"], "?M::E::one"),
+    ];
+    for (names, wanted) in cases {
+        let tree = TypeTree::Coll {
+            kind: Kind::Bag,
+            of: Boxed::new(
+                alloc,
+                TypeTree::Named {
+                    path: path(alloc, names)?,
+                },
+            )?,
+            span: Span { start: 0, end: 0 },
+        };
+        let found = match written_type(alloc, &env, &tree) {
+            Ok(ty) => {
+                assert!(rt; env.is_type(&ty));
+                format!(in alloc; "{}", type_text(alloc, &metas, &ty)?.as_str())?
+            }
+            Err(TypeError::Fault(TypeFault::UnknownName(name))) => {
+                format!(in alloc; "?{}", name.as_str())?
+            }
+            Err(_) => String::from_str(alloc, "!")?,
+        };
+        let bag = format!(in alloc; "Bag({wanted})")?;
+        assert!(rt; found.as_str() == wanted || found.as_str() == bag.as_str());
+    }
     Ok(())
 }
