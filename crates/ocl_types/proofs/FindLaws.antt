@@ -7,6 +7,7 @@ use Rattle.mof_metamodel.specs.declared.desc.MetaDesc.{MetaDesc}
 use Rattle.ocl_types.specs.declared.classifier.Classifier.{Classifier}
 use Rattle.ocl_types.specs.declared.classifier.Found.{Found}
 use Rattle.ocl_types.specs.declared.classifier.Found.TheVariants.{Nothing, One, Several}
+use Rattle.ocl_types.specs.declared.classifier.Wanted.{Wanted}
 use Rattle.ocl_types.specs.Classifiers.{class_in, enum_in, classifiers_in, classifiers_from, only}
 use Rattle.ocl_types.specs.Finding.{next_found, with_found, one_of}
 
@@ -20,29 +21,29 @@ one_found [] = refl
 one_found (c ∷ []) = refl
 one_found (c ∷ d ∷ cs) = ap one_of (several_found cs)
 
-module _ (names : List (List ℕ)) (qualifier : Option (List ℕ)) (name : List ℕ) where
+module _ (wanted : Wanted) (names : List (List ℕ)) (qualifier : Option (List ℕ)) (name : List ℕ) where
   pub classifiers-step : (metas : List MetaDesc) (m : ℕ) (d : MetaDesc) → m < length metas
-      → classifiers_from m (drop m metas) names qualifier name
-      ≡ classifiers_in names qualifier name m (get_or metas m d) ++ classifiers_from (m + 1) (drop (m + 1) metas) names qualifier name
+      → classifiers_from wanted m (drop m metas) names qualifier name
+      ≡ classifiers_in wanted names qualifier name m (get_or metas m d) ++ classifiers_from wanted (m + 1) (drop (m + 1) metas) names qualifier name
   unfolding classifiers_from
-  classifiers-step metas m d within = ap (λ ds. classifiers_from m ds names qualifier name) (drop_more metas m d within)
+  classifiers-step metas m d within = ap (λ ds. classifiers_from wanted m ds names qualifier name) (drop_more metas m d within)
 
-  pub classifiers-end : (metas : List MetaDesc) (m : ℕ) → length metas ≤ m → classifiers_from m (drop m metas) names qualifier name ≡ []
+  pub classifiers-end : (metas : List MetaDesc) (m : ℕ) → length metas ≤ m → classifiers_from wanted m (drop m metas) names qualifier name ≡ []
   unfolding classifiers_from
-  classifiers-end metas m end = ap (λ ds. classifiers_from m ds names qualifier name) (drop_all m metas end)
+  classifiers-end metas m end = ap (λ ds. classifiers_from wanted m ds names qualifier name) (drop_all m metas end)
 
   -- one more metamodel
   pub found-step : (found next : Found) (metas : List MetaDesc) (m : ℕ) (meta : MetaDesc) → m < length metas → meta ≡ get_or metas m meta
-      → next ≡ with_found found (classifiers_in names qualifier name m meta)
-      → with_found next (classifiers_from (m + 1) (drop (m + 1) metas) names qualifier name)
-      ≡ with_found found (classifiers_from m (drop m metas) names qualifier name)
+      → next ≡ with_found found (classifiers_in wanted names qualifier name m meta)
+      → with_found next (classifiers_from wanted (m + 1) (drop (m + 1) metas) names qualifier name)
+      ≡ with_found found (classifiers_from wanted m (drop m metas) names qualifier name)
   found-step found next metas m meta within is grown =
-      let rest : List Classifier = classifiers_from (m + 1) (drop (m + 1) metas) names qualifier name in
+      let rest : List Classifier = classifiers_from wanted (m + 1) (drop (m + 1) metas) names qualifier name in
       ap (λ f. with_found f rest) grown
-      ∙ sym (fold-append next_found found (classifiers_in names qualifier name m meta) rest)
-      ∙ ap (λ d. with_found found (classifiers_in names qualifier name m d ++ rest)) is
+      ∙ sym (fold-append next_found found (classifiers_in wanted names qualifier name m meta) rest)
+      ∙ ap (λ d. with_found found (classifiers_in wanted names qualifier name m d ++ rest)) is
       ∙ sym (ap (with_found found) (classifiers-step metas m meta within))
 
   pub found-end : (found whole : Found) (metas : List MetaDesc) (m : ℕ) → length metas ≤ m
-      → with_found found (classifiers_from m (drop m metas) names qualifier name) ≡ whole → found ≡ whole
+      → with_found found (classifiers_from wanted m (drop m metas) names qualifier name) ≡ whole → found ≡ whole
   found-end found whole metas m end is = sym (ap (with_found found) (classifiers-end metas m end)) ∙ is

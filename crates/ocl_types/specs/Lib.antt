@@ -3,3 +3,5 @@ pub mod Naming
 pub mod Classifiers
 pub mod Written
 pub mod Finding
+pub mod Conformance
+pub mod Navigation

@@ -14,3 +14,11 @@ pub(crate) enum Found {
     One(Classifier),
     Several,
 }
+
+/// Which classifiers a name may name.
+#[derive(Clone, Copy, Debug, PartialEq, Eq)]
+pub(crate) enum Wanted {
+    Types,
+    Classes,
+    Enums,
+}

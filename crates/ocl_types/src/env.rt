@@ -1,12 +1,13 @@
 ghost use Rattle.std.specs.Prelude.{◌≡◌, ◌<◌, [], length, false, IfSome, IsTrue, None, Some, OnOk, OnErr};
 ghost use Rattle.std.specs.Option.{option_map};
 
+use crate::classifier::{Classifier, Wanted};
 use crate::look_up::{find_path, type_of};
 use crate::metas::Metas;
 use crate::name_map::NameMap;
 use crate::of_types::{are_types, class_of, is_type};
 use crate::variable::{Signature, Variable};
-use mof_metamodel::{MetaModel, NoMemory, Seq, Text};
+use mof_metamodel::{ClassId, MetaModel, NoMemory, Seq, Text};
 use qv_syntax::{ModelSlot, Path, Ty};
 use std::alloc::Global;
 use std::marker::Model;
@@ -41,7 +42,7 @@ impl<'a> Model for Env<'a> {
 
 impl<'a> Env<'a> {
     ghost use Rattle.ocl_types.specs.Naming.{names_of};
-    ghost use Rattle.ocl_types.specs.Classifiers.{named_type as type_named};
+    ghost use Rattle.ocl_types.specs.Classifiers.{named_type as type_named, named_class as class_named};
     ghost use Rattle.ocl_types.specs.Environments.{nothing_in_reach, have_metas, is_type as typed, is_object_type as object_typed, are_types as all_typed, is_variable, is_bound as bound, is_query_bound as query_bound, with_variable, with_query, number_of, value_of};
 
     /// Nothing in reach, and no metamodels.
@@ -114,9 +115,32 @@ impl<'a> Env<'a> {
     pub fn named_type(&self, path: &Path) -> Option<Ty>
         ensures { result ≡ type_named self.now (names_of path.now) }
     {
-        let found = find_path(self.metas, self.names.as_slice(), path.names.as_slice());
+        let found = find_path(
+            Wanted::Types,
+            self.metas,
+            self.names.as_slice(),
+            path.names.as_slice(),
+        );
         match found.one() {
             Some(classifier) => Some(type_of(classifier)),
+            None => None,
+        }
+    }
+
+    /// The class that a path names, with the number of its metamodel, if it names one class alone.
+    #[tactic(auto, using(crate::proofs::FindLaws::one_found))]
+    pub fn named_class(&self, path: &Path) -> Option<(u32, ClassId)>
+        ensures { result ≡ class_named self.now (names_of path.now) }
+    {
+        let found = find_path(
+            Wanted::Classes,
+            self.metas,
+            self.names.as_slice(),
+            path.names.as_slice(),
+        );
+        match found.one() {
+            Some(Classifier::Class(m, c)) => Some((m, c)),
+            Some(Classifier::Enum(_, _)) => None,
             None => None,
         }
     }

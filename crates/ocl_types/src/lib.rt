@@ -3,12 +3,14 @@
 #![tactic(auto)]
 
 mod classifier;
+mod conformance;
 mod env;
 mod fault;
 mod look_up;
 mod metas;
 mod name_map;
 mod naming;
+mod navigation;
 mod of_types;
 #[cfg(test)]
 mod tests;

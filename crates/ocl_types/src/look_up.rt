@@ -2,10 +2,10 @@ ghost use Rattle.std.specs.Prelude.{◌≡◌, ◌<◌, ◌≤◌, length, chars
 ghost use Rattle.std.specs.Option.{option_map, option_to_list};
 ghost use Rattle.ocl_types.specs.Environments.{most};
 ghost use Rattle.ocl_types.specs.Naming.{texts_of};
-ghost use Rattle.ocl_types.specs.Classifiers.{class_in as class_meant, enum_in as enum_meant, is_meant as meant, classifiers_in, classifiers_from, path_classifiers, classifier_type};
+ghost use Rattle.ocl_types.specs.Classifiers.{class_in as class_meant, enum_in as enum_meant, is_meant as meant, classifiers_in, classifiers_from, path_classifiers, wanted_classes, wanted_enums, classifier_type};
 ghost use Rattle.ocl_types.specs.Finding.{next_found, with_found, one_of};
 
-use crate::classifier::{Classifier, Found};
+use crate::classifier::{Classifier, Found, Wanted};
 use mof_metamodel::{MetaModel, Text};
 use qv_syntax::{Name, Ty};
 
@@ -73,9 +73,30 @@ fn is_meant(names: &[Text], qualifier: Option<&Text>, m: usize) -> bool
     }
 }
 
-/// What is found with the class and the enumeration of a name in a metamodel, if that is meant.
+/// The class, where classes are asked for.
+fn wanted_class(wanted: Wanted, m: u32, meta: &MetaModel, name: &str) -> Option<Classifier>
+    ensures { option_to_list result ≡ wanted_classes wanted (class_meant m meta.now (chars name.now)) }
+{
+    match wanted {
+        Wanted::Types | Wanted::Classes => class_in(m, meta, name),
+        Wanted::Enums => None,
+    }
+}
+
+/// The enumeration, where enumerations are asked for.
+fn wanted_enum(wanted: Wanted, m: u32, meta: &MetaModel, name: &str) -> Option<Classifier>
+    ensures { option_to_list result ≡ wanted_enums wanted (enum_meant m meta.now (chars name.now)) }
+{
+    match wanted {
+        Wanted::Types | Wanted::Enums => enum_in(m, meta, name),
+        Wanted::Classes => None,
+    }
+}
+
+/// What is found with those of a name in a metamodel, if that is meant.
 fn find_in(
     found: Found,
+    wanted: Wanted,
     names: &[Text],
     qualifier: Option<&Text>,
     name: &str,
@@ -83,17 +104,18 @@ fn find_in(
     meta: &MetaModel,
 ) -> Found
     requires { m < length names.now }
-    ensures { result ≡ with_found found (classifiers_in names.now (option_copied qualifier.entry) (chars name.now) m meta.now) }
+    ensures { result ≡ with_found found (classifiers_in wanted names.now (option_copied qualifier.entry) (chars name.now) m meta.now) }
 {
     if !is_meant(names, qualifier, m as usize) {
         return found;
     }
-    let with_class = found.with(class_in(m, meta, name));
-    with_class.with(enum_in(m, meta, name))
+    let with_class = found.with(wanted_class(wanted, m, meta, name));
+    with_class.with(wanted_enum(wanted, m, meta, name))
 }
 
-/// The classes and enumerations of a name in the metamodels that are meant.
+/// What is asked for of a name in the metamodels that are meant.
 pub(crate) fn find(
+    wanted: Wanted,
     metas: &[MetaModel],
     names: &[Text],
     qualifier: Option<&Text>,
@@ -101,25 +123,30 @@ pub(crate) fn find(
 ) -> Found
     requires few { length metas.now ≤ most }
     requires named { length names.now ≡ length metas.now }
-    ensures { result ≡ with_found Found.Nothing (classifiers_from 0 metas.now names.now (option_copied qualifier.entry) (chars name.now)) }
+    ensures { result ≡ with_found Found.Nothing (classifiers_from wanted 0 metas.now names.now (option_copied qualifier.entry) (chars name.now)) }
 {
     let mut found = Found::Nothing;
     for (m, meta) in metas.iter().enumerate() {
-        found = find_in(found, names, qualifier, name, m as u32, meta);
+        found = find_in(found, wanted, names, qualifier, name, m as u32, meta);
     }
     found
 }
 
-/// The classes and enumerations that a path names: `C` in all metamodels, `M::C` in those of the name `M`.
+/// What is asked for and named by a path: `C` in all metamodels, `M::C` in those of the name `M`.
 #[tactic(auto, unfolding(crate::specs::Classifiers::path_classifiers))]
-pub(crate) fn find_path(metas: &[MetaModel], meta_names: &[Text], path: &[Name]) -> Found
+pub(crate) fn find_path(
+    wanted: Wanted,
+    metas: &[MetaModel],
+    meta_names: &[Text],
+    path: &[Name],
+) -> Found
     requires few { length metas.now ≤ most }
     requires named { length meta_names.now ≡ length metas.now }
-    ensures { result ≡ with_found Found.Nothing (path_classifiers metas.now meta_names.now (texts_of path.now)) }
+    ensures { result ≡ with_found Found.Nothing (path_classifiers wanted metas.now meta_names.now (texts_of path.now)) }
 {
     match path {
-        [c] => find(metas, meta_names, None, c.text.as_str()),
-        [m, c] => find(metas, meta_names, Some(&m.text), c.text.as_str()),
+        [c] => find(wanted, metas, meta_names, None, c.text.as_str()),
+        [m, c] => find(wanted, metas, meta_names, Some(&m.text), c.text.as_str()),
         _ => Found::Nothing,
     }
 }

@@ -1,6 +1,8 @@
 ghost use Rattle.std.specs.Prelude.{◌≡◌, ◌<◌, ◌≤◌, [], ◌∷◌, ◌++◌, length, OnOk, OnErr};
 
+use crate::of_types::is_over;
 use mof_metamodel::{MetaModel, NoMemory, Seq};
+use qv_syntax::Ty;
 use std::alloc::Global;
 use std::marker::Model;
 
@@ -25,7 +27,7 @@ impl Model for Metas {
 }
 
 impl Metas {
-    ghost use Rattle.ocl_types.specs.Environments.{meta_at, most};
+    ghost use Rattle.ocl_types.specs.Environments.{meta_at, most, is_over as over};
 
     /// No metamodels.
     pub fn new(alloc: Global) -> Metas
@@ -64,6 +66,13 @@ impl Metas {
         ensures { result.now ≡ meta_at self.now i }
     {
         &self.metas.as_slice()[i as usize]
+    }
+
+    /// Whether each class and each enumeration of the type is one of these metamodels.
+    pub fn holds(&self, ty: &Ty) -> bool
+        ensures { result ≡ over self.now ty.now }
+    {
+        is_over(self.metas.as_slice(), ty)
     }
 
     /// The metamodels in their order.

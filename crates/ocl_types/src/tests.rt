@@ -153,6 +153,37 @@ pub(crate) fn path(alloc: Global, names: &[&str]) -> Result<Path, NoMemory> {
     Ok(Path { names: parts, span })
 }
 
+/// The text of the bag of the type that a path names, or `?` and the path where it names none.
+fn shown(
+    rt: &impl Abort,
+    alloc: Global,
+    metas: &Metas,
+    env: &Env<'_>,
+    names: &[&str],
+) -> Result<String, Fail> {
+    let span = Span { start: 0, end: 0 };
+    let named = TypeTree::Named {
+        path: path(alloc, names)?,
+    };
+    let tree = TypeTree::Coll {
+        kind: Kind::Bag,
+        of: Boxed::new(alloc, named)?,
+        span,
+    };
+    match written_type(alloc, env, &tree) {
+        Ok(ty) => {
+            assert!(rt; metas.holds(&ty));
+            Ok(type_text(alloc, metas, &ty)?.into_string())
+        }
+        Err(TypeError::Fault(TypeFault::UnknownName(name))) => {
+            let mut text = text(alloc, "?")?;
+            text.push_str(name.as_str())?;
+            Ok(text.into_string())
+        }
+        Err(_) => Ok(String::from_str(alloc, "!")?),
+    }
+}
+
 #[test]
 fn written_types(rt: HostRuntime) -> Result<(), Fail> {
     let alloc = rt.alloc();
@@ -163,38 +194,11 @@ fn written_types(rt: HostRuntime) -> Result<(), Fail> {
     assert_eq!(rt; metas.len(), 2);
     assert_eq!(rt; names.len(), 2);
     let env = Env::over(alloc, &metas, names, Seq::new(alloc));
-    let cases: [(&[&str], &str); 7] = [
-        (&["A"], "A"),
-        (&["B"], "?B"),
-        (&["N", "B"], "B"),
-        (&["F"], "F"),
-        (&["M", "C"], "?M::C"),
-        (&["X"], "?X"),
-        (&["M", "E", "one"], "?M::E::one"),
-    ];
-    for (names, wanted) in cases {
-        let tree = TypeTree::Coll {
-            kind: Kind::Bag,
-            of: Boxed::new(
-                alloc,
-                TypeTree::Named {
-                    path: path(alloc, names)?,
-                },
-            )?,
-            span: Span { start: 0, end: 0 },
-        };
-        let found = match written_type(alloc, &env, &tree) {
-            Ok(ty) => {
-                assert!(rt; env.is_type(&ty));
-                format!(in alloc; "{}", type_text(alloc, &metas, &ty)?.as_str())?
-            }
-            Err(TypeError::Fault(TypeFault::UnknownName(name))) => {
-                format!(in alloc; "?{}", name.as_str())?
-            }
-            Err(_) => String::from_str(alloc, "!")?,
-        };
-        let bag = format!(in alloc; "Bag({wanted})")?;
-        assert!(rt; found.as_str() == wanted || found.as_str() == bag.as_str());
-    }
+    assert!(rt; shown(&rt, alloc, &metas, &env, &["A"])?.as_str() == "Bag(A)");
+    assert!(rt; shown(&rt, alloc, &metas, &env, &["B"])?.as_str() == "?B");
+    assert!(rt; shown(&rt, alloc, &metas, &env, &["N", "B"])?.as_str() == "Bag(B)");
+    assert!(rt; shown(&rt, alloc, &metas, &env, &["F"])?.as_str() == "Bag(F)");
+    assert!(rt; shown(&rt, alloc, &metas, &env, &["M", "C"])?.as_str() == "?M::C");
+    assert!(rt; shown(&rt, alloc, &metas, &env, &["M", "E", "one"])?.as_str() == "?M::E::one");
     Ok(())
 }

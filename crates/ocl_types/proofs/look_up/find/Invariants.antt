@@ -7,5 +7,5 @@ use Rattle.ocl_types.proofs.look_up.find.Given as goal
 
 abbrev pub invariant-loop-m : goal.invariant-loop-m
 invariant-loop-m l =
-    with_found l.found (classifiers_from l.m (drop l.m l.metas) l.names (option_copied l.qualifier) (chars l.name))
-    ≡ with_found Nothing (classifiers_from 0 l.metas l.names (option_copied l.qualifier) (chars l.name))
+    with_found l.found (classifiers_from l.wanted l.m (drop l.m l.metas) l.names (option_copied l.qualifier) (chars l.name))
+    ≡ with_found Nothing (classifiers_from l.wanted 0 l.metas l.names (option_copied l.qualifier) (chars l.name))
