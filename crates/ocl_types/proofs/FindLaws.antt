@@ -1,14 +1,13 @@
 -- A walk over the metamodels finds what the list of classifiers says.
-use Rattle.std.proofs.Common.{◌≡◌, ℕ, ◌+◌, ◌<◌, ◌≤◌, Bool, true, false, if◌then◌else◌, List, [], ◌∷◌, ◌++◌, Option, Some, None, length, drop, get_or, refl, sym, ◌∙◌, ap, arith}
-use Rattle.std.specs.Option.{option_map, option_to_list}
+use Rattle.std.proofs.Common.{◌≡◌, ℕ, ◌+◌, ◌<◌, ◌≤◌, List, [], ◌∷◌, ◌++◌, Option, length, drop, get_or, refl, sym, ◌∙◌, ap}
 use Rattle.std.proofs.lemmas.List.{drop_more, drop_all}
 use Rattle.std.proofs.lemmas.List.Sums.{fold-append}
 use Rattle.mof_metamodel.specs.declared.desc.MetaDesc.{MetaDesc}
 use Rattle.ocl_types.specs.declared.classifier.Classifier.{Classifier}
 use Rattle.ocl_types.specs.declared.classifier.Found.{Found}
-use Rattle.ocl_types.specs.declared.classifier.Found.TheVariants.{Nothing, One, Several}
+use Rattle.ocl_types.specs.declared.classifier.Found.TheVariants.{Nothing, Several}
 use Rattle.ocl_types.specs.declared.classifier.Wanted.{Wanted}
-use Rattle.ocl_types.specs.Classifiers.{class_in, enum_in, classifiers_in, classifiers_from, only}
+use Rattle.ocl_types.specs.Classifiers.{classifiers_in, classifiers_from, only}
 use Rattle.ocl_types.specs.Finding.{next_found, with_found, one_of}
 
 several_found : (cs : List Classifier) → with_found Several cs ≡ Several

@@ -1,5 +1,5 @@
 -- What the names of a script name: classes and enumerations of its metamodels (OCL 2.4, section 9.4.1).
-use Rattle.std.specs.Prelude.{◌≡◌, ℕ, ◌+◌, Bool, true, if◌then◌else◌, List, [], ◌∷◌, ◌++◌, Option, None, Some, slice_index_or, position}
+use Rattle.std.specs.Prelude.{ℕ, ◌+◌, Bool, true, if◌then◌else◌, List, [], ◌∷◌, ◌++◌, Option, None, Some, slice_index_or, position}
 use Rattle.std.specs.Option.{option_map, option_map_or, option_to_list, option_and_then}
 use Rattle.mof_metamodel.specs.declared.desc.MetaDesc.{MetaDesc}
 use Rattle.mof_metamodel.specs.declared.desc.ClassId.{ClassId}
@@ -77,14 +77,17 @@ abbrev pub named_class : Environment → List (List ℕ) → Option (ℕ × Clas
 named_class env names = option_and_then class_alone (only (path_classifiers Classes env.metas env.names names))
 
 -- the literal of this name, if that is an enumeration which has it: the metamodel, the enumeration and the literal's place
-abbrev pub literal_in : Environment → List ℕ → Classifier → Option (ℕ × EnumId × ℕ)
-literal_in env literal (Class m c) = None
-literal_in env literal (Enum m e) = option_map (λ i. (m, e, i)) (position (same_name literal) (enum_at (meta_at env.metas m) e.0).literals)
+abbrev pub literal_in : List MetaDesc → List ℕ → Classifier → Option (ℕ × EnumId × ℕ)
+literal_in metas literal (Class m c) = None
+literal_in metas literal (Enum m e) = option_map (λ i. (m, e, i)) (position (same_name literal) (enum_at (meta_at metas m) e.0).literals)
 
 -- the literal that a path names: `E::literal` or `M::E::literal`, the enumeration named alone
-unfoldable pub named_literal : Environment → List (List ℕ) → Option (ℕ × EnumId × ℕ)
-named_literal env [] = None
-named_literal env (a ∷ []) = None
-named_literal env (e ∷ literal ∷ []) = option_and_then (literal_in env literal) (only (classifiers_from Enums 0 env.metas env.names None e))
-named_literal env (m ∷ e ∷ literal ∷ []) = option_and_then (literal_in env literal) (only (classifiers_from Enums 0 env.metas env.names (Some m) e))
-named_literal env (a ∷ b ∷ c ∷ d ∷ more) = None
+unfoldable pub path_literal : List MetaDesc → List (List ℕ) → List (List ℕ) → Option (ℕ × EnumId × ℕ)
+path_literal metas names [] = None
+path_literal metas names (a ∷ []) = None
+path_literal metas names (e ∷ literal ∷ []) = option_and_then (literal_in metas literal) (only (classifiers_from Enums 0 metas names None e))
+path_literal metas names (m ∷ e ∷ literal ∷ []) = option_and_then (literal_in metas literal) (only (classifiers_from Enums 0 metas names (Some m) e))
+path_literal metas names (a ∷ b ∷ c ∷ d ∷ more) = None
+
+abbrev pub named_literal : Environment → List (List ℕ) → Option (ℕ × EnumId × ℕ)
+named_literal env names = path_literal env.metas env.names names

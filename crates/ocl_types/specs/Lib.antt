@@ -5,3 +5,5 @@ pub mod Written
 pub mod Finding
 pub mod Conformance
 pub mod Navigation
+pub mod Operations
+pub mod Signatures

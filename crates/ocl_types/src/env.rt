@@ -2,12 +2,13 @@ ghost use Rattle.std.specs.Prelude.{◌≡◌, ◌<◌, [], length, false, IfSom
 ghost use Rattle.std.specs.Option.{option_map};
 
 use crate::classifier::{Classifier, Wanted};
+use crate::literals::find_literal;
 use crate::look_up::{find_path, type_of};
 use crate::metas::Metas;
 use crate::name_map::NameMap;
 use crate::of_types::{are_types, class_of, is_type};
 use crate::variable::{Signature, Variable};
-use mof_metamodel::{ClassId, MetaModel, NoMemory, Seq, Text};
+use mof_metamodel::{ClassId, EnumId, MetaModel, NoMemory, Seq, Text};
 use qv_syntax::{ModelSlot, Path, Ty};
 use std::alloc::Global;
 use std::marker::Model;
@@ -42,7 +43,7 @@ impl<'a> Model for Env<'a> {
 
 impl<'a> Env<'a> {
     ghost use Rattle.ocl_types.specs.Naming.{names_of};
-    ghost use Rattle.ocl_types.specs.Classifiers.{named_type as type_named, named_class as class_named};
+    ghost use Rattle.ocl_types.specs.Classifiers.{named_type as type_named, named_class as class_named, named_literal as literal_named};
     ghost use Rattle.ocl_types.specs.Environments.{nothing_in_reach, have_metas, is_type as typed, is_object_type as object_typed, are_types as all_typed, is_variable, is_bound as bound, is_query_bound as query_bound, with_variable, with_query, number_of, value_of};
 
     /// Nothing in reach, and no metamodels.
@@ -143,6 +144,13 @@ impl<'a> Env<'a> {
             Some(Classifier::Enum(_, _)) => None,
             None => None,
         }
+    }
+
+    /// The literal that a path names, with the number of its metamodel, its enumeration and its place.
+    pub fn named_literal(&self, path: &Path) -> Option<(u32, EnumId, u32)>
+        ensures { result ≡ literal_named self.now (names_of path.now) }
+    {
+        find_literal(self.metas, self.names.as_slice(), path.names.as_slice())
     }
 
     /// Whether a variable may have the type.

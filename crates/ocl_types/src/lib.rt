@@ -6,12 +6,15 @@ mod classifier;
 mod conformance;
 mod env;
 mod fault;
+mod literals;
 mod look_up;
 mod metas;
 mod name_map;
 mod naming;
 mod navigation;
 mod of_types;
+mod operation_names;
+mod signatures;
 #[cfg(test)]
 mod tests;
 mod variable;
@@ -22,5 +25,12 @@ pub use env::Env;
 pub use fault::{TypeError, TypeFault};
 pub use metas::Metas;
 pub use naming::{path_text, type_text};
+pub use operation_names::{
+    class_operation_named, collection_operation_named, iterator_named, operation_named,
+};
+pub use signatures::{
+    Argument, argument_of, collected_kind, collection_result, has_condition, is_of_kind,
+    parameter_count, parameter_type, receives, result_type,
+};
 pub use variable::{Signature, Variable};
 pub use written::written_type;

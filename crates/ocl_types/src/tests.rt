@@ -1,3 +1,5 @@
+ghost use Rattle.std.specs.Prelude.{◌≡◌, IfOk, length};
+
 use crate::env::Env;
 use crate::fault::{TypeError, TypeFault};
 use crate::metas::Metas;
@@ -70,40 +72,59 @@ fn metamodels_stand_where_they_were_pushed(rt: HostRuntime) -> Result<(), Fail> 
     Ok(())
 }
 
-#[test]
-fn names_are_bound(rt: HostRuntime) -> Result<(), Fail> {
-    let alloc = rt.alloc();
-    let metas = two_metas(&rt, alloc)?;
+/// The names of the two metamodels.
+fn two_names(alloc: Global) -> Result<Seq<Text>, Fail>
+    ensures { IfOk result (λ names. length names ≡ 2) }
+{
     let mut names = Seq::new(alloc);
     names.push(text(alloc, "M")?)?;
     names.push(text(alloc, "N")?)?;
+    Ok(names)
+}
+
+/// The two metamodels with a model of the first.
+fn env_over<'a>(rt: &impl Abort, alloc: Global, metas: &'a Metas) -> Result<Env<'a>, Fail> {
+    let names = two_names(alloc)?;
+    assert_eq!(rt; metas.len(), 2);
     let mut models = Seq::new(alloc);
     models.push(ModelSlot {
         name: text(alloc, "m")?,
         meta: 0,
     })?;
-    models.push(ModelSlot {
-        name: text(alloc, "n")?,
-        meta: 1,
-    })?;
-    let mut env = Env::over(alloc, &metas, names, models);
-    let x = text(alloc, "x")?;
-    let a = Ty::Class(0, ClassId(1));
-    assert!(rt; !env.is_bound(&x));
+    Ok(Env::over(alloc, metas, names, models))
+}
+
+#[test]
+fn types_of_an_environment(rt: HostRuntime) -> Result<(), Fail> {
+    let alloc = rt.alloc();
+    let metas = two_metas(&rt, alloc)?;
+    let env = env_over(&rt, alloc, &metas)?;
     assert!(rt; env.is_type(&Ty::Enum(1, EnumId(0))));
     assert!(rt; !env.is_type(&Ty::Enum(1, EnumId(1))));
     assert!(rt; !env.is_type(&Ty::Class(2, ClassId(0))));
     assert!(rt; !env.is_type(&Ty::Null));
-    assert!(rt; env.is_object_type(&a, 0));
-    assert!(rt; !env.is_object_type(&a, 1));
+    assert!(rt; env.is_object_type(&Ty::Class(0, ClassId(1)), 0));
+    assert!(rt; !env.is_object_type(&Ty::Class(1, ClassId(1)), 0));
     assert!(rt; !env.is_object_type(&Ty::Int, 0));
+    Ok(())
+}
+
+#[test]
+fn variables_are_bound(rt: HostRuntime) -> Result<(), Fail> {
+    let alloc = rt.alloc();
+    let metas = two_metas(&rt, alloc)?;
+    let mut env = env_over(&rt, alloc, &metas)?;
+    let x = text(alloc, "x")?;
+    assert!(rt; !env.is_bound(&x));
+    assert!(rt; env.is_type(&Ty::Int));
     env.bind(x, Ty::Int)?;
+    assert!(rt; env.is_bound(&text(alloc, "x")?));
     let y = text(alloc, "y")?;
+    let class = Ty::Class(0, ClassId(1));
     assert!(rt; !env.is_bound(&y));
-    assert!(rt; env.is_object_type(&a, 0));
-    env.bind_object(y, a, 0)?;
-    let y = text(alloc, "y")?;
-    match env.variable(&y) {
+    assert!(rt; env.is_object_type(&class, 0));
+    env.bind_object(y, class, 0)?;
+    match env.variable(&text(alloc, "y")?) {
         Some((number, variable)) => {
             assert_eq!(rt; number, 1);
             assert_eq!(rt; variable.model, Some(0));
@@ -111,8 +132,6 @@ fn names_are_bound(rt: HostRuntime) -> Result<(), Fail> {
         }
         None => assert!(rt; false),
     }
-    assert!(rt; env.is_bound(&text(alloc, "x")?));
-    assert!(rt; !env.is_bound(&text(alloc, "z")?));
     Ok(())
 }
 
@@ -184,21 +203,25 @@ fn shown(
     }
 }
 
+/// Whether a path is shown as this.
+fn is_shown(rt: &impl Abort, alloc: Global, names: &[&str], wanted: &str) -> Result<bool, Fail> {
+    let metas = two_metas(rt, alloc)?;
+    let env = env_over(rt, alloc, &metas)?;
+    Ok(shown(rt, alloc, &metas, &env, names)?.as_str() == wanted)
+}
+
 #[test]
 fn written_types(rt: HostRuntime) -> Result<(), Fail> {
-    let alloc = rt.alloc();
-    let metas = two_metas(&rt, alloc)?;
-    let mut names = Seq::new(alloc);
-    names.push(text(alloc, "M")?)?;
-    names.push(text(alloc, "N")?)?;
-    assert_eq!(rt; metas.len(), 2);
-    assert_eq!(rt; names.len(), 2);
-    let env = Env::over(alloc, &metas, names, Seq::new(alloc));
-    assert!(rt; shown(&rt, alloc, &metas, &env, &["A"])?.as_str() == "Bag(A)");
-    assert!(rt; shown(&rt, alloc, &metas, &env, &["B"])?.as_str() == "?B");
-    assert!(rt; shown(&rt, alloc, &metas, &env, &["N", "B"])?.as_str() == "Bag(B)");
-    assert!(rt; shown(&rt, alloc, &metas, &env, &["F"])?.as_str() == "Bag(F)");
-    assert!(rt; shown(&rt, alloc, &metas, &env, &["M", "C"])?.as_str() == "?M::C");
-    assert!(rt; shown(&rt, alloc, &metas, &env, &["M", "E", "one"])?.as_str() == "?M::E::one");
+    assert!(rt; is_shown(&rt, rt.alloc(), &["A"], "Bag(A)")?);
+    assert!(rt; is_shown(&rt, rt.alloc(), &["N", "B"], "Bag(B)")?);
+    assert!(rt; is_shown(&rt, rt.alloc(), &["F"], "Bag(F)")?);
+    Ok(())
+}
+
+#[test]
+fn paths_that_name_no_type(rt: HostRuntime) -> Result<(), Fail> {
+    assert!(rt; is_shown(&rt, rt.alloc(), &["B"], "?B")?);
+    assert!(rt; is_shown(&rt, rt.alloc(), &["M", "C"], "?M::C")?);
+    assert!(rt; is_shown(&rt, rt.alloc(), &["M", "E", "one"], "?M::E::one")?);
     Ok(())
 }

@@ -1,5 +1,4 @@
-use Rattle.std.proofs.Common.{◌≡◌, ◌∙◌, sym, ap, length, arith, []}
-use Rattle.std.specs.Str.{chars}
+use Rattle.std.proofs.Common.{◌∙◌, sym, ap}
 use Rattle.ocl_types.specs.Naming.{texts_of, joined_names}
 use Rattle.ocl_types.proofs.NamingLaws.{same_text, no_names, empty_characters}
 use Rattle.ocl_types.proofs.naming.path_text.Goals as goal
