@@ -1,3 +1,4 @@
 pub mod Forms
 pub mod Lexed
 pub mod Answers
+pub mod Places

@@ -4,6 +4,7 @@ ghost use Rattle.std.specs.Str.Lossy.{utf8_valid_len};
 ghost use Rattle.ql_lex.specs.Forms.{whole_form};
 ghost use Rattle.ql_lex.specs.Lexed.{mark_len as byte_order_mark, lexed, lexed_from, with_front, AreSlices, most_bytes};
 ghost use Rattle.ql_lex.specs.Answers.{Gives, Fails, IsWholeBefore, seen_all};
+ghost use Rattle.ql_lex.specs.Places.{IsUtf8Place, IsMalformedAt};
 
 use crate::cuts::behind;
 use crate::fault::{LexError, LexFault, LexKind};
@@ -42,6 +43,7 @@ fn read_front(bytes: &[u8]) -> Result<(Piece, &str), LexFault>
     ensures within { IfOk result (λ p. (0 < p.0.len) × (p.0.len ≤ length bytes.now)) }
     ensures before { IfErr result (λ f. f.at ≤ length bytes.now) }
     ensures whole { MatchResult result (λ p. IsUtf8 (take p.0.len bytes.now)) (λ f. IsUtf8 (take f.at bytes.now)) }
+    ensures place { IfErr result (λ f. IsUtf8Place bytes.now f) }
 {
     match read_form(bytes) {
         Ok(piece) => match read_whole(bytes, piece.len) {
@@ -64,6 +66,7 @@ fn read_word<'t>(words: &mut Vec<Word<'t>>, bytes: &'t [u8], at: usize) -> Resul
     ensures err { IfErr result (λ e. Fails e (lexed_from (drop at bytes.now) at 0)) }
     ensures slices { IfOk result (λ end. AreSlices bytes.now 0 (seen_all words.old.items) at → AreSlices bytes.now 0 (seen_all words.new.items) end) }
     ensures whole { IsUtf8 (take at bytes.now) → MatchResult result (λ end. IsUtf8 (take end bytes.now)) (λ e. IsWholeBefore bytes.now e) }
+    ensures place { IsUtf8 (take at bytes.now) → IfErr result (λ e. IsMalformedAt bytes.now e) }
 {
     let (piece, text) = match read_front(behind(bytes, at)) {
         Ok(found) => found,
@@ -95,6 +98,7 @@ fn read_words<'t>(alloc: Global, bytes: &'t [u8], start: usize) -> Result<Vec<Wo
     ensures value { Gives (λ v. seen_all v.items) result (lexed_from (drop start bytes.now) start 0) }
     ensures slices { IfOk result (λ v. AreSlices bytes.now 0 (seen_all v.items) (length bytes.now)) }
     ensures whole { MatchResult result (λ v. IsUtf8 bytes.now) (λ e. IsWholeBefore bytes.now e) }
+    ensures place { IfErr result (λ e. IsMalformedAt bytes.now e) }
 {
     let mut words = Vec::new(alloc);
     let mut at = start;
@@ -132,6 +136,8 @@ pub fn lex<'t>(alloc: Global, text: &'t [u8]) -> Result<Tokens<'t>, LexError>
     ensures end { IfOk result (λ t. t.end ≡ length text.now) }
     // What has tokens is UTF-8, and so is what stands before a fault, unless the text is too long.
     ensures utf8 { length text.now ≤ most_bytes → MatchResult result (λ t. IsUtf8 text.now) (λ e. IsWholeBefore text.now e) }
+    // `BadUtf8` stands at the first byte of the text at which no whole character does.
+    ensures utf8_place { IfErr result (λ e. IsMalformedAt text.now e) }
 {
     if text.len() > MAX_SCRIPT {
         return Err(LexError::Fault(LexFault {

@@ -4,11 +4,19 @@
 mod expr;
 mod literal;
 mod name;
+mod operation;
 mod operator;
+mod query;
+mod ty;
 mod type_tree;
+mod typed;
 
 pub use expr::{Args, Expr, Link, Step};
 pub use literal::Literal;
 pub use name::{Name, Path};
+pub use operation::{ClassOperation, CollectionOperation, IteratorKind, Operation};
 pub use operator::Operator;
+pub use query::{ModelSlot, ParamTree, Query, QueryTree};
+pub use ty::Ty;
 pub use type_tree::{Kind, TypeTree};
+pub use typed::{Node, StepCall, Typed, TypedLink, TypedStep, Values};

@@ -2,6 +2,7 @@ use Rattle.std.proofs.Common.{◌∙◌, ◌+◌, ◌-◌, ℕ, ◌≡◌, sym, 
 use Rattle.ql_lex.specs.Forms.{whole_form}
 use Rattle.ql_lex.specs.Answers.{seen_all}
 use Rattle.ql_lex.proofs.Laws.{lexed_from-fault, behind_token, behind_nothing, whole_more, slices_widen, slices_word}
+use Rattle.ql_lex.proofs.PlaceLaws.{malformed_behind}
 use Rattle.ql_lex.proofs.reading.read_word.Goals as goal
 
 same_width : (at n : ℕ) → n ≡ at + n - at
@@ -48,3 +49,7 @@ returns-in_ok-push-in-Some-clause-slices c =
 pub returns-in_ok-push-in-Some-clause-whole : goal.returns-in_ok-push-in-Some-clause-whole
 returns-in_ok-push-in-Some-clause-whole c =
     λ front. whole_more c.args.bytes.now c.behind.result.now c.args.at c.in-Ok.found.0.len c.behind.ensures front c.in-Ok.ensures.whole
+
+pub returns-in-Err-clause-place : goal.returns-in-Err-clause-place
+returns-in-Err-clause-place c =
+    λ front. λ e. malformed_behind c.args.bytes.now c.behind.result.now c.args.at c.in-Err.fault.at c.behind.ensures (omega arith) front (c.in-Err.ensures.place e)

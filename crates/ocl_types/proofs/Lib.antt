@@ -1,0 +1,4 @@
+pub mod FindLaws
+pub mod NamingLaws
+pub mod LiteralLaws
+pub mod OperationLaws

@@ -1,0 +1,45 @@
+-- The types that are written in a script.
+use Rattle.std.specs.Prelude.{◌≡◌, ℕ, List, Option, None, Some, Result, Ok, Err}
+use Rattle.qv_syntax.specs.declared.ty.Ty.{Ty}
+use Rattle.qv_syntax.specs.declared.ty.Ty.TheVariants as types
+use Rattle.qv_syntax.specs.declared.type_tree.Kind.{Kind}
+use Rattle.qv_syntax.specs.declared.type_tree.TypeTree.{TypeTree, fold-TypeTree}
+use Rattle.qv_syntax.specs.declared.type_tree.TypeTree.TheOpen as of
+use Rattle.ocl_types.specs.declared.fault.TypeFault.{TypeFault}
+use Rattle.ocl_types.specs.declared.fault.TypeFault.TheVariants.{UnknownName}
+use Rattle.ocl_types.specs.declared.fault.TypeError.{TypeError}
+use Rattle.ocl_types.specs.declared.fault.TypeError.TheVariants as errors
+use Rattle.ocl_types.specs.Environments.{Environment}
+use Rattle.ocl_types.specs.Naming.{names_of, joined_names}
+use Rattle.ocl_types.specs.Classifiers.{named_type}
+
+-- the type that was found, or the path that names none
+abbrev pub found_type : List (List ℕ) → Option Ty → Result Ty TypeFault
+found_type names (Some ty) = Ok ty
+found_type names None = Err (UnknownName (joined_names names))
+
+-- a collection of the type, if there is one
+abbrev pub collection_of : Kind → Result Ty TypeFault → Result Ty TypeFault
+collection_of kind (Ok ty) = Ok (types.Coll kind ty)
+collection_of kind (Err f) = Err f
+
+abbrev pub written_step : Environment → of.TypeTree-F (Result Ty TypeFault) → Result Ty TypeFault
+written_step env (of.Str span) = Ok types.Str
+written_step env (of.Int span) = Ok types.Int
+written_step env (of.Bool span) = Ok types.Bool
+written_step env (of.Named path) = found_type (names_of path) (named_type env (names_of path))
+written_step env (of.Coll kind inner span) = collection_of kind inner
+
+-- the type that is written, or the fault: a path that doesn't name one class or enumeration alone
+abbrev pub written : Environment → TypeTree → Result Ty TypeFault
+written env = fold-TypeTree (Result Ty TypeFault) (written_step env)
+
+-- the error is the fault that stands, unless memory ran out
+abbrev pub Fails : {X : Type 0} → TypeError → Result X TypeFault → Type 0
+Fails (errors.Fault f) meaning = meaning ≡ Err f
+Fails errors.NoMemory meaning = Unit {0}
+
+-- what a function returned is what is meant, unless memory ran out
+abbrev pub Gives : {X : Type 0} → Result X TypeError → Result X TypeFault → Type 0
+Gives (Ok x) meaning = meaning ≡ Ok x
+Gives (Err e) meaning = Fails e meaning

@@ -1,0 +1,260 @@
+ghost use Rattle.std.specs.Prelude.{◌≡◌, ◌<◌, [], length, false, IfSome, IsTrue, None, Some, OnOk, OnErr};
+ghost use Rattle.std.specs.Option.{option_map};
+
+use crate::classifier::{Classifier, Wanted};
+use crate::literals::find_literal;
+use crate::look_up::{find_path, type_of};
+use crate::metas::Metas;
+use crate::name_map::NameMap;
+use crate::of_types::{are_types, class_of, is_type};
+use crate::variable::{Signature, Variable};
+use mof_metamodel::{ClassId, EnumId, MetaModel, NoMemory, Seq, Text};
+use qv_syntax::{ModelSlot, Path, Ty};
+use std::alloc::Global;
+use std::marker::Model;
+
+/// How many variables there may be, and how many queries.
+const MOST: usize = 4294967295;
+
+/// The names in reach of an expression with their types (OCL 2.4, section 9.4): metamodels, models, variables and
+/// queries. Names are found by hashing. Variables are numbered in the order of binding, from 0, and so are queries.
+#[derive(Drop)]
+pub struct Env<'a> {
+    metas: &'a [MetaModel],
+    names: Seq<Text>,
+    models: Seq<ModelSlot>,
+    variables: NameMap<Variable>,
+    queries: NameMap<Signature>,
+}
+
+impl<'a> Model for Env<'a> {
+    ghost use Rattle.std.specs.Coded.{codes};
+    ghost use Rattle.qv_syntax.specs.contracts.ty.Ty as ty;
+    ghost use Rattle.ocl_types.specs.Environments.{Environment, IsInOrder};
+
+    ghost Value = { Environment };
+
+    ghost coded = { Prim.hlevel (codes, ty.the_row.coded) };
+
+    ghost view = { λ e. record { metas = e.metas.now; names = e.names; models = e.models; variables = e.variables; queries = e.queries } };
+
+    ghost invariant = { λ e. IsInOrder (record { metas = e.metas.now; names = e.names; models = e.models; variables = e.variables; queries = e.queries }) };
+}
+
+impl<'a> Env<'a> {
+    ghost use Rattle.ocl_types.specs.Naming.{names_of};
+    ghost use Rattle.ocl_types.specs.Classifiers.{named_type as type_named, named_class as class_named, named_literal as literal_named};
+    ghost use Rattle.ocl_types.specs.Environments.{nothing_in_reach, have_metas, is_type as typed, is_object_type as object_typed, are_types as all_typed, is_variable, is_bound as bound, is_query_bound as query_bound, with_variable, with_query, number_of, value_of};
+
+    /// Nothing in reach, and no metamodels.
+    pub fn new(alloc: Global) -> Env<'a>
+        ensures { result ≡ nothing_in_reach }
+    {
+        Env {
+            metas: &[],
+            names: Seq::new(alloc),
+            models: Seq::new(alloc),
+            variables: NameMap::new(alloc),
+            queries: NameMap::new(alloc),
+        }
+    }
+
+    /// The metamodels and the models of a script, and nothing else in reach. `names` are the names of the metamodels.
+    pub fn over(
+        alloc: Global,
+        metas: &'a Metas,
+        names: Seq<Text>,
+        models: Seq<ModelSlot>,
+    ) -> Env<'a>
+        requires named { length names ≡ length metas.now }
+        requires placed { IsTrue (have_metas models (length names)) }
+        ensures { result ≡ record { metas = metas.now; names = names; models = models; variables = []; queries = [] } }
+    {
+        Env {
+            metas: metas.as_slice(),
+            names,
+            models,
+            variables: NameMap::new(alloc),
+            queries: NameMap::new(alloc),
+        }
+    }
+
+    /// Whether a variable of this name is bound.
+    pub fn is_bound(&self, name: &Text) -> bool
+        ensures { result ≡ bound self.now name.now }
+    {
+        self.variables.contains(name)
+    }
+
+    /// Whether a query of this name is bound.
+    pub fn is_query(&self, name: &Text) -> bool
+        ensures { result ≡ query_bound self.now name.now }
+    {
+        self.queries.contains(name)
+    }
+
+    /// The number of a variable, and its type.
+    pub fn variable(&self, name: &Text) -> Option<(u32, &Variable)>
+        ensures number { option_map (λ v. v.0) result ≡ number_of self.now.variables name.now }
+        ensures value { option_map (λ v. v.1.now) result ≡ value_of self.now.variables name.now }
+    {
+        let (number, variable) = self.variables.find(name)?;
+        Some((number as u32, variable))
+    }
+
+    /// The number of a query, and its types.
+    pub fn query(&self, name: &Text) -> Option<(u32, &Signature)>
+        ensures number { option_map (λ q. q.0) result ≡ number_of self.now.queries name.now }
+        ensures value { option_map (λ q. q.1.now) result ≡ value_of self.now.queries name.now }
+    {
+        let (number, signature) = self.queries.find(name)?;
+        Some((number as u32, signature))
+    }
+
+    /// The type that a path names: the class or the enumeration, if it names one alone.
+    #[tactic(auto, using(crate::proofs::FindLaws::one_found))]
+    pub fn named_type(&self, path: &Path) -> Option<Ty>
+        ensures { result ≡ type_named self.now (names_of path.now) }
+    {
+        let found = find_path(
+            Wanted::Types,
+            self.metas,
+            self.names.as_slice(),
+            path.names.as_slice(),
+        );
+        match found.one() {
+            Some(classifier) => Some(type_of(classifier)),
+            None => None,
+        }
+    }
+
+    /// The class that a path names, with the number of its metamodel, if it names one class alone.
+    #[tactic(auto, using(crate::proofs::FindLaws::one_found))]
+    pub fn named_class(&self, path: &Path) -> Option<(u32, ClassId)>
+        ensures { result ≡ class_named self.now (names_of path.now) }
+    {
+        let found = find_path(
+            Wanted::Classes,
+            self.metas,
+            self.names.as_slice(),
+            path.names.as_slice(),
+        );
+        match found.one() {
+            Some(Classifier::Class(m, c)) => Some((m, c)),
+            Some(Classifier::Enum(_, _)) => None,
+            None => None,
+        }
+    }
+
+    /// The literal that a path names, with the number of its metamodel, its enumeration and its place.
+    pub fn named_literal(&self, path: &Path) -> Option<(u32, EnumId, u32)>
+        ensures { result ≡ literal_named self.now (names_of path.now) }
+    {
+        find_literal(self.metas, self.names.as_slice(), path.names.as_slice())
+    }
+
+    /// Whether a variable may have the type.
+    pub fn is_type(&self, ty: &Ty) -> bool
+        ensures { result ≡ typed self.now.metas ty.now }
+    {
+        is_type(self.metas, ty)
+    }
+
+    /// Whether a variable may have each of the types.
+    pub fn are_types(&self, types: &[Ty]) -> bool
+        ensures { result ≡ all_typed self.now.metas types.now }
+    {
+        are_types(self.metas, types)
+    }
+
+    /// Whether the type is a class of the metamodel of this model.
+    pub fn is_object_type(&self, ty: &Ty, model: u32) -> bool
+        ensures { result ≡ object_typed self.now ty.now model }
+    {
+        let models = self.models.as_slice();
+        let i = model as usize;
+        if i >= models.len() {
+            return false;
+        }
+        match class_of(ty) {
+            Some((meta, _)) => meta == models[i].meta && is_type(self.metas, ty),
+            None => false,
+        }
+    }
+
+    /// Puts a variable behind the others.
+    fn put(&mut self, name: Text, variable: Variable) -> Result<(), NoMemory>
+        requires unbound { bound self.old name ≡ false }
+        requires typed { IsTrue (is_variable self.old (name, variable)) }
+        ensures ok { OnOk result (self.new ≡ with_variable self.old name variable) }
+        ensures err { OnErr result (self.new ≡ self.old) }
+    {
+        if self.variables.len() >= MOST {
+            return Err(NoMemory);
+        }
+        self.variables.put(name, variable)
+    }
+
+    /// Brings a variable into reach. One of a class has no model.
+    ///
+    /// # Errors
+    ///
+    /// `NoMemory` where memory runs out, or where 4,294,967,295 variables are bound. Nothing is bound then.
+    pub fn bind(&mut self, name: Text, ty: Ty) -> Result<(), NoMemory>
+        requires unbound { bound self.old name ≡ false }
+        requires typed { IsTrue (typed self.old.metas ty) }
+        ensures ok { OnOk result (self.new ≡ with_variable self.old name (record { ty = ty; model = None })) }
+        ensures err { OnErr result (self.new ≡ self.old) }
+    {
+        self.put(name, Variable { ty, model: None })
+    }
+
+    /// Brings an object variable into reach: its class, and the model of its objects.
+    ///
+    /// # Errors
+    ///
+    /// As those of `bind`.
+    pub fn bind_object(&mut self, name: Text, class: Ty, model: u32) -> Result<(), NoMemory>
+        requires unbound { bound self.old name ≡ false }
+        requires typed { IsTrue (object_typed self.old class model) }
+        ensures ok { OnOk result (self.new ≡ with_variable self.old name (record { ty = class; model = Some model })) }
+        ensures err { OnErr result (self.new ≡ self.old) }
+    {
+        self.put(
+            name,
+            Variable {
+                ty: class,
+                model: Some(model),
+            },
+        )
+    }
+
+    /// Brings a query into reach: the types of its parameters and of its result.
+    ///
+    /// # Errors
+    ///
+    /// `NoMemory` where memory runs out, or where 4,294,967,295 queries are bound. Nothing is bound then.
+    pub fn bind_query(
+        &mut self,
+        name: Text,
+        params: Seq<Ty>,
+        result_type: Ty,
+    ) -> Result<(), NoMemory>
+        requires unbound { query_bound self.old name ≡ false }
+        requires params { IsTrue (all_typed self.old.metas params) }
+        requires result_type { IsTrue (typed self.old.metas result_type) }
+        ensures ok { OnOk result (self.new ≡ with_query self.old name (record { params = params; result = result_type })) }
+        ensures err { OnErr result (self.new ≡ self.old) }
+    {
+        if self.queries.len() >= MOST {
+            return Err(NoMemory);
+        }
+        self.queries.put(
+            name,
+            Signature {
+                params,
+                result: result_type,
+            },
+        )
+    }
+}

@@ -1,0 +1,36 @@
+//! Types of expressions (OCL 2.4, chapters 9 and 11): the metamodels of a script, the names in reach, and what they
+//! give to the expressions that use them.
+#![tactic(auto)]
+
+mod classifier;
+mod conformance;
+mod env;
+mod fault;
+mod literals;
+mod look_up;
+mod metas;
+mod name_map;
+mod naming;
+mod navigation;
+mod of_types;
+mod operation_names;
+mod signatures;
+#[cfg(test)]
+mod tests;
+mod variable;
+mod written;
+
+pub use classifier::Classifier;
+pub use env::Env;
+pub use fault::{TypeError, TypeFault};
+pub use metas::Metas;
+pub use naming::{path_text, type_text};
+pub use operation_names::{
+    class_operation_named, collection_operation_named, iterator_named, operation_named,
+};
+pub use signatures::{
+    Argument, argument_of, collected_kind, collection_result, has_condition, is_of_kind,
+    parameter_count, parameter_type, receives, result_type,
+};
+pub use variable::{Signature, Variable};
+pub use written::written_type;
