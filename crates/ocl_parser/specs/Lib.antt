@@ -1,0 +1,3 @@
+pub mod Unquoting
+pub mod Pieces
+pub mod Grammar

@@ -1,0 +1,27 @@
+ghost use Rattle.std.specs.Prelude.{◌≡◌};
+
+use mof_metamodel::NoMemory as OutOfMemory;
+use thiserror::Error;
+
+/// Why tokens gave no tree. Places are in bytes from the start of the text.
+#[derive(Debug, Drop, Error)]
+pub enum ParseError {
+    /// At the first token with which the tokens so far begin nothing of the grammar, or at the end of the text.
+    #[error("the tokens are not of the grammar")]
+    Parse { at: usize },
+    /// At the token that opens level 129.
+    #[error("the text nests too deeply")]
+    Limit { at: usize },
+    #[error("no memory")]
+    NoMemory,
+}
+
+impl From<OutOfMemory> for ParseError {
+    ghost use Rattle.ocl_parser.specs.declared.error.ParseError.TheVariants.{NoMemory};
+
+    ghost from_gives = { λ _ e. e ≡ NoMemory };
+
+    fn from(_error: OutOfMemory) -> ParseError {
+        ParseError::NoMemory
+    }
+}

@@ -1,0 +1,98 @@
+ghost use Rattle.std.specs.Prelude.{◌≡◌, ◌≤◌, true, IfOk, OnOk, IfSome};
+ghost use Rattle.std.specs.List.{list_all};
+ghost use Rattle.std.specs.Char.{is_ascii_digit};
+ghost use Rattle.std.specs.Str.{chars};
+ghost use Rattle.ql_lex.specs.Forms.{decimal, greatest};
+ghost use Rattle.ocl_parser.specs.Pieces.{integer_of};
+ghost use Rattle.ocl_parser.specs.Unquoting.{meaning as meaning_of, passed, unquoted};
+
+use mof_metamodel::{NoMemory, Text};
+use std::alloc::Global;
+
+/// What a string or a quoted name was found to stand for, from its first character on.
+#[derive(Drop)]
+struct Unquoted {
+    text: Text,
+    /// Whether the opening quote was passed.
+    opened: bool,
+    /// Whether the character before was the `\` of an escape.
+    escaped: bool,
+}
+
+/// The character that a character stands for behind a `\`.
+fn meaning(c: char) -> char
+    ensures { result ≡ meaning_of c }
+{
+    match c {
+        't' => '\t',
+        'n' => '\n',
+        'r' => '\r',
+        _ => c,
+    }
+}
+
+/// Goes past a character.
+#[tactic(auto, unfolding(crate::specs::Unquoting::passed))]
+fn pass(so_far: &mut Unquoted, c: char) -> Result<(), NoMemory>
+    ensures { OnOk result (so_far.new ≡ passed so_far.old c) }
+{
+    if !so_far.opened {
+        so_far.opened = c == '\'';
+    } else if so_far.escaped {
+        so_far.text.push(meaning(c))?;
+        so_far.escaped = false;
+    } else if c == '\\' {
+        so_far.escaped = true;
+    } else if c != '\'' {
+        so_far.text.push(c)?;
+    }
+    Ok(())
+}
+
+/// What a string or a quoted name stands for: the characters between its quotes, with each escape as one.
+#[tactic(auto, unfolding(crate::specs::Unquoting::unquoted))]
+pub(crate) fn unquote(alloc: Global, token: &str) -> Result<Text, NoMemory>
+    ensures { IfOk result (λ t. t ≡ unquoted (chars token.now)) }
+{
+    let mut so_far = Unquoted {
+        text: Text::new(alloc, "")?,
+        opened: false,
+        escaped: false,
+    };
+    for c in token.chars() {
+        pass(&mut so_far, c)?;
+    }
+    Ok(so_far.text)
+}
+
+/// The greatest Integer.
+const GREATEST: u64 = 9_223_372_036_854_775_807;
+
+/// The number that digits write, if all are digits and it is an Integer.
+fn decimal_value(digits: &[u8]) -> Option<u64>
+    ensures { IfSome result (λ v. (list_all is_ascii_digit digits.now ≡ true) × (decimal 0 digits.now ≡ v) × (v ≤ greatest)) }
+{
+    let mut value = 0;
+    for d in digits {
+        if !d.is_ascii_digit() {
+            return None;
+        }
+        let digit = u64::from(d.saturating_sub(b'0'));
+        if value > (GREATEST - digit) / 10 {
+            return None;
+        }
+        value = 10 * value + digit;
+    }
+    Some(value)
+}
+
+/// The Integer that digits write.
+#[tactic(auto, unfolding(crate::specs::Pieces::integer_of), using(crate::proofs::DigitLaws::integer))]
+pub(crate) fn integer_value(digits: &str) -> Option<i64>
+    ensures { IfSome result (λ v. integer_of digits.now ≡ Some v) }
+{
+    match decimal_value(digits.as_bytes()) {
+        Some(value) => Some(value as i64),
+        None => None,
+    }
+}
