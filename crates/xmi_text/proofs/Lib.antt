@@ -2,3 +2,5 @@ pub mod AttrLemmas
 pub mod Reached
 pub mod Literals
 pub mod Staying
+pub mod Sound
+pub mod Completing

@@ -9,3 +9,4 @@ pub mod Reading
 pub mod Names
 pub mod Writing
 pub mod Trees
+pub mod Completion

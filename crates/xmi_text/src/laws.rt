@@ -1,5 +1,6 @@
-ghost use Rattle.std.specs.Prelude.{◌≡◌, ℕ, List, ◌++◌, Some};
-ghost use Rattle.xmi_text.specs.Reading.{marks_of, fault_of};
+ghost use Rattle.std.specs.Prelude.{◌≡◌, ℕ, List, ◌++◌, None, Some};
+ghost use Rattle.xmi_text.specs.Completion.{MayGoOn, completion};
+ghost use Rattle.xmi_text.specs.Reading.{state_of, marks_of, fault_of, end_fault_of};
 ghost use Rattle.xmi_text.specs.Trees.{Tree, Spells};
 ghost use Rattle.xmi_text.specs.declared.error.TextFault.{TextFault};
 ghost use Rattle.xmi_text.specs.declared.mark.Mark.{Mark};
@@ -19,4 +20,9 @@ pub fn faults_stay()
 /// Bytes spell one tree at most.
 pub fn one_tree()
     ensures { (bytes : List ℕ) (first second : Tree) → Spells bytes first → Spells bytes second → first ≡ second }
+{}
+
+/// Bytes that may go on to a whole text are made one by their completion.
+pub fn completions_end()
+    ensures { (bytes : List ℕ) → MayGoOn bytes → end_fault_of (bytes ++ completion (state_of bytes)) ≡ None }
 {}
