@@ -319,7 +319,7 @@ hexadecimals = record {
   large = λ n h k. (omega arith, omega arith);
 }
 
-some_fault : (f : TextFault) → Some f ≡ None → ⊥
+pub some_fault : (f : TextFault) → Some f ≡ None → ⊥
 some_fault f e = cc
 
 some_none : (n : ℕ) → Some n ≡ None → ⊥
@@ -585,7 +585,7 @@ character_wholes s m lead low high (rests.Three bits) = three_wholes s m lead lo
 -- ---- the law
 
 -- the bytes are whole, or end too early
-abbrev Open : Option TextFault → ℕ → Type 0
+abbrev pub Open : Option TextFault → ℕ → Type 0
 Open fault n = (fault ≡ None) ⊎ (fault ≡ Some (fault_at kinds.OpenTag n))
 
 not_open : (f : TextFault) (n : ℕ) → NotOpen f.kind → Open (Some f) n → ⊥

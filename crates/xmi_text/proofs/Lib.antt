@@ -4,3 +4,4 @@ pub mod Literals
 pub mod Staying
 pub mod Sound
 pub mod Completing
+pub mod Ending

@@ -22,7 +22,9 @@ pub fn one_tree()
     ensures { (bytes : List ℕ) (first second : Tree) → Spells bytes first → Spells bytes second → first ≡ second }
 {}
 
-/// Bytes that may go on to a whole text are made one by their completion.
+/// Bytes that are whole, or end before the text does, are made whole by their completion, and no others are made
+/// whole by any bytes.
 pub fn completions_end()
-    ensures { (bytes : List ℕ) → MayGoOn bytes → end_fault_of (bytes ++ completion (state_of bytes)) ≡ None }
+    ensures completed { (bytes : List ℕ) → MayGoOn bytes → end_fault_of (bytes ++ completion (state_of bytes)) ≡ None }
+    ensures only { (bytes more : List ℕ) → end_fault_of (bytes ++ more) ≡ None → MayGoOn bytes }
 {}
