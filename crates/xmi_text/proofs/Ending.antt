@@ -26,14 +26,14 @@ use Rattle.xmi_text.proofs.Completing.{Open, some_fault}
 use Rattle.xmi_text.proofs.Reached.{state_of-append}
 
 -- a character that isn't a byte order mark so far
-abbrev IsNoMark : Rest → Type 0
+abbrev pub IsNoMark : Rest → Type 0
 IsNoMark (rests.Three bits) = Unit {0}
 IsNoMark (rests.Two bits) = (bits == 15) ≡ false
 IsNoMark (rests.One bits) = (bits == 0x3fb) ≡ false
 
 -- a state that no byte leads out of to a whole text: a fault, a part of `<!DOCTYPE`, or a character that may not stand
 -- there
-abbrev IsDead : State → Mode → Option Partial → Type 0
+abbrev pub IsDead : State → Mode → Option Partial → Type 0
 IsDead s (modes.Failed f) c = Unit {0}
 IsDead s (modes.Doctype less word_at matched) c = Unit {0}
 IsDead s m None = ⊥
@@ -41,7 +41,7 @@ IsDead s modes.Start (Some p) = IsNoMark p.rest
 IsDead s m (Some p) = automaton.admits s m ≡ false
 
 -- the state itself is one
-abbrev Dead : State → Type 0
+abbrev pub Dead : State → Type 0
 Dead s = IsDead s s.mode s.partial
 
 dead : (b : Bool) (x y : State) → (b ≡ true → Dead x) → (b ≡ false → Dead y) → Dead (cond b x y)
@@ -67,15 +67,15 @@ element_ended s false few true x y z w e p q = q
 element_ended s false few false x y z w e p q = absurd (true≢false e)
 
 -- a place behind the first byte
-abbrev IsLater : Mode → Type 0
+abbrev pub IsLater : Mode → Type 0
 IsLater modes.Start = ⊥
 IsLater _ = Unit {0}
 
-abbrev NotLess : Mode → Type 0
+abbrev pub NotLess : Mode → Type 0
 NotLess (modes.Less less) = ⊥
 NotLess _ = Unit {0}
 
-later_dead : (s : State) (m : Mode) (p : Partial) → automaton.admits s m ≡ false → IsLater m → IsDead s m (Some p)
+pub later_dead : (s : State) (m : Mode) (p : Partial) → automaton.admits s m ≡ false → IsLater m → IsDead s m (Some p)
 later_dead s (modes.Failed f) p a l = tt
 later_dead s (modes.Doctype less word_at matched) p a l = tt
 later_dead s modes.Start p a l = absurd l
@@ -125,7 +125,7 @@ scalar_unmarked : (b : Bool) (n : ℕ) → (n == 0xfeff) ≡ false → Unmarked 
 scalar_unmarked true n e = e
 scalar_unmarked false n e = tt
 
-not_fifteen : (bits low b : ℕ) → 128 ≤ low → b ≤ 191 → low ≤ b → (bits ≡ 0 → 144 ≤ low) → bits * 64 + b % 64 ≡ 15 → ⊥
+pub not_fifteen : (bits low b : ℕ) → 128 ≤ low → b ≤ 191 → low ≤ b → (bits ≡ 0 → 144 ≤ low) → bits * 64 + b % 64 ≡ 15 → ⊥
 not_fifteen bits low b h u l z e = let none : bits ≡ 0 = omega arith in let high = z none in omega arith
 
 added_unmarked : (p : Partial) (rest : Rest) (b : ℕ) → Bits rest p.low p.high → IsNoMark rest → p.low ≤ b → b ≤ p.high → Unmarked (utf.added p rest b)
@@ -154,7 +154,7 @@ start_dead s lead at (growths.Whole c) e k =
 
 -- ---- one more byte
 
-dead_step : (s : State) (at b : ℕ) (m : Mode) (c : Option Partial) → s.mode ≡ m → s.partial ≡ c → Cut c m → IsDead s m c → Dead (step_by s at b m)
+pub dead_step : (s : State) (at b : ℕ) (m : Mode) (c : Option Partial) → s.mode ≡ m → s.partial ≡ c → Cut c m → IsDead s m c → Dead (step_by s at b m)
 dead_step s at b (modes.Failed f) c e n k d = subst (λ (m : Mode). IsDead s m s.partial) (sym e) tt
 dead_step s at b (modes.Doctype less word_at matched) c e n k d = doctype_dead s less word_at matched b
 dead_step s at b modes.Start None e n k d = absurd d
@@ -180,7 +180,7 @@ same_dead s t m (Some p) q r d = d
 as_dead : (s t : State) (m : Mode) (c : Option Partial) → t.mode ≡ m → t.partial ≡ c → s.elements ≡ t.elements → s.rooted ≡ t.rooted → IsDead s m c → Dead t
 as_dead s t m c e n q r d = subst (λ (k : Mode). IsDead t k t.partial) (sym e) (subst (IsDead t m) (sym n) (same_dead s t m c q r d))
 
-dead_cleared : (s : State) (r : Ready) (m : Mode) (c : Option Partial) → s.mode ≡ m → s.partial ≡ c → IsDead s m c → Dead (cleared_by s r)
+pub dead_cleared : (s : State) (r : Ready) (m : Mode) (c : Option Partial) → s.mode ≡ m → s.partial ≡ c → IsDead s m c → Dead (cleared_by s r)
 dead_cleared s ready.Nothing m c e n d = subst (λ (k : Mode). IsDead s k s.partial) (sym e) (subst (IsDead s m) (sym n) d)
 dead_cleared s ready.Data m c e n d = as_dead s (record s { run = []; ready = ready.Nothing }) m c e n refl refl d
 dead_cleared s ready.Open m c e n d = as_dead s (record s { tag = []; attrs = []; ready = ready.Nothing }) m c e n refl refl d
@@ -189,13 +189,13 @@ dead_cleared s (ready.Close at) m c e n d = as_dead s (record s { ready = ready.
 
 -- ---- all bytes
 
-dead_fault : (s : State) (n : ℕ) (m : Mode) (c : Option Partial) → s.partial ≡ c → IsDead s m c → end_fault_by s n m ≡ None → ⊥
+pub dead_fault : (s : State) (n : ℕ) (m : Mode) (c : Option Partial) → s.partial ≡ c → IsDead s m c → end_fault_by s n m ≡ None → ⊥
 dead_fault s n (modes.Failed f) c e d x = some_fault f x
 dead_fault s n (modes.Doctype less word_at matched) c e d x = some_fault _ x
 dead_fault s n m None e d x = d
 dead_fault s n m (Some p) e d x = some_fault _ (ap (automaton.ended_by s m n) (sym e) ∙ x)
 
-dead_from : (at : ℕ) (s : State) (bytes : List ℕ) (n : ℕ) → IsSound s → Dead s → end_fault (state_from at s bytes) n ≡ None → ⊥
+pub dead_from : (at : ℕ) (s : State) (bytes : List ℕ) (n : ℕ) → IsSound s → Dead s → end_fault (state_from at s bytes) n ≡ None → ⊥
 dead_from at s [] n p d x = dead_fault s n s.mode s.partial refl d x
 dead_from at s (b ∷ bytes) n p d x =
     let t : State = step s at b in
@@ -222,7 +222,7 @@ mark_or_dead s lead (rests.One bits) n =
       | inr e ↦ inr e
     ]
 
-open_or_dead : (s : State) (m : Mode) (c : Option Partial) (n : ℕ) → s.partial ≡ c → Cut c m → Open (end_fault_by s n m) n ⊎ IsDead s m c
+pub open_or_dead : (s : State) (m : Mode) (c : Option Partial) (n : ℕ) → s.partial ≡ c → Cut c m → Open (end_fault_by s n m) n ⊎ IsDead s m c
 open_or_dead s (modes.Failed f) c n e k = inr tt
 open_or_dead s (modes.Doctype less word_at matched) c n e k = inr tt
 open_or_dead s modes.Start (Some p) n e k = subst (λ (c : Option Partial). Open (automaton.ended_by s modes.Start n c) n ⊎ IsNoMark p.rest) (sym e) (mark_or_dead s p.lead p.rest n)

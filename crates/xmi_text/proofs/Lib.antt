@@ -5,3 +5,4 @@ pub mod Staying
 pub mod Sound
 pub mod Completing
 pub mod Ending
+pub mod Places
