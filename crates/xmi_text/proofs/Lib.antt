@@ -2,6 +2,14 @@ pub mod AttrLemmas
 pub mod Reached
 pub mod Literals
 pub mod Staying
+pub mod Walks
+pub mod Encoded
+pub mod Stepping
+pub mod NameSteps
+pub mod Asides
+pub mod ValueSteps
+pub mod TagSteps
+pub mod Spelled
 pub mod Sound
 pub mod Completing
 pub mod Ending

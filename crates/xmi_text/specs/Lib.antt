@@ -9,4 +9,5 @@ pub mod Reading
 pub mod Names
 pub mod Writing
 pub mod Trees
+pub mod Markup
 pub mod Completion

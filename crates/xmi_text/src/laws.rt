@@ -1,6 +1,7 @@
 ghost use Rattle.std.specs.Prelude.{◌≡◌, ℕ, ◌+◌, List, ◌++◌, take, None, Some};
 ghost use Rattle.xmi_text.specs.Completion.{MayGoOn, completion};
 ghost use Rattle.xmi_text.specs.Reading.{state_of, marks_of, fault_of, end_fault_of};
+ghost use Rattle.xmi_text.specs.Markup.{Begins, Markup};
 ghost use Rattle.xmi_text.specs.Trees.{Tree, Spells};
 ghost use Rattle.xmi_text.specs.declared.error.TextFault.{TextFault};
 ghost use Rattle.xmi_text.specs.declared.error.TextKind.TheVariants.{BadMark};
@@ -21,6 +22,16 @@ pub fn faults_stay()
 /// Bytes spell one tree at most.
 pub fn one_tree()
     ensures { (bytes : List ℕ) (first second : Tree) → Spells bytes first → Spells bytes second → first ≡ second }
+{}
+
+/// The bytes of a document are read without a fault, and as the document's tree.
+pub fn documents_are_read()
+    ensures { (bytes : List ℕ) (tree : Tree) → Markup bytes tree → Spells bytes tree }
+{}
+
+/// Bytes that begin a document may go on to a whole text.
+pub fn documents_begin()
+    ensures { (bytes : List ℕ) → Begins bytes → MayGoOn bytes }
 {}
 
 /// Bytes that are whole, or end before the text does, are made whole by their completion, and no others are made

@@ -16,7 +16,10 @@ mod utf_eight;
 mod writer;
 
 pub use error::{TextError, TextFault, TextKind};
-pub use laws::{completions_end, faults_have_places, faults_stay, marks_stay, one_tree};
+pub use laws::{
+    completions_end, documents_are_read, documents_begin, faults_have_places, faults_stay,
+    marks_stay, one_tree,
+};
 pub use mark::{Attr, Mark, Step};
 pub use reader::Reader;
 pub use writer::Writer;
