@@ -12,3 +12,7 @@ pub mod TagSteps
 pub mod Spelled
 pub mod EventTrees
 pub mod Written
+pub mod Sound
+pub mod Completing
+pub mod Ending
+pub mod Places

@@ -26,7 +26,7 @@ idle_from at s (b ∷ bytes) e =
     let t : State = step s at b in
     idle_from (at + 1) (cleared t) bytes (cleared_idle t t.ready refl)
 
-idle_of : (bytes : List ℕ) → (state_of bytes).ready ≡ Nothing
+pub idle_of : (bytes : List ℕ) → (state_of bytes).ready ≡ Nothing
 unfolding state_of
 idle_of bytes = idle_from 0 start bytes refl
 

@@ -11,3 +11,4 @@ pub mod Writing
 pub mod Trees
 pub mod Markup
 pub mod Calls
+pub mod Completion

@@ -1,8 +1,10 @@
-ghost use Rattle.std.specs.Prelude.{◌≡◌, ℕ, List, ◌++◌, Some};
-ghost use Rattle.xmi_text.specs.Reading.{marks_of, fault_of};
-ghost use Rattle.xmi_text.specs.Markup.{Markup};
+ghost use Rattle.std.specs.Prelude.{◌≡◌, ℕ, ◌+◌, List, ◌++◌, take, None, Some};
+ghost use Rattle.xmi_text.specs.Completion.{MayGoOn, completion};
+ghost use Rattle.xmi_text.specs.Reading.{state_of, marks_of, fault_of, end_fault_of};
+ghost use Rattle.xmi_text.specs.Markup.{Begins, Markup};
 ghost use Rattle.xmi_text.specs.Trees.{Tree, Spells};
 ghost use Rattle.xmi_text.specs.declared.error.TextFault.{TextFault};
+ghost use Rattle.xmi_text.specs.declared.error.TextKind.TheVariants.{BadMark};
 ghost use Rattle.xmi_text.specs.declared.mark.Mark.{Mark};
 
 /// The marks that bytes complete are the first marks of every text that they begin.
@@ -25,4 +27,23 @@ pub fn one_tree()
 /// The bytes of a document are read without a fault, and as the document's tree.
 pub fn documents_are_read()
     ensures { (bytes : List ℕ) (tree : Tree) → Markup bytes tree → Spells bytes tree }
+{}
+
+/// Bytes that begin a document may go on to a whole text.
+pub fn documents_begin()
+    ensures { (bytes : List ℕ) → Begins bytes → MayGoOn bytes }
+{}
+
+/// Bytes that are whole, or end before the text does, are made whole by their completion, and no others are made
+/// whole by any bytes.
+pub fn completions_end()
+    ensures completed { (bytes : List ℕ) → MayGoOn bytes → end_fault_of (bytes ++ completion (state_of bytes)) ≡ None }
+    ensures only { (bytes more : List ℕ) → end_fault_of (bytes ++ more) ≡ None → MayGoOn bytes }
+{}
+
+/// The bytes before a fault may go on to a whole text, and where the fault is a bad mark, its byte is the first with
+/// which they may not.
+pub fn faults_have_places()
+    ensures before { (bytes : List ℕ) (fault : TextFault) → end_fault_of bytes ≡ Some fault → MayGoOn (take fault.at bytes) }
+    ensures through { (bytes : List ℕ) (fault : TextFault) → end_fault_of bytes ≡ Some fault → fault.kind ≡ BadMark → MayGoOn (take (fault.at + 1) bytes) → ⊥ }
 {}

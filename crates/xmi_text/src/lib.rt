@@ -18,7 +18,10 @@ mod writer;
 
 pub use document_laws::one_document_tree;
 pub use error::{TextError, TextFault, TextKind};
-pub use laws::{documents_are_read, faults_stay, marks_stay, one_tree};
+pub use laws::{
+    completions_end, documents_are_read, documents_begin, faults_have_places, faults_stay,
+    marks_stay, one_tree,
+};
 pub use mark::{Attr, Mark, Step};
 pub use reader::Reader;
 pub use writer::Writer;
