@@ -1,8 +1,7 @@
 -- Comments, instructions and CDATA sections are stepped over.
-use Rattle.std.proofs.Common.{◌≡◌, ℕ, ◌+◌, ◌≤◌, ◌<◌, ◌⊎◌, Bool, true, false, List, [], ◌∷◌, ◌++◌, length, refl, sym, ◌∙◌, ap, subst, arith, cond, inl, inr, append_assoc, append-nil}
-use Rattle.std.specs.Prelude.{◌==◌, ◌||◌, ◌&&◌, not, nat_lt, nat_le, codes, if◌then◌else◌}
-use Rattle.std.specs.List.{list_all}
-use Rattle.std.proofs.lemmas.Bool.{cases_eq, cases_Bool, or_cases, or_parts, and_parts, and_from, le-leb, and_left, and_right, not-true, leb-true, eqb-true, ne_eqb, true≢false, lt-ltb}
+use Rattle.std.proofs.Common.{◌≡◌, ℕ, ◌+◌, ◌≤◌, ◌<◌, Bool, true, false, List, [], ◌∷◌, ◌++◌, length, refl, sym, ◌∙◌, ap, subst, arith, inl, inr, append_assoc, append-nil}
+use Rattle.std.specs.Prelude.{◌==◌, ◌||◌, ◌&&◌, nat_le, codes, if◌then◌else◌}
+use Rattle.std.proofs.lemmas.Bool.{cases_eq, or_cases, or_parts, and_parts, and_from, le-leb, and_left, and_right, true≢false}
 use lib.Utf8.{encode, encodes, scalars}
 use lib.Utf8 as utf8
 use Rattle.mof_metamodel.specs.Characters.{is_storable_character, is_storable_text}
@@ -11,7 +10,7 @@ use Rattle.xmi_text.specs.Names.{is_far, is_name, goes_on}
 use Rattle.xmi_text.specs.States.{around, is_inside}
 use Rattle.xmi_text.specs.States as states
 use Rattle.xmi_text.specs.Steps as steps
-use Rattle.xmi_text.specs.Automaton.{ascii, admitted, unstorable, is_unstorable}
+use Rattle.xmi_text.specs.Automaton.{ascii, is_unstorable}
 use Rattle.xmi_text.specs.Markup.{begins, starts, contains, line_ends, IsUpTo, IsInstruction, is_name_character}
 use Rattle.xmi_text.specs.declared.utf_eight.Partial.{Partial}
 use Rattle.xmi_text.specs.declared.state.State.{State}
@@ -20,7 +19,7 @@ use Rattle.xmi_text.specs.declared.state.Mode.TheVariants as modes
 use Rattle.xmi_text.specs.declared.state.Brackets.{Brackets}
 use Rattle.xmi_text.specs.declared.state.Brackets.TheVariants.{None, One, Two}
 use Rattle.xmi_text.proofs.Walks.{Walk, Walk-none, Walk-append, Walk-to}
-use Rattle.xmi_text.proofs.Encoded.{at_mode, within_character, IsPlain, behind_whole, if_true, if_false}
+use Rattle.xmi_text.proofs.Encoded.{at_mode, IsPlain, behind_whole, if_true, if_false}
 use Rattle.xmi_text.proofs.Stepping.{quiet, other, storable_byte, storable_far, Walk-characters, ends_cases, line_ends-other}
 use Rattle.xmi_text.proofs.NameSteps.{high_admitted, far_parts, continues_low, begins_continues, name_run, passing, target_naming}
 

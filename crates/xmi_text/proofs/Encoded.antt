@@ -1,10 +1,10 @@
 -- The bytes of a character from U+0080 on are stepped over as one character.
-use Rattle.std.proofs.Common.{◌≡◌, ℕ, ◌+◌, ◌-◌, ◌*◌, ◌/◌, ◌%◌, ◌≤◌, ◌<◌, Bool, true, false, List, [], ◌∷◌, ◌++◌, refl, sym, ◌∙◌, ap, arith, cond, Option, None, Some, inl, inr, ⊎_elim}
+use Rattle.std.proofs.Common.{◌≡◌, ℕ, ◌+◌, ◌*◌, ◌/◌, ◌%◌, ◌≤◌, ◌<◌, Bool, true, false, List, [], ◌∷◌, refl, sym, ◌∙◌, ap, arith, cond, None, Some, inl, inr, ⊎_elim}
 use Rattle.std.specs.Prelude.{◌==◌, ◌||◌, ◌&&◌, not, nat_lt, nat_le, if◌then◌else◌}
-use Rattle.std.proofs.lemmas.Bool.{cases_lt, cases_eq, or_from, lt-ltb, le-ltb, le-leb, lt-leb, eq-eqb, ne_eqb}
+use Rattle.std.proofs.lemmas.Bool.{cases_lt, cases_eq, or_from, lt-ltb, le-ltb, le-leb, lt-leb, ne_eqb}
 use lib.Utf8.{encode, scalar_cases}
 use lib.Utf8 as utf8
-use Rattle.xmi_text.specs.ByteClass.{within, holds_in_name, continues_name}
+use Rattle.xmi_text.specs.ByteClass.{within, holds_in_name}
 use Rattle.xmi_text.specs.AttrNames.{has_name}
 use Rattle.xmi_text.specs.UtfEight.{begun, extended, added, opened, scalar, found}
 use Rattle.xmi_text.specs.States.{complete, cleared}
@@ -19,7 +19,7 @@ use Rattle.xmi_text.specs.declared.state.State.{State}
 use Rattle.xmi_text.specs.declared.state.Mode.{Mode}
 use Rattle.xmi_text.specs.declared.state.Mode.TheVariants.{Failed, Reference, Doctype, EndName, AttrName, Start}
 use Rattle.xmi_text.specs.declared.state.Ready.TheVariants.{Nothing}
-use Rattle.xmi_text.proofs.Walks.{Walk, Walk-none, Walk-step, Walk-last}
+use Rattle.xmi_text.proofs.Walks.{Walk, Walk-step, Walk-last}
 
 -- a state between two characters, with no mark that waits
 abbrev pub at_mode : State → Mode → Bool → State
@@ -270,15 +270,15 @@ far_four at s m r c f plain ok l h =
     (last s m r (at + 1 + 1 + 1) (128 + c % 64) c q plain (last_byte q c refl refl refl (omega arith) ok)))))
 
 -- how a character from U+0080 on is written
-encode_two : (c : ℕ) → 128 ≤ c → c < 2048 → encode c ≡ (192 + c / 64) ∷ (128 + c % 64) ∷ []
+pub encode_two : (c : ℕ) → 128 ≤ c → c < 2048 → encode c ≡ (192 + c / 64) ∷ (128 + c % 64) ∷ []
 unfolding encode
 encode_two c l h = rw (le-ltb c 128 l, lt-ltb c 2048 h) refl
 
-encode_three : (c : ℕ) → 2048 ≤ c → c < 65536 → encode c ≡ (224 + c / 4096) ∷ (128 + c / 64 % 64) ∷ (128 + c % 64) ∷ []
+pub encode_three : (c : ℕ) → 2048 ≤ c → c < 65536 → encode c ≡ (224 + c / 4096) ∷ (128 + c / 64 % 64) ∷ (128 + c % 64) ∷ []
 unfolding encode
 encode_three c l h = rw (le-ltb c 128 (omega arith), le-ltb c 2048 l, lt-ltb c 65536 h) refl
 
-encode_four : (c : ℕ) → 65536 ≤ c → encode c ≡ (240 + c / 262144) ∷ (128 + c / 4096 % 64) ∷ (128 + c / 64 % 64) ∷ (128 + c % 64) ∷ []
+pub encode_four : (c : ℕ) → 65536 ≤ c → encode c ≡ (240 + c / 262144) ∷ (128 + c / 4096 % 64) ∷ (128 + c / 64 % 64) ∷ (128 + c % 64) ∷ []
 unfolding encode
 encode_four c l = rw (le-ltb c 128 (omega arith), le-ltb c 2048 (omega arith), le-ltb c 65536 l) refl
 

@@ -10,7 +10,17 @@ pub mod Asides
 pub mod ValueSteps
 pub mod TagSteps
 pub mod Spelled
+pub mod EventTrees
+pub mod Written
 pub mod Sound
 pub mod Completing
 pub mod Ending
 pub mod Places
+pub mod Parsing
+pub mod Backward
+pub mod Backsteps
+pub mod Backtags
+pub mod Backends
+pub mod Backrefs
+pub mod Backfar
+pub mod Whole

@@ -1,44 +1,41 @@
 -- The bytes of a document are read as its tree.
-use Rattle.std.proofs.Common.{◌≡◌, ℕ, ◌+◌, ◌-◌, ◌≤◌, ◌<◌, ◌⊎◌, Bool, true, false, List, [], ◌∷◌, ◌++◌, length, map, take, refl, sym, ◌∙◌, ap, ap₂, subst, arith, cond, Option, None, Some, inl, inr, append_assoc, append-nil, length-append}
-use Rattle.std.specs.Prelude.{◌==◌, ◌||◌, ◌&&◌, not, nat_lt, codes, slice_get, encode_utf8_all, if◌then◌else◌}
+use Rattle.std.proofs.Common.{◌≡◌, ℕ, ◌+◌, ◌-◌, ◌<◌, Bool, true, false, List, [], ◌∷◌, ◌++◌, length, map, take, refl, sym, ◌∙◌, ap, subst, arith, None, Some, inl, inr, append_assoc, append-nil, length-append}
+use Rattle.std.specs.Prelude.{◌&&◌, not, nat_lt, codes, slice_get}
 use Rattle.std.specs.List.{list_all}
 use Rattle.std.proofs.Math.Seq.{take-append_seam}
-use Rattle.std.proofs.lemmas.Bool.{cases_eq, cases_Bool, and_parts, not-true, true≢false, lt-ltb, ltb-true}
+use Rattle.std.proofs.lemmas.Bool.{and_parts, not-true, true≢false, lt-ltb}
 use Rattle.std.proofs.lemmas.Str.{encode_ascii, encodes-append}
 use lib.Utf8.{encode, encodes, scalars}
-use lib.Utf8 as utf8
-use Rattle.mof_metamodel.specs.Characters.{is_blank, is_storable_text}
-use Rattle.xmi_text.specs.States.{start, complete, cleared, around, is_inside, front}
-use Rattle.xmi_text.specs.Automaton.{step, ascii, innermost, end_fault}
+use Rattle.mof_metamodel.specs.Characters.{is_blank}
+use Rattle.xmi_text.specs.States.{start, complete, cleared, around, front}
+use Rattle.xmi_text.specs.Automaton.{step, innermost, end_fault}
 use Rattle.xmi_text.specs.Reading.{state_from, marks_from, state_of, marks_of, end_fault_of}
-use Rattle.xmi_text.specs.Trees.{Event, Opens, Says, Closes, Tree, events, pair_of, told, Spells}
+use Rattle.xmi_text.specs.Trees.{Event, Opens, Says, Closes, Tree, pair_of, told, Spells}
 use Rattle.xmi_text.specs.Markup.{Piece, Characters, Referred, Cdata, Comment, Instruction, StartTag, EmptyTag, EndTag, Reference, reference_text, referred, IsPiece, IsUpTo, IsInstruction, IsAround, AllAround, is_characters, are_apart, starts, open_behind, Fits, Closing, IsRoot, Tag, IsTag, tag_text, opening, pair, piece_text, texts, said, all_said, say, joined, line_ends, is_reference, is_content_character, Document, IsDocument, order_mark, document_text, Markup}
 use Rattle.xmi_text.specs.Markup as markup
-use Rattle.xmi_text.specs.declared.utf_eight.Partial.{Partial}
 use Rattle.xmi_text.specs.declared.state.State.{State}
-use Rattle.xmi_text.specs.declared.state.Mode.{Mode}
 use Rattle.xmi_text.specs.declared.state.Mode.TheVariants as modes
 use Rattle.xmi_text.specs.declared.state.Within.TheVariants.{Content}
 use Rattle.xmi_text.proofs.Walks.{Walk, Walk-none, Walk-append, Walk-to}
-use Rattle.xmi_text.proofs.Encoded.{at_mode, behind_whole, if_true, if_false, Walk-over}
-use Rattle.xmi_text.proofs.Stepping.{quiet, content_run, Walk-characters, scalars-parts, blank_cases}
+use Rattle.xmi_text.proofs.Encoded.{at_mode, if_true, Walk-over}
+use Rattle.xmi_text.proofs.Stepping.{quiet, content_run, scalars-parts, blank_cases}
 use Rattle.xmi_text.proofs.NameSteps.{blank_step, blank_run}
 use Rattle.xmi_text.proofs.Asides.{level, comment_walk, instruction_walk, section_walk}
 use Rattle.xmi_text.proofs.ValueSteps.{reference_walk}
-use Rattle.xmi_text.proofs.TagSteps.{get_seam, Admits, Tagged, tag_walk, opened, open_end, emptied_tag, slash_walk, empty_end, closed, end_walk}
+use Rattle.xmi_text.proofs.TagSteps.{get_seam, Admits, tag_walk, opened, open_end, emptied_tag, slash_walk, empty_end, closed, end_walk}
 
 -- ## open elements
 
 -- the root first
-stacked : List (List ℕ) → List (List ℕ)
+unfoldable pub stacked : List (List ℕ) → List (List ℕ)
 stacked [] = []
 stacked (name ∷ names) = stacked names ++ name ∷ []
 
-abbrev some : List (List ℕ) → Bool
+abbrev pub some : List (List ℕ) → Bool
 some [] = false
 some (name ∷ names) = true
 
-length-stacked : (names : List (List ℕ)) → length (stacked names) ≡ length names
+pub length-stacked : (names : List (List ℕ)) → length (stacked names) ≡ length names
 unfolding stacked
 length-stacked [] = refl
 length-stacked (name ∷ names) = omega (arith, length-append (stacked names) (name ∷ []), length-stacked names)
@@ -48,18 +45,18 @@ record Stands (s : State) (names : List (List ℕ)) : Type 0 where
   elements : s.elements ≡ stacked names
   rooted : s.rooted ≡ true
 
-inside_by : (elements names : List (List ℕ)) → elements ≡ stacked names → nat_lt 0 (length elements) ≡ some names
+pub inside_by : (elements names : List (List ℕ)) → elements ≡ stacked names → nat_lt 0 (length elements) ≡ some names
 unfolding stacked
 inside_by elements [] e = ap (λ x. nat_lt 0 (length x)) e
 inside_by elements (name ∷ names) e = lt-ltb 0 (length elements) (omega (arith, ap length e, length-append (stacked names) (name ∷ [])))
 
-innermost_by : (elements names : List (List ℕ)) (name : List ℕ) → elements ≡ stacked (name ∷ names) → innermost elements ≡ Some name
+pub innermost_by : (elements names : List (List ℕ)) (name : List ℕ) → elements ≡ stacked (name ∷ names) → innermost elements ≡ Some name
 unfolding stacked
 innermost_by elements names name e =
     let last : length (stacked names ++ name ∷ []) - 1 ≡ length (stacked names) = omega (arith, length-append (stacked names) (name ∷ [])) in
     ap innermost e ∙ ap (slice_get (stacked names ++ name ∷ [])) last ∙ get_seam (stacked names) name []
 
-front_by : (elements names : List (List ℕ)) (name : List ℕ) → elements ≡ stacked (name ∷ names) → front elements ≡ stacked names
+pub front_by : (elements names : List (List ℕ)) (name : List ℕ) → elements ≡ stacked (name ∷ names) → front elements ≡ stacked names
 unfolding stacked
 front_by elements names name e =
     let last : length (stacked names ++ name ∷ []) - 1 ≡ length (stacked names) = omega (arith, length-append (stacked names) (name ∷ [])) in
@@ -70,13 +67,13 @@ around_by s names e = ap level (inside_by s.elements names e)
 
 -- ## characters that join
 
-say_none : (es : List Event) → say [] es ≡ es
+pub say_none : (es : List Event) → say [] es ≡ es
 say_none [] = refl
 say_none (Says cs ∷ es) = refl
 say_none (Opens name attrs ∷ es) = refl
 say_none (Closes ∷ es) = refl
 
-say_say : (xs ys : List ℕ) (es : List Event) → say xs (say ys es) ≡ say (xs ++ ys) es
+pub say_say : (xs ys : List ℕ) (es : List Event) → say xs (say ys es) ≡ say (xs ++ ys) es
 say_say xs ys (Says ds ∷ es) = ap (λ z. Says z ∷ es) (sym (append_assoc xs ys ds))
 say_say xs [] [] = ap (λ z. say z []) (sym (append-nil xs))
 say_say [] (y ∷ ys) [] = refl
@@ -365,7 +362,7 @@ root_piece at s r (StartTag tag) e f i ok = start_piece at s [] [] r tag e (admi
 root_piece at s r (EmptyTag tag) e f i ok = empty_piece at s [] [] r tag e (admits_root s e f) (scalars-parts (tag_text tag) (47 ∷ 62 ∷ []) ok).0 i
 root_piece at s r _ e f i ok = absurd i
 
-root_tag : (p : Piece) → IsRoot p → is_characters p ≡ false
+pub root_tag : (p : Piece) → IsRoot p → is_characters p ≡ false
 root_tag (StartTag tag) i = refl
 root_tag (EmptyTag tag) i = refl
 root_tag _ i = absurd i

@@ -1,27 +1,23 @@
 -- Characters are stepped over in the places of the grammar.
-use Rattle.std.proofs.Common.{◌≡◌, ℕ, ◌+◌, ◌≤◌, ◌<◌, ◌⊎◌, Bool, true, false, List, [], ◌∷◌, ◌++◌, length, refl, sym, ◌∙◌, ap, subst, arith, cond, None, inl, inr, append_assoc, append-nil}
-use Rattle.std.specs.Prelude.{◌==◌, ◌||◌, ◌&&◌, not, nat_lt, nat_le, if◌then◌else◌}
+use Rattle.std.proofs.Common.{◌≡◌, ℕ, ◌+◌, ◌≤◌, ◌<◌, ◌⊎◌, Bool, true, false, List, [], ◌∷◌, ◌++◌, length, refl, sym, ◌∙◌, ap, subst, arith, None, inl, inr, append_assoc, append-nil}
+use Rattle.std.specs.Prelude.{◌==◌, ◌||◌, ◌&&◌, not, nat_lt, nat_le}
 use Rattle.std.specs.List.{list_all}
-use Rattle.std.proofs.lemmas.Bool.{cases_lt, cases_eq, cases_Bool, or_from, or_cases, or_left, or_right, and_parts, and_from, and_left, and_right, not-true, lt-ltb, le-ltb, le-leb, lt-leb, leb-true, eq-eqb, eqb-true, ne_eqb, eqb-false}
+use Rattle.std.proofs.lemmas.Bool.{cases_lt, cases_eq, cases_Bool, or_from, or_cases, or_left, or_right, and_parts, and_from, not-true, lt-ltb, leb-true, eqb-true, ne_eqb}
 use Rattle.std.proofs.lemmas.Str.{encode_ascii, encodes-append}
 use lib.Utf8.{encode, encodes, scalars}
 use lib.Utf8 as utf8
 use Rattle.mof_metamodel.specs.Characters.{is_storable_character, is_blank}
-use Rattle.xmi_text.specs.ByteClass.{within, begins_name, continues_name, is_storable_byte}
-use Rattle.xmi_text.specs.Names.{is_far, is_name, goes_on}
+use Rattle.xmi_text.specs.ByteClass.{within, is_storable_byte}
 use Rattle.xmi_text.specs.States.{complete, cleared}
-use Rattle.xmi_text.specs.States as states
-use Rattle.xmi_text.specs.Steps as steps
-use Rattle.xmi_text.specs.Automaton.{step, ascii, lead, character_by, admitted, unstorable, whole, is_unstorable}
-use Rattle.xmi_text.specs.Reading.{state_from, marks_from}
+use Rattle.xmi_text.specs.Automaton.{ascii, lead, admitted, unstorable, is_unstorable}
 use Rattle.xmi_text.specs.Trees.{Event, told}
 use Rattle.xmi_text.specs.Markup.{is_content_character, line_ends}
 use Rattle.xmi_text.specs.declared.utf_eight.Partial.{Partial}
 use Rattle.xmi_text.specs.declared.state.State.{State}
 use Rattle.xmi_text.specs.declared.state.Mode.{Mode}
 use Rattle.xmi_text.specs.declared.state.Mode.TheVariants as modes
-use Rattle.xmi_text.proofs.Walks.{Walk, Walk-none, Walk-step, Walk-last, Walk-append, Walk-to}
-use Rattle.xmi_text.proofs.Encoded.{at_mode, within_character, IsPlain, plain_step, behind_whole, Far, far, if_true, if_false, Walk-over, within_from}
+use Rattle.xmi_text.proofs.Walks.{Walk, Walk-none, Walk-last, Walk-append, Walk-to}
+use Rattle.xmi_text.proofs.Encoded.{at_mode, within_character, IsPlain, plain_step, behind_whole, far, if_true, if_false, Walk-over, within_from}
 
 -- ## tests
 

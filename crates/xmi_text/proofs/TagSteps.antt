@@ -1,26 +1,25 @@
 -- Attributes and tags are stepped over.
-use Rattle.std.proofs.Common.{◌≡◌, ℕ, ◌+◌, ◌-◌, ◌≤◌, ◌<◌, ◌⊎◌, Bool, true, false, List, [], ◌∷◌, ◌++◌, length, map, take, refl, sym, ◌∙◌, ap, ap₂, subst, arith, cond, Option, None, Some, inl, inr, append_assoc, append-nil, length-append}
-use Rattle.std.specs.Prelude.{◌==◌, ◌||◌, ◌&&◌, not, nat_lt, nat_le, nat_eq, codes, slice_get, if◌then◌else◌}
+use Rattle.std.proofs.Common.{◌≡◌, ℕ, ◌+◌, ◌<◌, ◌⊎◌, Bool, true, false, List, [], ◌∷◌, ◌++◌, length, map, refl, sym, ◌∙◌, ap, subst, arith, Option, None, Some, inl, inr, append_assoc, append-nil, length-append}
+use Rattle.std.specs.Prelude.{◌==◌, ◌||◌, nat_lt, nat_eq, slice_get, if◌then◌else◌}
 use Rattle.std.specs.List.{list_all}
 use Rattle.std.specs.Cmp.Lexicographic.{pointwise}
-use Rattle.std.proofs.lemmas.Bool.{cases_eq, cases_lt, cases_Bool, or_cases, and_parts, not-true, eqb-true, true≢false, lt-ltb, le-ltb, eq-eqb}
+use Rattle.std.proofs.lemmas.Bool.{or_cases, and_parts, eqb-true, true≢false, eq-eqb}
 use Rattle.std.proofs.lemmas.Str.{encode_ascii, encodes-append}
 use Rattle.std.proofs.lemmas.Option.{slice_get_past}
 use lib.Utf8.{encode, encodes, scalars}
 use lib.Utf8 as utf8
 use Rattle.mof_metamodel.specs.Characters.{is_blank}
-use Rattle.xmi_text.specs.ByteClass.{begins_name, continues_name}
+use Rattle.xmi_text.specs.ByteClass.{begins_name}
 use Rattle.xmi_text.specs.AttrNames.{has_name, emptied}
 use Rattle.xmi_text.specs.Names.{is_far, is_name, goes_on}
 use Rattle.xmi_text.specs.States.{complete, cleared, around, is_inside, due}
 use Rattle.xmi_text.specs.States as states
 use Rattle.xmi_text.specs.Steps.{quote_byte}
 use Rattle.xmi_text.specs.Steps as steps
-use Rattle.xmi_text.specs.Automaton.{step, innermost, byte_of, wanted, end_name_by, name_behind, ascii, whole, admitted, unstorable, is_unstorable}
-use Rattle.xmi_text.specs.Trees.{Event, Opens, Says, Closes, pair_of, told}
+use Rattle.xmi_text.specs.Automaton.{step, innermost, byte_of, wanted, end_name_by, name_behind, ascii, unstorable, is_unstorable}
+use Rattle.xmi_text.specs.Trees.{Opens, Closes, pair_of}
 use Rattle.xmi_text.specs.Writing.{has}
-use Rattle.xmi_text.specs.Markup.{Attribute, IsAttribute, AreAttributes, attribute_text, attributes_text, value_text, value_of, pair, Part, is_literal, is_part, starts, are_apart, Tag, IsTag, tag_text, opening, say}
-use Rattle.xmi_text.specs.declared.error.TextKind.TheVariants as kinds
+use Rattle.xmi_text.specs.Markup.{Attribute, IsAttribute, AreAttributes, attribute_text, attributes_text, value_text, value_of, pair, Part, is_literal, is_part, starts, are_apart, Tag, IsTag, tag_text, say}
 use Rattle.xmi_text.specs.declared.mark.Attr.{Attr}
 use Rattle.xmi_text.specs.declared.utf_eight.Partial.{Partial}
 use Rattle.xmi_text.specs.declared.state.State.{State}
@@ -29,7 +28,7 @@ use Rattle.xmi_text.specs.declared.state.Mode.TheVariants as modes
 use Rattle.xmi_text.specs.declared.state.Quote.{Quote}
 use Rattle.xmi_text.specs.declared.state.Quote.TheVariants.{Double, Single}
 use Rattle.xmi_text.proofs.Walks.{Walk, Walk-none, Walk-append, Walk-last, Walk-to}
-use Rattle.xmi_text.proofs.Encoded.{at_mode, within_character, IsPlain, behind_whole, if_true, if_false, Walk-over}
+use Rattle.xmi_text.proofs.Encoded.{at_mode, within_character, behind_whole, if_true, if_false, Walk-over}
 use Rattle.xmi_text.proofs.Stepping.{quiet, other, one_character, Walk-characters, scalars-parts, blank_cases}
 use Rattle.xmi_text.proofs.NameSteps.{high_admitted, name_run, with_tag, tag_naming, with_name, attr_naming, blank_step, blank_run, blanks_run}
 use Rattle.xmi_text.proofs.Asides.{begins_low, begins_high}

@@ -1,21 +1,20 @@
 -- References and the values of attributes are stepped over.
-use Rattle.std.proofs.Common.{◌≡◌, ℕ, ◌+◌, ◌*◌, ◌-◌, ◌≤◌, ◌<◌, ◌⊎◌, Bool, true, false, List, [], ◌∷◌, ◌++◌, length, map, refl, sym, ◌∙◌, ap, subst, arith, cond, Option, None, Some, inl, inr, append_assoc, append-nil}
+use Rattle.std.proofs.Common.{◌≡◌, ℕ, ◌+◌, ◌*◌, ◌-◌, ◌≤◌, ◌<◌, ◌⊎◌, Bool, true, false, List, [], ◌∷◌, ◌++◌, length, map, refl, sym, ◌∙◌, ap, subst, arith, None, Some, inl, inr, append_assoc, append-nil}
 use Rattle.std.specs.Prelude.{◌==◌, ◌||◌, ◌&&◌, not, nat_lt, nat_le, codes, if◌then◌else◌}
 use Rattle.std.specs.List.{list_all}
 use Rattle.std.specs.Char.{digit_value}
 use Rattle.std.specs.Str.{all_scalars}
-use Rattle.std.proofs.lemmas.Bool.{cases_eq, cases_lt, cases_Bool, or_cases, or_parts, or_from, and_parts, and_left, and_right, not-true, leb-true, eqb-true, ne_eqb, true≢false, lt-ltb, le-ltb}
+use Rattle.std.proofs.lemmas.Bool.{cases_Bool, or_cases, or_from, and_parts, not-true, leb-true, true≢false, lt-ltb, le-ltb}
 use Rattle.std.proofs.lemmas.Str.{encode_ascii, encodes-append}
 use lib.Utf8.{encode, encodes, scalars, scalar_cases}
 use lib.Utf8 as utf8
 use Rattle.mof_metamodel.specs.Characters.{is_storable_character}
 use Rattle.xmi_text.specs.ByteClass.{within, is_storable_byte}
-use Rattle.xmi_text.specs.UtfEight.{scalar}
 use Rattle.xmi_text.specs.References.{extended, grown, digit, hexadecimal_digit, storable, kept, character}
 use Rattle.xmi_text.specs.States as states
 use Rattle.xmi_text.specs.Steps.{quote_byte}
-use Rattle.xmi_text.specs.Automaton.{step, ascii, admitted, unstorable, is_unstorable, reference_on, reference_to}
-use Rattle.xmi_text.specs.Markup.{Reference, Amp, Lt, Gt, Quot, Apos, Decimal, Hexadecimal, reference_text, referred, is_reference, is_number, is_digit, is_hexadecimal_digit, number, line_ends, spaced, is_value_character, Part, Literal, Named, is_part, is_literal, part_text, part_value, value_text, value_of, are_apart, starts}
+use Rattle.xmi_text.specs.Automaton.{ascii, reference_on, reference_to}
+use Rattle.xmi_text.specs.Markup.{Reference, Amp, Lt, Gt, Quot, Apos, Decimal, Hexadecimal, reference_text, referred, is_reference, is_number, is_digit, is_hexadecimal_digit, number, line_ends, spaced, is_value_character, Part, Literal, Named, is_part, is_literal, value_text, value_of, are_apart, starts}
 use Rattle.xmi_text.specs.declared.error.TextKind.TheVariants as kinds
 use Rattle.xmi_text.specs.declared.reference.Reference as reading
 use Rattle.xmi_text.specs.declared.reference.Reference.TheVariants as ref
@@ -28,7 +27,7 @@ use Rattle.xmi_text.specs.declared.state.Quote.TheVariants.{Double, Single}
 use Rattle.xmi_text.specs.declared.state.Within.{Within}
 use Rattle.xmi_text.specs.declared.state.Within.TheVariants.{Content, Value}
 use Rattle.xmi_text.proofs.Walks.{Walk, Walk-none, Walk-append, Walk-last, Walk-to}
-use Rattle.xmi_text.proofs.Encoded.{at_mode, within_character, IsPlain, behind_whole, if_true, if_false, is_scalar, Walk-over}
+use Rattle.xmi_text.proofs.Encoded.{at_mode, behind_whole, if_true, if_false, is_scalar, Walk-over}
 use Rattle.xmi_text.proofs.Stepping.{quiet, other, storable_byte, storable_far, Walk-characters, scalars-parts, ends_cases, line_ends-other}
 use Rattle.xmi_text.proofs.NameSteps.{high_admitted}
 

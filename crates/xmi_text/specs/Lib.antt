@@ -10,4 +10,5 @@ pub mod Names
 pub mod Writing
 pub mod Trees
 pub mod Markup
+pub mod Calls
 pub mod Completion

@@ -1,5 +1,8 @@
-ghost use Rattle.std.specs.Prelude.{◌≡◌, ◌==◌, length, [], ◌∷◌, ◌++◌, IsTrue, IfOk, OnOk, OnErr, None, chars, encode_utf8_all};
+ghost use Rattle.std.specs.Prelude.{◌≡◌, List, ◌==◌, length, [], ◌∷◌, ◌++◌, IsTrue, IfOk, OnOk, OnErr, None, chars, encode_utf8_all};
 ghost use Rattle.xmi_text.specs.Writing as writing;
+ghost use Rattle.xmi_text.specs.Calls.{Call, AllMay, wrote, meant};
+ghost use Rattle.xmi_text.specs.Markup.{joined, Markup};
+ghost use Rattle.xmi_text.specs.Trees.{Tree, events};
 ghost use Rattle.xmi_text.specs.Names.{is_name};
 ghost use Rattle.mof_metamodel.specs.Characters.{is_storable_text};
 
@@ -108,10 +111,11 @@ impl Writer {
         Ok(())
     }
 
-    /// The bytes of the whole text.
+    /// The bytes of the whole text. They are a document, of the tree that the calls mean which wrote it.
     pub fn into_bytes(self) -> Seq<u8>
         requires { IsTrue (writing.is_whole self) }
-        ensures { result ≡ encode_utf8_all self.text }
+        ensures text { result ≡ encode_utf8_all self.text }
+        ensures tree { (calls : List Call) → AllMay writing.nothing calls → wrote writing.nothing calls ≡ self → (tree : Tree) × (joined (meant calls) ≡ events tree) × Markup result tree }
     {
         let Writer { text, .. } = self;
         Seq::from_vec(text.into_string().into_bytes())
