@@ -5,6 +5,7 @@
 mod attributes;
 mod automaton;
 mod byte_class;
+mod document_laws;
 mod error;
 mod laws;
 mod mark;
@@ -15,6 +16,7 @@ mod steps;
 mod utf_eight;
 mod writer;
 
+pub use document_laws::one_document_tree;
 pub use error::{TextError, TextFault, TextKind};
 pub use laws::{
     completions_end, documents_are_read, documents_begin, faults_have_places, faults_stay,
