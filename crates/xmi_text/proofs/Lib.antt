@@ -16,3 +16,11 @@ pub mod Sound
 pub mod Completing
 pub mod Ending
 pub mod Places
+pub mod Parsing
+pub mod Backward
+pub mod Backsteps
+pub mod Backtags
+pub mod Backends
+pub mod Backrefs
+pub mod Backfar
+pub mod Whole

@@ -119,7 +119,7 @@ failed_cut : (p : Option Partial) (f : TextFault) → Cut p (modes.Failed f)
 failed_cut None f = tt
 failed_cut (Some p) f = tt
 
-bits_of : (m : Mode) (p : Partial) → Takes m → Cut (Some p) m → Bits p.rest p.low p.high
+pub bits_of : (m : Mode) (p : Partial) → Takes m → Cut (Some p) m → Bits p.rest p.low p.high
 bits_of (modes.Failed f) p t c = absurd t
 bits_of _ p t c = c.1
 
@@ -575,10 +575,13 @@ cleared_sound s (ready.Close at) p = record { rooted = p.rooted; stands = p.stan
 pub next_sound : (s : State) (at b : ℕ) → IsSound s → IsSound (cleared (step s at b))
 next_sound s at b p = let t : State = step s at b in cleared_sound t t.ready (step_sound s at b s.mode refl p p.cut p.stands)
 
-sound_from : (at : ℕ) (s : State) (bytes : List ℕ) → IsSound s → IsSound (state_from at s bytes)
+pub sound_from : (at : ℕ) (s : State) (bytes : List ℕ) → IsSound s → IsSound (state_from at s bytes)
 sound_from at s [] p = p
 sound_from at s (b ∷ bytes) p = sound_from (at + 1) (cleared (step s at b)) bytes (next_sound s at b p)
 
+pub sound_start : IsSound start
+sound_start = record { rooted = λ e. cc; stands = (refl, refl); cut = tt }
+
 pub sound_of : (bytes : List ℕ) → IsSound (state_of bytes)
 unfolding state_of
-sound_of bytes = sound_from 0 start bytes (record { rooted = λ e. cc; stands = (refl, refl); cut = tt })
+sound_of bytes = sound_from 0 start bytes sound_start

@@ -13,7 +13,7 @@ use Rattle.xmi_text.specs.declared.state.Ready.TheVariants.{Nothing, Data, Open,
 use Rattle.xmi_text.proofs.Reached.{state_of-append, marks_of-append}
 
 -- no mark waits behind the marks
-cleared_idle : (s : State) (r : Ready) → s.ready ≡ r → (cleared_by s r).ready ≡ Nothing
+pub cleared_idle : (s : State) (r : Ready) → s.ready ≡ r → (cleared_by s r).ready ≡ Nothing
 cleared_idle s Nothing e = e
 cleared_idle s Data e = refl
 cleared_idle s Open e = refl
@@ -45,7 +45,7 @@ cleared_same s e = ap (cleared_by s) e
 complete_none : (s : State) → s.ready ≡ Nothing → complete s ≡ []
 complete_none s e = ap (complete_by s) e
 
-stuck_state : (at : ℕ) (s : State) (f : TextFault) (bytes : List ℕ) → s.mode ≡ Failed f → s.ready ≡ Nothing → state_from at s bytes ≡ s
+pub stuck_state : (at : ℕ) (s : State) (f : TextFault) (bytes : List ℕ) → s.mode ≡ Failed f → s.ready ≡ Nothing → state_from at s bytes ≡ s
 stuck_state at s f [] e idle = refl
 stuck_state at s f (b ∷ bytes) e idle =
     ap (λ t. state_from (at + 1) (cleared t) bytes) (stuck s f at b e)

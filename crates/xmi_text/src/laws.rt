@@ -1,4 +1,4 @@
-ghost use Rattle.std.specs.Prelude.{◌≡◌, ℕ, ◌+◌, List, ◌++◌, take, None, Some};
+ghost use Rattle.std.specs.Prelude.{◌≡◌, ◌↔◌, ℕ, ◌+◌, List, ◌++◌, take, None, Some};
 ghost use Rattle.xmi_text.specs.Completion.{MayGoOn, completion};
 ghost use Rattle.xmi_text.specs.Reading.{state_of, marks_of, fault_of, end_fault_of};
 ghost use Rattle.xmi_text.specs.Markup.{Begins, Markup};
@@ -29,9 +29,14 @@ pub fn documents_are_read()
     ensures { (bytes : List ℕ) (tree : Tree) → Markup bytes tree → Spells bytes tree }
 {}
 
-/// Bytes that begin a document may go on to a whole text.
+/// Bytes that are read as a tree are those of a document of that tree.
+pub fn trees_are_documents()
+    ensures { (bytes : List ℕ) (tree : Tree) → Spells bytes tree → Markup bytes tree }
+{}
+
+/// The bytes that begin a document are those that may go on to a whole text.
 pub fn documents_begin()
-    ensures { (bytes : List ℕ) → Begins bytes → MayGoOn bytes }
+    ensures { (bytes : List ℕ) → Begins bytes ↔ MayGoOn bytes }
 {}
 
 /// Bytes that are whole, or end before the text does, are made whole by their completion, and no others are made

@@ -20,7 +20,7 @@ pub use document_laws::one_document_tree;
 pub use error::{TextError, TextFault, TextKind};
 pub use laws::{
     completions_end, documents_are_read, documents_begin, faults_have_places, faults_stay,
-    marks_stay, one_tree,
+    marks_stay, one_tree, trees_are_documents,
 };
 pub use mark::{Attr, Mark, Step};
 pub use reader::Reader;
