@@ -5,9 +5,13 @@
 mod breaches;
 mod conditions;
 mod description;
+#[cfg(test)]
+mod edit_tests;
 mod editor;
 mod examples;
 mod lookup;
+#[cfg(test)]
+mod metamodel_tests;
 mod mirrored;
 mod objects;
 mod printing;
