@@ -15,8 +15,6 @@ mod navigation;
 mod of_types;
 mod operation_names;
 mod signatures;
-#[cfg(test)]
-mod tests;
 mod variable;
 mod written;
 
@@ -25,6 +23,7 @@ pub use env::Env;
 pub use fault::{TypeError, TypeFault};
 pub use metas::Metas;
 pub use naming::{path_text, type_text};
+pub use navigation::navigated;
 pub use operation_names::{
     class_operation_named, collection_operation_named, iterator_named, operation_named,
 };
