@@ -15,6 +15,8 @@ mod navigation;
 mod of_types;
 mod operation_names;
 mod signatures;
+#[cfg(test)]
+mod tests;
 mod variable;
 mod written;
 
