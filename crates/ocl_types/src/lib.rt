@@ -25,6 +25,7 @@ pub use env::Env;
 pub use fault::{TypeError, TypeFault};
 pub use metas::Metas;
 pub use naming::{path_text, type_text};
+pub use navigation::navigated;
 pub use operation_names::{
     class_operation_named, collection_operation_named, iterator_named, operation_named,
 };

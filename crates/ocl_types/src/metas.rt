@@ -1,8 +1,14 @@
-ghost use Rattle.std.specs.Prelude.{◌≡◌, ◌<◌, ◌≤◌, [], ◌∷◌, ◌++◌, length, OnOk, OnErr};
+ghost use Rattle.std.specs.Prelude.{◌≡◌, ◌<◌, ◌≤◌, ◌↔◌, [], ◌∷◌, ◌++◌, length, Some, IsTrue, IfOk, MatchOption, OnOk, OnErr};
+ghost use Rattle.std.specs.Option.{option_map};
+ghost use Rattle.mof_metamodel.specs.Metamodels.{prop_count, prop_at, type_of};
+ghost use Rattle.ocl_types.specs.Conformance.{TypeConforms, IsUpper, AreUnrelated};
+ghost use Rattle.ocl_types.specs.Navigation.{value_type as type_of_value, values_of};
 
+use crate::conformance::{type_conforms, upper_type};
+use crate::navigation::{prop_type, values};
 use crate::of_types::is_over;
-use mof_metamodel::{MetaModel, NoMemory, Seq};
-use qv_syntax::Ty;
+use mof_metamodel::{MetaModel, NoMemory, PropId, Seq};
+use qv_syntax::{Ty, Values};
 use std::alloc::Global;
 use std::marker::Model;
 
@@ -73,6 +79,38 @@ impl Metas {
         ensures { result ≡ over self.now ty.now }
     {
         is_over(self.metas.as_slice(), ty)
+    }
+
+    /// Whether a type conforms to another: they are one, or classes of one metamodel of which the first conforms to the second.
+    pub fn conforms(&self, a: &Ty, b: &Ty) -> bool
+        ensures { IsTrue result ↔ TypeConforms self.now a.now b.now }
+    {
+        type_conforms(self.metas.as_slice(), a, b)
+    }
+
+    /// That of two types to which both conform, if there is one.
+    pub fn upper_type(&self, alloc: Global, a: &Ty, b: &Ty) -> Result<Option<Ty>, NoMemory>
+        ensures { IfOk result (λ t. MatchOption t (AreUnrelated self.now a.now b.now) (IsUpper self.now a.now b.now)) }
+    {
+        upper_type(alloc, self.metas.as_slice(), a, b)
+    }
+
+    /// What navigation to a property of a metamodel gives: one value, or a collection.
+    pub fn values(&self, m: u32, p: PropId) -> Values
+        requires within { m < length self.now }
+        requires prop { p.0 < prop_count (meta_at self.now m) }
+        ensures { result ≡ values_of (prop_at (meta_at self.now m) p.0) }
+    {
+        values(self.get(m), p)
+    }
+
+    /// The type of one value of a property of a metamodel.
+    pub fn value_type(&self, m: u32, p: PropId) -> Ty
+        requires within { m < length self.now }
+        requires prop { p.0 < prop_count (meta_at self.now m) }
+        ensures { option_map (type_of_value m) (type_of (meta_at self.now m) p.0) ≡ Some result }
+    {
+        prop_type(m, self.get(m), p)
     }
 
     /// The metamodels in their order.
