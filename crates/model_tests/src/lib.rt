@@ -18,6 +18,8 @@ mod printing;
 mod rearranged;
 mod refusal;
 mod script;
+#[cfg(test)]
+mod size_tests;
 
 pub use breaches::{printed_breach, printed_depth};
 pub use description::described;
