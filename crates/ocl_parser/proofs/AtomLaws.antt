@@ -1,16 +1,15 @@
 -- Numbers and strings, from their tokens.
-use Rattle.std.proofs.Common.{◌≡◌, ℕ, ◌+◌, Bool, true, false, List, Option, Some, slice_get, ℤ, ap, sym, ◌∙◌, refl}
+use Rattle.std.proofs.Common.{◌≡◌, ℕ, ◌+◌, Bool, true, false, List, Some, slice_get, ℤ, ◌∙◌, refl}
 use Rattle.std.specs.Option.{option_map_or}
 use Rattle.std.specs.Ordering.{int_eq}
 use Rattle.std.specs.Str.{bytes_eq, chars}
-use Rattle.mof_metamodel.specs.declared.span.Span.{Span}
 use Rattle.ql_lex.specs.declared.token.Token.{Token}
 use Rattle.ql_lex.specs.declared.token.TokenKind.{TokenKind}
 use Rattle.ql_lex.specs.declared.token.TokenKind.TheVariants as kinds
 use Rattle.ql_lex.specs.Lexed.{Lexeme}
 use Rattle.qv_syntax.specs.declared.expr.Expr.TheVariants.{Number, Str}
 use Rattle.ocl_parser.specs.Unquoting.{unquoted}
-use Rattle.ocl_parser.specs.Pieces.{stands, is_number, is_string, integer_of, span_at}
+use Rattle.ocl_parser.specs.Pieces.{is_number, is_string, integer_of, span_at}
 use Rattle.ocl_parser.specs.Grammar.{spelled}
 use Rattle.ocl_parser.proofs.TokenLaws.{stands_some, same_text}
 use Rattle.ocl_parser.proofs.ExprLaws.{number_spelled, string_spelled}

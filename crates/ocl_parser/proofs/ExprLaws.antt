@@ -1,5 +1,5 @@
 -- The tokens of an expression, form by form: what has been read of its parts spells the whole.
-use Rattle.std.proofs.Common.{◌≡◌, ℕ, ◌+◌, ◌<◌, ◌≤◌, Bool, true, false, ◌&&◌, nat_lt, nat_le, List, [], ◌∷◌, ◌++◌, length, map, Option, Some, None, ℤ, ap, sym, ◌∙◌, refl, arith}
+use Rattle.std.proofs.Common.{◌≡◌, ℕ, ◌+◌, ◌<◌, ◌≤◌, Bool, true, false, ◌&&◌, nat_lt, nat_le, List, [], ◌∷◌, length, map, Some, ℤ, ap, sym, ◌∙◌, refl, arith}
 use Rattle.std.specs.Prelude.{codes, ◌==◌}
 use Rattle.std.specs.List.{list_all}
 use Rattle.std.proofs.lemmas.Bool.Decides.{nat_tests}
@@ -16,8 +16,8 @@ use Rattle.qv_syntax.specs.declared.expr.Link.{Link}
 use Rattle.qv_syntax.specs.declared.expr.Step.{Step}
 use Rattle.qv_syntax.specs.declared.expr.Args.{Args}
 use Rattle.qv_syntax.specs.declared.expr.Args.TheOpen as of
-use Rattle.ocl_parser.specs.Pieces.{Piece, stands, is_sign, is_word, is_name, is_number, is_string, span_at, nested, each}
-use Rattle.ocl_parser.specs.Grammar.{Form, Joined, Given, form, joined, step_piece, given, args_step, expr_step, step_step, link_step, binding, spelled, spelled_links, spelled_steps, spelled_args, spelled_list, are_of_level, is_of_level, is_chain, chain_level, path, kind_word, type_of, bound, constant}
+use Rattle.ocl_parser.specs.Pieces.{Piece, stands, is_sign, is_word, is_name, is_number, is_string, span_at}
+use Rattle.ocl_parser.specs.Grammar.{Form, Joined, Given, form, joined, step_piece, given, args_step, expr_step, step_step, link_step, binding, spelled, spelled_links, spelled_steps, spelled_args, spelled_list, are_of_level, is_of_level, is_chain, chain_level, path, kind_word, bound, constant}
 use Rattle.ocl_parser.proofs.TokenLaws.{same_span}
 use Rattle.ocl_parser.proofs.PieceLaws.{nested_at}
 

@@ -1,12 +1,10 @@
 -- Laws about pieces of tokens.
-use Rattle.std.proofs.Common.{◌≡◌, ℕ, ◌+◌, ◌-◌, ◌<◌, ◌≤◌, nat_eq, Bool, true, false, ◌&&◌, nat_lt, nat_le, List, [], ◌∷◌, ◌++◌, length, map, Option, Some, None, ap, sym, ◌∙◌, refl, arith}
+use Rattle.std.proofs.Common.{◌≡◌, ℕ, ◌+◌, ◌-◌, ◌<◌, ◌≤◌, nat_eq, Bool, true, false, nat_lt, nat_le, List, [], ◌∷◌, ◌++◌, length, map, Option, Some, None, ap, ◌∙◌, refl, arith}
 use Rattle.std.specs.Prelude.{option_and_then, codes}
 use Rattle.std.proofs.lemmas.List.{map-append, length-map}
 use Rattle.std.proofs.lemmas.Bool.Decides.{nat_tests}
-use Rattle.mof_metamodel.specs.declared.span.Span.{Span}
 use Rattle.ql_lex.specs.Lexed.{Lexeme}
 use Rattle.qv_syntax.specs.declared.name.Name.{Name}
-use Rattle.qv_syntax.specs.declared.name.Path.{Path}
 use Rattle.ocl_parser.specs.Pieces.{Piece, ◌▸◌, stands, token, sign, is_sign, name, is_name, nested, spanned, span_at, each, separated}
 use Rattle.ocl_parser.specs.Grammar.{names, path}
 use Rattle.ocl_parser.proofs.TokenLaws.{same_span}

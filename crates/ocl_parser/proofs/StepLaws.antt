@@ -1,5 +1,5 @@
 -- The tokens of chains, calls and their arguments, form by form.
-use Rattle.std.proofs.Common.{◌≡◌, ℕ, ◌+◌, ◌<◌, Bool, true, false, ◌&&◌, nat_lt, List, [], ◌∷◌, ◌++◌, length, map, Option, Some, None, ap, sym, ◌∙◌, refl, arith}
+use Rattle.std.proofs.Common.{◌≡◌, ℕ, ◌+◌, ◌<◌, true, false, nat_lt, List, [], ◌∷◌, ◌++◌, length, map, Option, Some, ap, sym, ◌∙◌, refl, arith}
 use Rattle.std.specs.Prelude.{codes, ◌==◌}
 use Rattle.std.specs.List.{list_all}
 use Rattle.std.proofs.lemmas.Bool.Decides.{nat_tests}
@@ -19,7 +19,7 @@ use Rattle.qv_syntax.specs.declared.expr.Step.TheVariants.{Property, Dot, Arrow,
 use Rattle.qv_syntax.specs.declared.expr.Args.{Args, roll-Args, map-Args, fold-roll-Args}
 use Rattle.qv_syntax.specs.declared.expr.Args.TheVariants.{Values, Class, rolls-Values, rolls-Class}
 use Rattle.qv_syntax.specs.declared.expr.Args.TheOpen as of
-use Rattle.ocl_parser.specs.Pieces.{Piece, token, stands, is_sign, is_word, is_name, span_at, nested, each, separated}
+use Rattle.ocl_parser.specs.Pieces.{Piece, token, stands, is_sign, is_name, span_at, each, separated}
 use Rattle.ocl_parser.specs.Grammar.{Form, Joined, Given, form, joined, step_piece, given, args_step, expr_step, step_step, link_step, binding, spelled, spelled_links, spelled_step, spelled_steps, spelled_args, spelled_list, are_of_level, is_of_level, is_operator, path, declared_variable, takes_class}
 use Rattle.ocl_parser.proofs.TokenLaws.{same_span}
 use Rattle.ocl_parser.proofs.PieceLaws.{nested_at, token_taken, both, each_none, each_more, separated_none, separated_one, separated_more}

@@ -1,5 +1,5 @@
 -- Laws about single tokens.
-use Rattle.std.proofs.Common.{◌≡◌, ℕ, ◌-◌, Bool, true, false, List, [], ◌∷◌, map, slice_get, Option, Some, None, ap, sym, ◌∙◌, refl}
+use Rattle.std.proofs.Common.{◌≡◌, ℕ, ◌-◌, Bool, true, false, List, map, slice_get, Option, Some, None, ap, sym, ◌∙◌, refl}
 use Rattle.std.specs.Prelude.{option_map}
 use Rattle.std.specs.Option.{option_map_or}
 use Rattle.std.specs.Prelude.{◌==◌}
@@ -12,7 +12,7 @@ use Rattle.ql_lex.specs.declared.token.Token.{Token}
 use Rattle.ql_lex.specs.declared.token.TokenKind.{TokenKind}
 use Rattle.ql_lex.specs.declared.token.TokenKind.TheVariants as kinds
 use Rattle.ql_lex.specs.Lexed.{Lexeme}
-use Rattle.ocl_parser.specs.Pieces.{stands, is_sign, is_word, is_name, name_text, is_same_span, span_at, start_of, end_of}
+use Rattle.ocl_parser.specs.Pieces.{stands, is_sign, is_word, is_name, name_text, is_same_span, span_at, end_of}
 
 parted : (l : Option Lexeme) (token : Token) (text : List ℕ) → option_map (λ (l : Lexeme). l.token) l ≡ Some token → option_map (λ (l : Lexeme). l.text) l ≡ Some text
     → l ≡ Some (record { token = token; text = text })

@@ -8,7 +8,7 @@ use Rattle.qv_syntax.specs.declared.type_tree.Kind.{Kind}
 use Rattle.qv_syntax.specs.declared.type_tree.TypeTree.{TypeTree, fold-roll-TypeTree, roll-TypeTree, map-TypeTree}
 use Rattle.qv_syntax.specs.declared.type_tree.TypeTree.TheOpen as types
 use Rattle.qv_syntax.specs.declared.type_tree.TypeTree.TheVariants.{Str, Int, Bool, Named, Coll, rolls-Str, rolls-Int, rolls-Bool, rolls-Named, rolls-Coll}
-use Rattle.ocl_parser.specs.Pieces.{Piece, stands, is_sign, is_word, span_at, nested}
+use Rattle.ocl_parser.specs.Pieces.{Piece, stands, is_sign, is_word, span_at}
 use Rattle.ocl_parser.specs.Grammar.{path, kind_word, type_of, type_step}
 use Rattle.ocl_parser.proofs.TokenLaws.{same_span}
 use Rattle.ocl_parser.proofs.PieceLaws.{nested_at}

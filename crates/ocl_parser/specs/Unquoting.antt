@@ -1,5 +1,5 @@
 -- What strings and quoted names stand for.
-use Rattle.std.specs.Prelude.{ℕ, Bool, true, false, not, ◌==◌, if◌then◌else◌, List, [], ◌∷◌, ◌++◌, fold}
+use Rattle.std.specs.Prelude.{ℕ, true, false, not, ◌==◌, if◌then◌else◌, List, [], ◌∷◌, ◌++◌, fold}
 use Rattle.ocl_parser.specs.declared.texts.Unquoted.{Unquoted}
 
 -- the character that a character stands for behind a `\`
