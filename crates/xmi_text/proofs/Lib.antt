@@ -24,3 +24,4 @@ pub mod Backends
 pub mod Backrefs
 pub mod Backfar
 pub mod Whole
+pub mod Standing

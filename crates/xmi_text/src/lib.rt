@@ -7,6 +7,7 @@ mod automaton;
 mod byte_class;
 mod document_laws;
 mod error;
+mod fault_laws;
 mod laws;
 mod mark;
 mod reader;
@@ -18,6 +19,7 @@ mod writer;
 
 pub use document_laws::one_document_tree;
 pub use error::{TextError, TextFault, TextKind};
+pub use fault_laws::faults_stand;
 pub use laws::{
     completions_end, documents_are_read, documents_begin, faults_have_places, faults_stay,
     marks_stay, one_tree, trees_are_documents,

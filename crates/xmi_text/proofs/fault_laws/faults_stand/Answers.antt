@@ -1,0 +1,5 @@
+use Rattle.xmi_text.proofs.Standing.{bad_mark, open_tag}
+use Rattle.xmi_text.proofs.fault_laws.faults_stand.Goals as goal
+
+pub returns : goal.returns
+returns c = record { bad_mark = bad_mark; open_tag = open_tag }
