@@ -25,3 +25,4 @@ pub mod Backrefs
 pub mod Backfar
 pub mod Whole
 pub mod Standing
+pub mod Prefixes

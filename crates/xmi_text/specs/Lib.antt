@@ -13,3 +13,4 @@ pub mod Markup
 pub mod Calls
 pub mod Completion
 pub mod Faults
+pub mod FirstFault
