@@ -26,3 +26,7 @@ pub mod Backfar
 pub mod Whole
 pub mod Standing
 pub mod Prefixes
+pub mod Lettered
+pub mod Probes
+pub mod Told
+pub mod Nameless

@@ -646,7 +646,7 @@ Through : List ℕ → ℕ → Type 0
 Through bytes p = MayGoOn (take (p + 1) bytes) → ⊥
 
 -- a state that nothing makes whole
-no_more : (bytes : List ℕ) → Dead (state_of bytes) → MayGoOn bytes → ⊥
+pub no_more : (bytes : List ℕ) → Dead (state_of bytes) → MayGoOn bytes → ⊥
 unfolding end_fault_of
 no_more bytes d o =
     let more : List ℕ = completion (state_of bytes) in
@@ -654,7 +654,7 @@ no_more bytes d o =
     (ap (λ (t : State). end_fault t (length (bytes ++ more))) (sym (state_of-append bytes more)) ∙ completed bytes o)
 
 -- and one that something does
-goes_on : (bytes : List ℕ) → (Dead (state_of bytes) → ⊥) → MayGoOn bytes
+pub goes_on : (bytes : List ℕ) → (Dead (state_of bytes) → ⊥) → MayGoOn bytes
 unfolding end_fault_of
 goes_on bytes n =
     let s : State = state_of bytes in

@@ -1,14 +1,20 @@
 ghost use Rattle.xmi_text.specs.FirstFault.{IsNeverMissed, IsOutsideDocuments};
-ghost use Rattle.xmi_text.specs.declared.error.TextKind.TheVariants.{BadMark, OpenTag};
+ghost use Rattle.xmi_text.specs.declared.error.TextKind.TheVariants.{BadMark, BadName, OpenTag, Doctype, Limit};
 
 /// No fault of these kinds that stands comes before the one that is told.
 pub fn no_fault_is_missed()
     ensures bad_mark { IsNeverMissed BadMark }
+    ensures bad_name { IsNeverMissed BadName }
     ensures open_tag { IsNeverMissed OpenTag }
+    ensures doctype { IsNeverMissed Doctype }
+    ensures limit { IsNeverMissed Limit }
 {}
 
 /// No fault of these kinds stands in a document.
 pub fn documents_have_no_fault()
     ensures bad_mark { IsOutsideDocuments BadMark }
+    ensures bad_name { IsOutsideDocuments BadName }
     ensures open_tag { IsOutsideDocuments OpenTag }
+    ensures doctype { IsOutsideDocuments Doctype }
+    ensures limit { IsOutsideDocuments Limit }
 {}

@@ -1,5 +1,14 @@
+use Rattle.xmi_text.specs.declared.error.TextKind.TheVariants as kinds
 use Rattle.xmi_text.proofs.Prefixes.{marks_outside, open_outside}
+use Rattle.xmi_text.proofs.Told.{outside_documents}
+use Rattle.xmi_text.proofs.Nameless.{name_told, doctype_told, limit_told}
 use Rattle.xmi_text.proofs.first_fault_laws.documents_have_no_fault.Goals as goal
 
 pub returns : goal.returns
-returns c = record { bad_mark = marks_outside; open_tag = open_outside }
+returns c = record {
+  bad_mark = marks_outside;
+  bad_name = outside_documents kinds.BadName name_told;
+  open_tag = open_outside;
+  doctype = outside_documents kinds.Doctype doctype_told;
+  limit = outside_documents kinds.Limit limit_told;
+}
