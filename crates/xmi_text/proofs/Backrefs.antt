@@ -118,7 +118,7 @@ hash_hexadecimal b more next e f =
     let m = numbered_more markup.is_hexadecimal_digit 16 0 b d.0 more d.1 d.2 d.3 in
     (markup.Hexadecimal (b ∷ d.3.digits), ap (λ xs. 38 ∷ 35 ∷ 120 ∷ b ∷ xs) (sym d.3.is), and_from (not (length (b ∷ d.3.digits) == 0)) _ (some_digits b d.3.digits) (and_from (list_all markup.is_hexadecimal_digit (b ∷ d.3.digits)) _ m.all m.good))
 
-grows : (part : Reference) (b : ℕ) (more : List ℕ) (next : Reference) → refs.extended part b ≡ Some next → Finishes next more → Finishes part (b ∷ more)
+pub grows : (part : Reference) (b : ℕ) (more : List ℕ) (next : Reference) → refs.extended part b ≡ Some next → Finishes next more → Finishes part (b ∷ more)
 grows ref.Hash b more next e f = pick _ (b == 120) ref.Hexadecimal next _ e (shift ref.Hash ref.Hexadecimal b 120 more next (λ k. k) f) (λ g. hash_decimal b more next g f)
 grows (ref.Decimal n) b more next e f = let d = decimal_of n b more next e f in numbered_more markup.is_digit 10 n b d.0 more d.1 d.2 d.3
 grows ref.Hexadecimal b more next e f = hash_hexadecimal b more next e f
@@ -161,7 +161,7 @@ good_of n c e =
     let p = and_parts _ _ g in
     and_from (scalars (n ∷ [])) (is_storable_character n) (and_from (scalar n) true (sym (or_cond (nat_lt n 0xd800) (nat_le 0xe000 n && nat_lt n 0x110000)) ∙ p.0) refl) p.1
 
-ends : (part : Reference) (c : ℕ) → refs.character part ≡ Some c → Finishes part (59 ∷ [])
+pub ends : (part : Reference) (c : ℕ) → refs.character part ≡ Some c → Finishes part (59 ∷ [])
 ends ref.Amp c e = (markup.Amp, refl, refl)
 ends ref.Apos c e = (markup.Apos, refl, refl)
 ends ref.Lt c e = (markup.Lt, refl, refl)

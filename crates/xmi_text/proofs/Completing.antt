@@ -274,7 +274,7 @@ not_surrogate : (n : ℕ) → (n < 0xd800) ⊎ (0x10000 ≤ n) → 0xd800 ≤ n 
 not_surrogate n (inl l) low high = omega arith
 not_surrogate n (inr l) low high = omega arith
 
-storable_is : (n : ℕ) → 32 ≤ n → (n < 0xd800) ⊎ (0x10000 ≤ n) → n ≤ 0x10ffff → refs.storable n ≡ Some n
+pub storable_is : (n : ℕ) → 32 ≤ n → (n < 0xd800) ⊎ (0x10000 ≤ n) → n ≤ 0x10ffff → refs.storable n ≡ Some n
 storable_is n l h u =
     let valid : utf.scalar n ≡ Some n = cond-true _ _ _ (scalar_is n h u) in
     let kept : is_storable_character n ≡ true =
@@ -285,7 +285,7 @@ storable_is n l h u =
     ap refs.kept valid ∙ cond-true _ _ _ kept
 
 -- one more digit
-grown_more : (made : ℕ → Reference) (base n d : ℕ) → n ≤ 0x10ffff → n * base + d ≤ 0x10ffff → refs.grown made base n (Some d) ≡ Some (made (n * base + d))
+pub grown_more : (made : ℕ → Reference) (base n d : ℕ) → n ≤ 0x10ffff → n * base + d ≤ 0x10ffff → refs.grown made base n (Some d) ≡ Some (made (n * base + d))
 grown_more made base n d h k = cond-false (nat_lt 0x10ffff n) _ _ (le-ltb 0x10ffff n h) ∙ cond-false (nat_lt 0x10ffff (n * base + d)) _ _ (le-ltb 0x10ffff (n * base + d) k)
 
 digit_wholes : (s : State) (amp : ℕ) (place : Within) (part longer : Reference) (b : ℕ) (bytes : List ℕ) → (b == 59) ≡ false → refs.extended part b ≡ Some longer → Wholes (in_mode (record s { returned = false }) (modes.Reference amp place longer)) bytes → Wholes (in_mode s (modes.Reference amp place part)) (b ∷ bytes)
@@ -294,14 +294,14 @@ digit_wholes s amp place part longer b bytes f e w =
     next t (go t (modes.Reference amp place longer)) b bytes (λ at. cond-false (b == 59) _ _ f ∙ ap (automaton.reference_on t amp place) e) w
 
 -- numbers to a base
-record IsBase (made : ℕ → Reference) (base : ℕ) : Type 0 where
-  five : (n : ℕ) → refs.extended (made n) 53 ≡ refs.grown made base n (Some 5)
-  none : (n : ℕ) → refs.extended (made n) 48 ≡ refs.grown made base n (Some 0)
-  is : (n : ℕ) → refs.character (made n) ≡ refs.storable n
-  small : (n : ℕ) → n < 32 → (n * base + 5 ≤ 0x10ffff) × (32 ≤ (n * base + 5) * base + 0) × ((n * base + 5) * base + 0 < 0xd800)
-  large : (n : ℕ) → 0xd800 ≤ n → n < 0x10000 → (0x10000 ≤ n * base + 0) × (n * base + 0 ≤ 0x10ffff)
+pub record IsBase (made : ℕ → Reference) (base : ℕ) : Type 0 where
+  pub five : (n : ℕ) → refs.extended (made n) 53 ≡ refs.grown made base n (Some 5)
+  pub none : (n : ℕ) → refs.extended (made n) 48 ≡ refs.grown made base n (Some 0)
+  pub is : (n : ℕ) → refs.character (made n) ≡ refs.storable n
+  pub small : (n : ℕ) → n < 32 → (n * base + 5 ≤ 0x10ffff) × (32 ≤ (n * base + 5) * base + 0) × ((n * base + 5) * base + 0 < 0xd800)
+  pub large : (n : ℕ) → 0xd800 ≤ n → n < 0x10000 → (0x10000 ≤ n * base + 0) × (n * base + 0 ≤ 0x10ffff)
 
-decimals : IsBase ref.Decimal 10
+pub decimals : IsBase ref.Decimal 10
 decimals = record {
   five = λ n. refl;
   none = λ n. refl;
@@ -310,7 +310,7 @@ decimals = record {
   large = λ n h k. (omega arith, omega arith);
 }
 
-hexadecimals : IsBase ref.Digits 16
+pub hexadecimals : IsBase ref.Digits 16
 hexadecimals = record {
   five = λ n. refl;
   none = λ n. refl;
@@ -325,7 +325,7 @@ some_fault f e = cc
 some_none : (n : ℕ) → Some n ≡ None → ⊥
 some_none n e = cc
 
-surrogate : (n : ℕ) → n ≤ 0x10ffff → 32 ≤ n → refs.storable n ≡ None → (0xd800 ≤ n) × (n < 0x10000)
+pub surrogate : (n : ℕ) → n ≤ 0x10ffff → 32 ≤ n → refs.storable n ≡ None → (0xd800 ≤ n) × (n < 0x10000)
 surrogate n u l e =
     elim (cases_lt n 0xd800) [
       | inl low ↦ absurd (some_none n (sym (storable_is n l (inl low) u) ∙ e))

@@ -30,3 +30,4 @@ pub mod Lettered
 pub mod Probes
 pub mod Told
 pub mod Nameless
+pub mod Entities

@@ -1,11 +1,12 @@
 ghost use Rattle.xmi_text.specs.FirstFault.{IsNeverMissed, IsOutsideDocuments};
-ghost use Rattle.xmi_text.specs.declared.error.TextKind.TheVariants.{BadMark, BadName, OpenTag, Doctype, Limit};
+ghost use Rattle.xmi_text.specs.declared.error.TextKind.TheVariants.{BadMark, BadName, OpenTag, BadEntity, Doctype, Limit};
 
 /// No fault of these kinds that stands comes before the one that is told.
 pub fn no_fault_is_missed()
     ensures bad_mark { IsNeverMissed BadMark }
     ensures bad_name { IsNeverMissed BadName }
     ensures open_tag { IsNeverMissed OpenTag }
+    ensures bad_entity { IsNeverMissed BadEntity }
     ensures doctype { IsNeverMissed Doctype }
     ensures limit { IsNeverMissed Limit }
 {}
@@ -15,6 +16,7 @@ pub fn documents_have_no_fault()
     ensures bad_mark { IsOutsideDocuments BadMark }
     ensures bad_name { IsOutsideDocuments BadName }
     ensures open_tag { IsOutsideDocuments OpenTag }
+    ensures bad_entity { IsOutsideDocuments BadEntity }
     ensures doctype { IsOutsideDocuments Doctype }
     ensures limit { IsOutsideDocuments Limit }
 {}
