@@ -203,7 +203,7 @@ hexadecimal_low n b next e = let g = grown_is ref.Digits 16 n (refs.hexadecimal_
 only_low : (b w : ℕ) (made next : Reference) → w < 128 → refs.only b w made ≡ Some next → b < 128
 only_low b w made next h e = pick _ (b == w) made next None e (λ q _. low_by b w h q) (λ n. absurd (none_some next n))
 
-extended_low : (part : Reference) (b : ℕ) (next : Reference) → refs.extended part b ≡ Some next → b < 128
+pub extended_low : (part : Reference) (b : ℕ) (next : Reference) → refs.extended part b ≡ Some next → b < 128
 extended_low ref.Hash b next e = pick _ (b == 120) ref.Hexadecimal next _ e (λ q _. low_by b 120 (omega arith) q) (λ g. decimal_low 0 b next g)
 extended_low (ref.Decimal n) b next e = decimal_low n b next e
 extended_low ref.Hexadecimal b next e = hexadecimal_low 0 b next e

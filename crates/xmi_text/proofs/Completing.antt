@@ -67,7 +67,7 @@ none_open t r e at n =
     let outside : around t ≡ modes.Outside = ap (λ (xs : List (List ℕ)). cond (nat_lt 0 (length xs)) modes.Inside modes.Outside) e in
     subst (λ (m : Mode). end_fault (in_mode t m) n ≡ None) (sym outside) (ap (λ (b : Bool). cond b None (Some (fault_at kinds.OpenTag n))) r)
 
-get_drop : (bytes : List ℕ) (m : ℕ) → slice_get bytes m ≡ slice_get (drop m bytes) 0
+pub get_drop : (bytes : List ℕ) (m : ℕ) → slice_get bytes m ≡ slice_get (drop m bytes) 0
 get_drop [] zero = refl
 get_drop [] (suc m) = refl
 get_drop (b ∷ bytes) zero = refl
@@ -77,13 +77,13 @@ drop_none : (m : ℕ) → drop {A = ℕ} m [] ≡ []
 drop_none zero = refl
 drop_none (suc m) = refl
 
-drop_more : (bytes : List ℕ) (m : ℕ) → drop (m + 1) bytes ≡ drop 1 (drop m bytes)
+pub drop_more : (bytes : List ℕ) (m : ℕ) → drop (m + 1) bytes ≡ drop 1 (drop m bytes)
 drop_more [] zero = refl
 drop_more [] (suc m) = drop_none (suc m + 1)
 drop_more (b ∷ bytes) zero = refl
 drop_more (b ∷ bytes) (suc m) = let e : suc m + 1 ≡ suc (m + 1) = omega arith in ap (λ (k : ℕ). drop k (b ∷ bytes)) e ∙ drop_more bytes m
 
-byte_named : (name : Option (List ℕ)) (m : ℕ) → byte_of name m ≡ slice_get (encode_utf8_all (named name)) m
+pub byte_named : (name : Option (List ℕ)) (m : ℕ) → byte_of name m ≡ slice_get (encode_utf8_all (named name)) m
 byte_named None m = refl
 byte_named (Some name) m = refl
 
@@ -520,7 +520,7 @@ whole_wholes s _ p lead at c a u r h = absurd (true≢false (sym a))
 -- ---- the end of a cut character
 
 -- the least byte that may come
-least_extended : (lead low high : ℕ) (rest : Rest) → low ≤ high → utf.extended (record { lead = lead; low = low; high = high; rest = rest }) low ≡ utf.added (record { lead = lead; low = low; high = high; rest = rest }) rest low
+pub least_extended : (lead low high : ℕ) (rest : Rest) → low ≤ high → utf.extended (record { lead = lead; low = low; high = high; rest = rest }) low ≡ utf.added (record { lead = lead; low = low; high = high; rest = rest }) rest low
 least_extended lead low high rest h = cond-false (nat_lt low low || nat_lt high low) _ _ (or_from (nat_lt low low) (nat_lt high low) (le-ltb low low (omega arith)) (le-ltb high low h))
 
 -- the first character of 64

@@ -157,13 +157,13 @@ record Refuses (s : State) (n at : ℕ) (place : Within) (part : Reference) (xs 
 same_byte : (b : ℕ) → (b == b) ≡ true
 same_byte b = eq-eqb b b refl
 
-one_read : (b : ℕ) (xs : List ℕ) → begins (b ∷ []) (b ∷ xs) ≡ true
+pub one_read : (b : ℕ) (xs : List ℕ) → begins (b ∷ []) (b ∷ xs) ≡ true
 one_read b xs = ap (λ (q : Bool). q && true) (same_byte b)
 
-more_read : (b : ℕ) (ys xs : List ℕ) → begins ys xs ≡ true → begins (b ∷ ys) (b ∷ xs) ≡ true
+pub more_read : (b : ℕ) (ys xs : List ℕ) → begins ys xs ≡ true → begins (b ∷ ys) (b ∷ xs) ≡ true
 more_read b ys xs e = ap (λ (q : Bool). q && begins ys xs) (same_byte b) ∙ e
 
-more_agree : (b : ℕ) (ys xs : List ℕ) → Agree ys xs → Agree (b ∷ ys) (b ∷ xs)
+pub more_agree : (b : ℕ) (ys xs : List ℕ) → Agree ys xs → Agree (b ∷ ys) (b ∷ xs)
 more_agree b ys xs (inl e) = inl (more_read b ys xs e)
 more_agree b ys xs (inr e) = inr (more_read b xs ys e)
 

@@ -31,3 +31,4 @@ pub mod Probes
 pub mod Told
 pub mod Nameless
 pub mod Entities
+pub mod BadBytes

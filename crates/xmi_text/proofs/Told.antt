@@ -6,9 +6,10 @@ use Rattle.std.specs.Prelude.{◌==◌, ◌&&◌}
 use Rattle.xmi_text.specs.States.{cleared}
 use Rattle.xmi_text.specs.Automaton.{end_fault_by, fault_by, fault_at}
 use Rattle.xmi_text.specs.Reading.{state_from, state_of, fault_of, end_fault_of}
-use Rattle.xmi_text.specs.Markup.{begins}
+use Rattle.xmi_text.specs.Markup.{begins, Markup}
 use Rattle.xmi_text.specs.Faults.{May, Stands, IsMarkup, IsFaultAt, IsBefore}
 use Rattle.xmi_text.specs.FirstFault.{IsNeverMissed, IsOutsideDocuments}
+use Rattle.xmi_text.specs.Trees.{Tree}
 use Rattle.xmi_text.specs.declared.error.TextFault.{TextFault}
 use Rattle.xmi_text.specs.declared.error.TextKind.{TextKind}
 use Rattle.xmi_text.specs.declared.utf_eight.Partial.{Partial}
@@ -99,13 +100,17 @@ same_some f g e = cc
 no_some : (f : TextFault) → Some f ≡ None → ⊥
 no_some f e = cc
 
+pub told_first : (bytes : List ℕ) (kind : TextKind) (f : TextFault) (n : ℕ) → end_fault_of bytes ≡ Some f → IsTold bytes kind n → IsBefore f.at f.kind n kind
+told_first bytes kind f n e t = subst (λ (g : TextFault). IsBefore g.at g.kind n kind) (same_some f t.fault (sym e ∙ t.is)) t.first
+
+pub none_told : (bytes : List ℕ) (kind : TextKind) (tree : Tree) (n : ℕ) → Markup bytes tree → IsTold bytes kind n → ⊥
+none_told bytes kind tree n m t = no_some t.fault (sym t.is ∙ (markup_spelled bytes tree m).whole)
+
 pub never_missed : (kind : TextKind) → ((bytes : List ℕ) (n : ℕ) → IsFaultAt bytes kind n → IsTold bytes kind n) → IsNeverMissed kind
-never_missed kind tells bytes f n e b =
-    let t = tells bytes n b in
-    subst (λ (g : TextFault). IsBefore g.at g.kind n kind) (same_some f t.fault (sym e ∙ t.is)) t.first
+never_missed kind tells bytes f n e b = told_first bytes kind f n e (tells bytes n b)
 
 pub outside_documents : (kind : TextKind) → ((bytes : List ℕ) (n : ℕ) → IsFaultAt bytes kind n → IsTold bytes kind n) → IsOutsideDocuments kind
-outside_documents kind tells bytes tree n m b = let t = tells bytes n b in no_some t.fault (sym t.is ∙ (markup_spelled bytes tree m).whole)
+outside_documents kind tells bytes tree n m b = none_told bytes kind tree n m (tells bytes n b)
 
 -- a fault of this very kind, here
 pub told_here : (bytes : List ℕ) (kind : TextKind) (n place : ℕ) → place ≡ n → end_fault_of bytes ≡ Some (fault_at kind place) → IsTold bytes kind n

@@ -1,8 +1,9 @@
 ghost use Rattle.xmi_text.specs.FirstFault.{IsNeverMissed, IsOutsideDocuments};
-ghost use Rattle.xmi_text.specs.declared.error.TextKind.TheVariants.{BadMark, BadName, OpenTag, BadEntity, Doctype, Limit};
+ghost use Rattle.xmi_text.specs.declared.error.TextKind.TheVariants.{BadUtf8, BadMark, BadName, OpenTag, BadEntity, Doctype, Limit};
 
 /// No fault of these kinds that stands comes before the one that is told.
 pub fn no_fault_is_missed()
+    ensures bad_utf8 { IsNeverMissed BadUtf8 }
     ensures bad_mark { IsNeverMissed BadMark }
     ensures bad_name { IsNeverMissed BadName }
     ensures open_tag { IsNeverMissed OpenTag }
@@ -13,6 +14,7 @@ pub fn no_fault_is_missed()
 
 /// No fault of these kinds stands in a document.
 pub fn documents_have_no_fault()
+    ensures bad_utf8 { IsOutsideDocuments BadUtf8 }
     ensures bad_mark { IsOutsideDocuments BadMark }
     ensures bad_name { IsOutsideDocuments BadName }
     ensures open_tag { IsOutsideDocuments OpenTag }
