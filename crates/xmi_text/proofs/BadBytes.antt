@@ -280,16 +280,16 @@ high_bytes c l = elim (cases_lt c 2048) [
 ]
 
 -- the name's bytes that are left
-abbrev left_of : State → ℕ → List ℕ
+abbrev pub left_of : State → ℕ → List ℕ
 left_of s matched = drop matched (encodes (named (automaton.innermost s.elements)))
 
-wanted_none : (s : State) (matched : ℕ) → left_of s matched ≡ [] → wanted s matched ≡ None
+pub wanted_none : (s : State) (matched : ℕ) → left_of s matched ≡ [] → wanted s matched ≡ None
 wanted_none s matched e = byte_named (automaton.innermost s.elements) matched ∙ get_drop (encodes (named (automaton.innermost s.elements))) matched ∙ ap (λ (xs : List ℕ). slice_get xs 0) e
 
-wanted_some : (s : State) (matched d : ℕ) (more : List ℕ) → left_of s matched ≡ d ∷ more → wanted s matched ≡ Some d
+pub wanted_some : (s : State) (matched d : ℕ) (more : List ℕ) → left_of s matched ≡ d ∷ more → wanted s matched ≡ Some d
 wanted_some s matched d more e = byte_named (automaton.innermost s.elements) matched ∙ get_drop (encodes (named (automaton.innermost s.elements))) matched ∙ ap (λ (xs : List ℕ). slice_get xs 0) e
 
-abbrev in_name : State → ℕ → ℕ → State
+abbrev pub in_name : State → ℕ → ℕ → State
 in_name s less matched = here s (modes.EndName less matched) None
 
 -- a byte that differs

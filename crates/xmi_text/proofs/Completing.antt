@@ -42,15 +42,15 @@ use Rattle.xmi_text.proofs.Reached.{state_of-append}
 use Rattle.xmi_text.proofs.Staying.{idle_of}
 
 -- more bytes make a text whole
-abbrev Wholes : State → List ℕ → Type 0
+abbrev pub Wholes : State → List ℕ → Type 0
 Wholes s bytes = (at n : ℕ) → end_fault (state_from at s bytes) n ≡ None
 
 -- between two characters
-abbrev in_mode : State → Mode → State
+abbrev pub in_mode : State → Mode → State
 in_mode s m = record s { mode = m; partial = None; ready = ready.Nothing }
 
 -- they do so wherever these elements are open
-abbrev Then : List (List ℕ) → List ℕ → Type 0
+abbrev pub Then : List (List ℕ) → List ℕ → Type 0
 Then names bytes = (t : State) → t.rooted ≡ true → t.elements ≡ names → Wholes (in_mode t (around t)) bytes
 
 -- one byte, which leads to a state
@@ -109,7 +109,7 @@ end_begun : (s : State) (run : List ℕ) (less : ℕ) (bytes : List ℕ) → ((r
 end_begun s [] less bytes w = w []
 end_begun s (c ∷ run) less bytes w = w []
 
-slash_wholes : (s : State) (less : ℕ) (more : List ℕ) → is_inside s ≡ true → s.rooted ≡ true → Then (front s.elements) more → Wholes (in_mode s (modes.Less less)) (47 ∷ (encode_utf8_all (named (innermost s.elements)) ++ 62 ∷ more))
+pub slash_wholes : (s : State) (less : ℕ) (more : List ℕ) → is_inside s ≡ true → s.rooted ≡ true → Then (front s.elements) more → Wholes (in_mode s (modes.Less less)) (47 ∷ (encode_utf8_all (named (innermost s.elements)) ++ 62 ∷ more))
 slash_wholes s less more i r w =
     let t : State = in_mode s (modes.Less less) in
     let name : List ℕ = encode_utf8_all (named (innermost s.elements)) in
@@ -149,7 +149,7 @@ tags_then (name ∷ inner) outer more w t r e =
     subst (Wholes (in_mode t (around t))) (sym (append_assoc (end_tags inner) (end_tag name) more))
     (tags_then inner (outer ++ name ∷ []) (end_tag name ++ more) (tag_then outer name more w) t r (e ∙ sym (append_assoc outer (name ∷ []) inner)))
 
-all_ended : (names : List (List ℕ)) → Then names (end_tags names)
+pub all_ended : (names : List (List ℕ)) → Then names (end_tags names)
 all_ended names t r e = subst (Wholes (in_mode t (around t))) (append-nil (end_tags names)) (tags_then names [] [] none_open t r e)
 
 -- ---- the root element

@@ -32,3 +32,5 @@ pub mod Told
 pub mod Nameless
 pub mod Entities
 pub mod BadBytes
+pub mod Named
+pub mod WrongEnds
