@@ -15,7 +15,6 @@ use Rattle.xmi_text.specs.Reading.{state_from, state_of}
 use Rattle.xmi_text.specs.Completion.{MayGoOn, completion, completion_by, completion_in, least_rest, least, mark_rest, behind_character, elements_end, end_tags}
 use Rattle.xmi_text.specs.Markup.{begins, Begins, document_text}
 use Rattle.xmi_text.specs.Faults.{Stands, Agree, IsBadUtf8, IsBefore}
-use Rattle.xmi_text.specs.FirstFault.{IsNeverMissed, IsOutsideDocuments}
 use Rattle.xmi_text.specs.declared.error.TextFault.{TextFault}
 use Rattle.xmi_text.specs.declared.error.TextKind.TheVariants as kinds
 use Rattle.xmi_text.specs.declared.reference.Reference.{Reference}
@@ -39,7 +38,7 @@ use Rattle.xmi_text.proofs.Ending.{IsDead}
 use Rattle.xmi_text.proofs.Staying.{idle_of}
 use Rattle.xmi_text.proofs.Stepping.{scalars-parts}
 use Rattle.xmi_text.proofs.Whole.{whole_markup}
-use Rattle.xmi_text.proofs.Prefixes.{begins_goes_on, begins_before, document_begins}
+use Rattle.xmi_text.proofs.Prefixes.{IsNeverMissed, IsOutsideDocuments, begins_goes_on, begins_before, document_begins}
 use Rattle.xmi_text.proofs.Told.{IsTold, state_at, told, here_same, told_first, none_told}
 use Rattle.xmi_text.proofs.Probes.{here}
 use Rattle.xmi_text.specs.Writing.{named}
@@ -254,7 +253,7 @@ reference_found s amp n b place part xs None e h below =
 
 -- ---- in the name of an end tag
 
-all_high : List ℕ → Bool
+pub all_high : List ℕ → Bool
 all_high [] = true
 all_high (b ∷ bytes) = nat_le 128 b && all_high bytes
 
@@ -266,11 +265,11 @@ high_rest : (a : ℕ) (bytes : List ℕ) → all_high (a ∷ bytes) ≡ true →
 unfolding all_high
 high_rest a bytes e = (and_parts (nat_le 128 a) (all_high bytes) e).1
 
-high_first : (a : ℕ) (bytes : List ℕ) → all_high (a ∷ bytes) ≡ true → 128 ≤ a
+pub high_first : (a : ℕ) (bytes : List ℕ) → all_high (a ∷ bytes) ≡ true → 128 ≤ a
 unfolding all_high
 high_first a bytes e = leb-true 128 a (and_parts (nat_le 128 a) (all_high bytes) e).0
 
-high_bytes : (c : ℕ) → 128 ≤ c → all_high (encode c) ≡ true
+pub high_bytes : (c : ℕ) → 128 ≤ c → all_high (encode c) ≡ true
 high_bytes c l = elim (cases_lt c 2048) [
   | inl h ↦ subst (λ (bs : List ℕ). all_high bs ≡ true) (sym (encode_two c l h)) (high_rest 128 _ (high_rest 128 _ (high_four 128 128 (192 + c / 64) (128 + c % 64) (omega arith) (omega arith) (omega arith) (omega arith))))
   | inr h ↦ elim (cases_lt c 65536) [

@@ -34,3 +34,6 @@ pub mod Entities
 pub mod BadBytes
 pub mod Named
 pub mod WrongEnds
+pub mod Blanks
+pub mod Duplicates
+pub mod FirstFault

@@ -3,8 +3,7 @@ use Rattle.std.proofs.Common.{◌≡◌, ℕ, ◌+◌, ◌-◌, ◌≤◌, ◌�
 use Rattle.std.proofs.Math.Seq.{take-length, take-add}
 use Rattle.std.proofs.lemmas.Bool.{cases_lt}
 use Rattle.xmi_text.specs.Completion.{MayGoOn}
-use Rattle.xmi_text.specs.Faults.{rank}
-use Rattle.xmi_text.specs.FirstFault.{IsNeverMissed, IsOutsideDocuments}
+use Rattle.xmi_text.specs.Faults.{IsFaultAt, IsBefore, rank}
 use Rattle.xmi_text.specs.Markup.{Begins, Markup}
 use Rattle.xmi_text.specs.Reading.{end_fault_of}
 use Rattle.xmi_text.specs.Trees.{Tree}
@@ -15,6 +14,14 @@ use Rattle.xmi_text.proofs.Ending.{only_open}
 use Rattle.xmi_text.proofs.Places.{before_fault}
 use Rattle.xmi_text.proofs.Spelled.{markup_spelled}
 use Rattle.xmi_text.proofs.Whole.{goes_on_begins}
+
+-- where a fault of the kind stands, the told one comes before it, or is it
+abbrev pub IsNeverMissed : TextKind → Type 0
+IsNeverMissed kind = (bytes : List ℕ) (fault : TextFault) (n : ℕ) → end_fault_of bytes ≡ Some fault → IsFaultAt bytes kind n → IsBefore fault.at fault.kind n kind
+
+-- a fault of the kind stands in no document
+abbrev pub IsOutsideDocuments : TextKind → Type 0
+IsOutsideDocuments kind = (bytes : List ℕ) (tree : Tree) (n : ℕ) → Markup bytes tree → IsFaultAt bytes kind n → ⊥
 
 pub begins_goes_on : (bytes : List ℕ) → Begins bytes → MayGoOn bytes
 begins_goes_on bytes b = only_open bytes b.0 (markup_spelled _ b.1 b.2).whole

@@ -8,7 +8,6 @@ use Rattle.xmi_text.specs.Automaton.{end_fault_by, fault_by, fault_at}
 use Rattle.xmi_text.specs.Reading.{state_from, state_of, fault_of, end_fault_of}
 use Rattle.xmi_text.specs.Markup.{begins, Markup}
 use Rattle.xmi_text.specs.Faults.{May, Stands, IsMarkup, IsFaultAt, IsBefore}
-use Rattle.xmi_text.specs.FirstFault.{IsNeverMissed, IsOutsideDocuments}
 use Rattle.xmi_text.specs.Trees.{Tree}
 use Rattle.xmi_text.specs.declared.error.TextFault.{TextFault}
 use Rattle.xmi_text.specs.declared.error.TextKind.{TextKind}
@@ -25,7 +24,7 @@ use Rattle.xmi_text.proofs.Places.{no_more}
 use Rattle.xmi_text.proofs.Spelled.{markup_spelled}
 use Rattle.xmi_text.proofs.Whole.{goes_on_begins}
 use Rattle.xmi_text.proofs.Lettered.{lettered_wanted}
-use Rattle.xmi_text.proofs.Prefixes.{begins_goes_on}
+use Rattle.xmi_text.proofs.Prefixes.{IsNeverMissed, IsOutsideDocuments, begins_goes_on}
 use Rattle.xmi_text.proofs.Probes.{here, Ends, Marks, markup_here}
 
 -- ---- what stands at a place
@@ -106,11 +105,11 @@ told_first bytes kind f n e t = subst (λ (g : TextFault). IsBefore g.at g.kind 
 pub none_told : (bytes : List ℕ) (kind : TextKind) (tree : Tree) (n : ℕ) → Markup bytes tree → IsTold bytes kind n → ⊥
 none_told bytes kind tree n m t = no_some t.fault (sym t.is ∙ (markup_spelled bytes tree m).whole)
 
-pub never_missed : (kind : TextKind) → ((bytes : List ℕ) (n : ℕ) → IsFaultAt bytes kind n → IsTold bytes kind n) → IsNeverMissed kind
-never_missed kind tells bytes f n e b = told_first bytes kind f n e (tells bytes n b)
+pub told_never_missed : (kind : TextKind) → ((bytes : List ℕ) (n : ℕ) → IsFaultAt bytes kind n → IsTold bytes kind n) → IsNeverMissed kind
+told_never_missed kind tells bytes f n e b = told_first bytes kind f n e (tells bytes n b)
 
-pub outside_documents : (kind : TextKind) → ((bytes : List ℕ) (n : ℕ) → IsFaultAt bytes kind n → IsTold bytes kind n) → IsOutsideDocuments kind
-outside_documents kind tells bytes tree n m b = none_told bytes kind tree n m (tells bytes n b)
+pub told_outside : (kind : TextKind) → ((bytes : List ℕ) (n : ℕ) → IsFaultAt bytes kind n → IsTold bytes kind n) → IsOutsideDocuments kind
+told_outside kind tells bytes tree n m b = none_told bytes kind tree n m (tells bytes n b)
 
 -- a fault of this very kind, here
 pub told_here : (bytes : List ℕ) (kind : TextKind) (n place : ℕ) → place ≡ n → end_fault_of bytes ≡ Some (fault_at kind place) → IsTold bytes kind n

@@ -13,4 +13,3 @@ pub mod Markup
 pub mod Calls
 pub mod Completion
 pub mod Faults
-pub mod FirstFault

@@ -1,26 +1,18 @@
-ghost use Rattle.xmi_text.specs.FirstFault.{IsNeverMissed, IsOutsideDocuments};
-ghost use Rattle.xmi_text.specs.declared.error.TextKind.TheVariants.{BadUtf8, BadMark, BadName, OpenTag, WrongEnd, BadEntity, Doctype, Limit};
+ghost use Rattle.std.specs.Prelude.{◌≡◌, ℕ, List, Some};
+ghost use Rattle.xmi_text.specs.Faults.{IsFaultAt, IsBefore};
+ghost use Rattle.xmi_text.specs.Markup.{Markup};
+ghost use Rattle.xmi_text.specs.Reading.{end_fault_of};
+ghost use Rattle.xmi_text.specs.Trees.{Tree};
+ghost use Rattle.xmi_text.specs.declared.error.TextFault.{TextFault};
+ghost use Rattle.xmi_text.specs.declared.error.TextKind.{TextKind};
 
-/// No fault of these kinds that stands comes before the one that is told.
+/// The told fault comes before each fault that stands, or is it: the least place is told, and at one place the
+/// least kind.
 pub fn no_fault_is_missed()
-    ensures bad_utf8 { IsNeverMissed BadUtf8 }
-    ensures bad_mark { IsNeverMissed BadMark }
-    ensures bad_name { IsNeverMissed BadName }
-    ensures open_tag { IsNeverMissed OpenTag }
-    ensures wrong_end { IsNeverMissed WrongEnd }
-    ensures bad_entity { IsNeverMissed BadEntity }
-    ensures doctype { IsNeverMissed Doctype }
-    ensures limit { IsNeverMissed Limit }
+    ensures { (bytes : List ℕ) (fault : TextFault) (kind : TextKind) (n : ℕ) → end_fault_of bytes ≡ Some fault → IsFaultAt bytes kind n → IsBefore fault.at fault.kind n kind }
 {}
 
-/// No fault of these kinds stands in a document.
+/// No fault stands in a document.
 pub fn documents_have_no_fault()
-    ensures bad_utf8 { IsOutsideDocuments BadUtf8 }
-    ensures bad_mark { IsOutsideDocuments BadMark }
-    ensures bad_name { IsOutsideDocuments BadName }
-    ensures open_tag { IsOutsideDocuments OpenTag }
-    ensures wrong_end { IsOutsideDocuments WrongEnd }
-    ensures bad_entity { IsOutsideDocuments BadEntity }
-    ensures doctype { IsOutsideDocuments Doctype }
-    ensures limit { IsOutsideDocuments Limit }
+    ensures { (bytes : List ℕ) (tree : Tree) (kind : TextKind) (n : ℕ) → Markup bytes tree → IsFaultAt bytes kind n → ⊥ }
 {}
