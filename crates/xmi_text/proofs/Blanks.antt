@@ -1,6 +1,6 @@
 -- Where a name behind a blank may stand: in a text that goes on with any character, or as an attribute's.
-use Rattle.std.proofs.Common.{◌≡◌, ℕ, ◌+◌, ◌≤◌, ◌<◌, ◌⊎◌, Bool, true, false, cond, List, [], ◌∷◌, ◌++◌, length, refl, sym, ◌∙◌, ap, subst, arith, Option, Some, None, inl, inr, true≢false, append_assoc}
-use Rattle.std.proofs.lemmas.Bool.{and_parts, and_from, or_cases, or_left, or_right, leb-true, le-leb, lt-ltb, le-ltb, eqb-true, cond-true, cond-false, cases_lt, cases_Bool, both_ways, false_from_ne_true}
+use Rattle.std.proofs.Common.{◌≡◌, ℕ, ◌+◌, ◌≤◌, ◌<◌, Bool, true, false, cond, List, [], ◌∷◌, ◌++◌, length, refl, sym, ◌∙◌, ap, subst, arith, Option, Some, None, inl, inr, true≢false, append_assoc}
+use Rattle.std.proofs.lemmas.Bool.{and_parts, and_from, or_cases, or_right, leb-true, le-leb, lt-ltb, le-ltb, eqb-true, cond-true, cond-false, cases_lt, both_ways, false_from_ne_true}
 use Rattle.std.proofs.lemmas.Str.{encode_ascii}
 use Rattle.std.specs.Prelude.{nat_lt, nat_le, ◌==◌, ◌&&◌, ◌||◌, not}
 use lib.Utf8.{encode, encodes, scalar, scalars}
@@ -34,11 +34,12 @@ use Rattle.xmi_text.proofs.Ending.{Dead, IsDead}
 use Rattle.xmi_text.proofs.Encoded.{IsPlain, encode_two, encode_three, encode_four, far, behind_whole, within_character}
 use Rattle.xmi_text.proofs.NameSteps.{continues_low, far_parts, low_name, high_name, begins_continues}
 use Rattle.xmi_text.proofs.Stepping.{blank_cases}
-use Rattle.xmi_text.proofs.Lettered.{is_letter}
+use Rattle.xmi_text.proofs.Lettered.{is_letter, NameCharacter, goes_parts, starts_name}
 use Rattle.xmi_text.proofs.Reached.{state_from-append}
 use Rattle.xmi_text.proofs.BadBytes.{all_high, high_first, high_bytes}
 use Rattle.xmi_text.proofs.Told.{here_same}
-use Rattle.xmi_text.proofs.Probes.{here, Ends, ends_on, broken, wanted_by, no_letter}
+use Rattle.xmi_text.proofs.Nameless.{no_start}
+use Rattle.xmi_text.proofs.Probes.{here, Ends, ends_on, broken, cdata_other, no_letter}
 
 every : (P : ℕ → Type 0) → P 32 → P 9 → P 10 → P 13 → (b : ℕ) → characters.is_blank b ≡ true → P b
 every P space tab line return b e = elim (blank_cases b e) [
@@ -72,10 +73,6 @@ After s at b m c = Blanked (cleared (step_by (here s m c) at b m))
 both : (b : Bool) (x y : State) → Blanked (cleared x) → Blanked (cleared y) → Blanked (cleared (cond b x y))
 both true x y p q = p
 both false x y p q = q
-
-cdata_other : (matched b : ℕ) → (67 == b) ≡ false → (68 == b) ≡ false → (65 == b) ≡ false → (84 == b) ≡ false → (91 == b) ≡ false → steps.is_wanted (steps.cdata_byte matched) b ≡ false
-cdata_other matched b c d a t k =
-    wanted_by (matched == 1) _ _ b c (wanted_by (matched == 2) _ _ b d (wanted_by (matched == 3) _ _ b a (wanted_by (matched == 4) _ _ b t (wanted_by (matched == 5) _ _ b a (wanted_by (matched == 6) _ _ b k refl)))))
 
 blank_no_reference : (part : Reference) (b : ℕ) → characters.is_blank b ≡ true → refs.extended part b ≡ None
 blank_no_reference ref.Hash b e = every (λ x. refs.extended ref.Hash x ≡ None) refl refl refl refl b e
@@ -304,9 +301,6 @@ text_plain m h = absurd h
 text_here : (s : State) → InText s → here s s.mode None ≡ s
 text_here s p = ap (here s s.mode) (sym p.uncut) ∙ here_same s p.idle
 
-abbrev NameCharacter : ℕ → Type 0
-NameCharacter c = (c ≡ 58) ⊎ ((continues_name c || is_far c) ≡ true)
-
 low_calm : (c : ℕ) → NameCharacter c → c < 128 → Calm c
 low_calm c (inl e) h = subst Calm (sym e) colon_calm
 low_calm c (inr e) h = continues_calm c (low_name c e h)
@@ -329,14 +323,6 @@ text_character s at c p ok n = elim (cases_lt c 128) [
       subst InText (sym (ap (λ (t : State). state_from at t (encode c)) (sym (text_here s p)) ∙ w.walk.state)) (far_text s s.mode s.returned w.p w.place c p.mode (far_calm c n h))
 ]
 
-goes_parts : (k : Bool) (c : ℕ) (cs : List ℕ) → goes_on k (c ∷ cs) ≡ true → NameCharacter c × (had : Bool) × (goes_on had cs ≡ true)
-goes_parts k c cs e = elim (cases_Bool (c == 58)) [
-  | inl q ↦ (inl (eqb-true c 58 q), true, (and_parts (not k) (goes_on true cs) (sym (cond-true (c == 58) (not k && goes_on true cs) ((continues_name c || is_far c) && goes_on k cs) q) ∙ e)).1)
-  | inr q ↦
-      let r = and_parts (continues_name c || is_far c) (goes_on k cs) (sym (cond-false (c == 58) (not k && goes_on true cs) ((continues_name c || is_far c) && goes_on k cs) q) ∙ e) in
-      (inr r.0, k, r.1)
-]
-
 text_characters : (cs : List ℕ) (s : State) (at : ℕ) (k : Bool) → InText s → scalars cs ≡ true → goes_on k cs ≡ true → InText (state_from at s (encodes cs))
 text_characters [] s at k p ok e = p
 text_characters (c ∷ cs) s at k p ok e =
@@ -344,12 +330,6 @@ text_characters (c ∷ cs) s at k p ok e =
     let g = goes_parts k c cs e in
     subst InText (sym (state_from-append (encode c) (encodes cs) at s))
     (text_characters cs (state_from at s (encode c)) (at + length (encode c)) g.1 (text_character s at c p q.0 g.0) q.1 g.2)
-
-starts_name : (c : ℕ) → (begins_name c || is_far c) ≡ true → NameCharacter c
-starts_name c e = inr (elim (or_cases (begins_name c) (is_far c) e) [
-  | inl b ↦ or_left (continues_name c) (is_far c) (begins_continues c b)
-  | inr f ↦ or_right (continues_name c) (is_far c) f
-])
 
 -- a name and a `=`
 text_name : (name : List ℕ) (s : State) (at : ℕ) → InText s → scalars name ≡ true → is_name name ≡ true → InText (state_from at s (encodes name ++ 61 ∷ []))
@@ -389,9 +369,6 @@ Closed _ = ⊥
 
 no_blank : (b : ℕ) → begins_name b ≡ true → is_blank b ≡ false
 no_blank b h = false_from_ne_true (is_blank b) (λ e. both_ways (begins_name b) (every (λ x. begins_name x ≡ false) refl refl refl refl b e) h)
-
-no_start : (b c : ℕ) → begins_name b ≡ true → begins_name c ≡ false → (b == c) ≡ false
-no_start b c h n = false_from_ne_true (b == c) (λ e. true≢false (sym h ∙ ap begins_name (eqb-true b c e) ∙ n))
 
 fails_dead : (s t : State) (m : Mode) (at : ℕ) → t ≡ fail (here s m None) kinds.BadMark at → Dead (cleared t)
 fails_dead s t m at e = subst (λ (u : State). Dead (cleared u)) (sym e) tt

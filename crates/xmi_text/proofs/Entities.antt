@@ -6,7 +6,6 @@ use Rattle.xmi_text.specs.AttrNames.{has_name}
 use Rattle.xmi_text.specs.References as refs
 use Rattle.xmi_text.specs.States as states
 use Rattle.xmi_text.specs.States.{go, fail, is_inside, cleared, cleared_by}
-use Rattle.xmi_text.specs.Steps as steps
 use Rattle.xmi_text.specs.Automaton as automaton
 use Rattle.xmi_text.specs.Automaton.{step_by, fault_at, wanted}
 use Rattle.xmi_text.specs.Reading.{state_from}
@@ -30,7 +29,7 @@ use Rattle.xmi_text.proofs.Staying.{idle_of}
 use Rattle.xmi_text.proofs.Backward.{Finishes}
 use Rattle.xmi_text.proofs.Backrefs.{grows, ends}
 use Rattle.xmi_text.proofs.Lettered.{is_letter, lettered_wanted}
-use Rattle.xmi_text.proofs.Probes.{here, Ends, EndsIn, ends_on, both_end, cut_ends, wanted_by, no_letter}
+use Rattle.xmi_text.proofs.Probes.{here, Ends, EndsIn, ends_on, both_end, cut_ends, cdata_other, no_letter}
 use Rattle.xmi_text.proofs.Told.{state_at, stands_within, may_go, may_not, told, told_here, here_same, begins_split, IsTold}
 
 -- ---- a place where a reference may stand
@@ -39,11 +38,6 @@ record Refers (s : State) (m : Mode) (c : Option Partial) (at : ℕ) : Type 0 wh
   uncut : c ≡ None
   place : Within
   step : step_by (here s m c) at 38 m ≡ go (here s m c) (modes.Reference at place ref.Begun)
-
-amp_not_wanted : (matched : ℕ) → steps.is_wanted (steps.cdata_byte matched) 38 ≡ false
-amp_not_wanted matched =
-    wanted_by (matched == 1) _ _ 38 refl (wanted_by (matched == 2) _ _ 38 refl (wanted_by (matched == 3) _ _ 38 refl
-    (wanted_by (matched == 4) _ _ 38 refl (wanted_by (matched == 5) _ _ 38 refl (wanted_by (matched == 6) _ _ 38 refl refl)))))
 
 amp_no_reference : (part : Reference) → refs.extended part 38 ≡ None
 amp_no_reference ref.Hash = refl
@@ -76,7 +70,7 @@ reference_place s modes.CommentDash None at z l a d = absurd d
 reference_place s modes.CommentDashes None at z l a d = absurd d
 reference_place s (modes.CdataStart matched) None at z l a d =
     let t : State = here s (modes.CdataStart matched) None in
-    absurd (a (subst (λ (q : Bool). EndsIn (at + 1) (108 ∷ 116 ∷ 59 ∷ []) (cond (not q) (fail t kinds.BadMark at) (cond (nat_lt matched 6) (go t (modes.CdataStart (matched + 1))) (go t states.cdata)))) (sym (amp_not_wanted matched)) tt))
+    absurd (a (subst (λ (q : Bool). EndsIn (at + 1) (108 ∷ 116 ∷ 59 ∷ []) (cond (not q) (fail t kinds.BadMark at) (cond (nat_lt matched 6) (go t (modes.CdataStart (matched + 1))) (go t states.cdata)))) (sym (cdata_other matched 38 refl refl refl refl refl)) tt))
 reference_place s (modes.Cdata held) None at z l a d = absurd d
 reference_place s modes.Question None at z l a d = absurd (a tt)
 reference_place s (modes.Target colon) None at z l a d = absurd d

@@ -127,7 +127,7 @@ cleared_mode s (ready.Close at) = refl
 too_deep : (s : State) (less at c : ℕ) → is_inside s ≡ true → nat_lt (length s.elements) 256 ≡ false → (steps.begin_element s less at c).mode ≡ modes.Failed (fault_at kinds.Limit less)
 too_deep s less at c i f = ap (λ (u : State). u.mode) (cond-true (is_inside s) _ _ i ∙ cond-false (nat_lt (length s.elements) 256) _ (steps.too_deep s less) f)
 
-no_start : (b c : ℕ) → begins_name b ≡ true → begins_name c ≡ false → (b == c) ≡ false
+pub no_start : (b c : ℕ) → begins_name b ≡ true → begins_name c ≡ false → (b == c) ≡ false
 no_start b c h n = false_from_ne_true (b == c) (λ e. true≢false (sym h ∙ ap begins_name (eqb-true b c e) ∙ n))
 
 low_deep : (s : State) (less b : ℕ) → begins_name b ≡ true → is_inside s ≡ true → nat_lt (length s.elements) 256 ≡ false → (state_from (less + 1) (less_at s less) (b ∷ [])).mode ≡ modes.Failed (fault_at kinds.Limit less)

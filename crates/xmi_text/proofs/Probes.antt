@@ -62,9 +62,14 @@ broken p b h z = cond-true (nat_lt b p.low || nat_lt p.high b) _ _ (or_left (nat
 pub cut_ends : (s : State) (m : Mode) (p : Partial) (at b : ℕ) (bytes : List ℕ) → b < 128 → Bits p.rest p.low p.high → EndsIn (at + 1) bytes (automaton.partial_by (here s m (Some p)) m p.lead at growths.Broken) → EndsIn (at + 1) bytes (automaton.partial (here s m (Some p)) m p at b)
 cut_ends s m p at b bytes h z d = subst (λ (g : Growth). EndsIn (at + 1) bytes (automaton.partial_by (here s m (Some p)) m p.lead at g)) (sym (broken p b h z)) d
 
-pub wanted_by : (b : Bool) (x y : Option ℕ) (c : ℕ) → steps.is_wanted x c ≡ false → steps.is_wanted y c ≡ false → steps.is_wanted (cond b x y) c ≡ false
+wanted_by : (b : Bool) (x y : Option ℕ) (c : ℕ) → steps.is_wanted x c ≡ false → steps.is_wanted y c ≡ false → steps.is_wanted (cond b x y) c ≡ false
 wanted_by true x y c p q = p
 wanted_by false x y c p q = q
+
+-- a byte of no `[CDATA[`
+pub cdata_other : (matched b : ℕ) → (67 == b) ≡ false → (68 == b) ≡ false → (65 == b) ≡ false → (84 == b) ≡ false → (91 == b) ≡ false → steps.is_wanted (steps.cdata_byte matched) b ≡ false
+cdata_other matched b c d a t k =
+    wanted_by (matched == 1) _ _ b c (wanted_by (matched == 2) _ _ b d (wanted_by (matched == 3) _ _ b a (wanted_by (matched == 4) _ _ b t (wanted_by (matched == 5) _ _ b a (wanted_by (matched == 6) _ _ b k refl)))))
 
 -- ---- markup
 
@@ -74,11 +79,6 @@ no_letter w b h n e = true≢false (sym h ∙ ap is_letter (eqb-true w b e) ∙ 
 pub record Marks (s : State) (m : Mode) (c : Option Partial) (at : ℕ) : Type 0 where
   pub uncut : c ≡ None
   pub step : step_by (here s m c) at 60 m ≡ go (here s m c) (modes.Less at)
-
-less_not_wanted : (matched : ℕ) → steps.is_wanted (steps.cdata_byte matched) 60 ≡ false
-less_not_wanted matched =
-    wanted_by (matched == 1) _ _ 60 refl (wanted_by (matched == 2) _ _ 60 refl (wanted_by (matched == 3) _ _ 60 refl
-    (wanted_by (matched == 4) _ _ 60 refl (wanted_by (matched == 5) _ _ 60 refl (wanted_by (matched == 6) _ _ 60 refl refl)))))
 
 less_no_reference : (part : Reference) → refs.extended part 60 ≡ None
 less_no_reference ref.Hash = refl
@@ -111,7 +111,7 @@ markup_here s modes.CommentDash None at z l a d = absurd d
 markup_here s modes.CommentDashes None at z l a d = absurd d
 markup_here s (modes.CdataStart matched) None at z l a d =
     let t : State = here s (modes.CdataStart matched) None in
-    absurd (a (subst (λ (q : Bool). EndsIn (at + 1) (33 ∷ 45 ∷ 45 ∷ []) (cond (not q) (fail t kinds.BadMark at) (cond (nat_lt matched 6) (go t (modes.CdataStart (matched + 1))) (go t states.cdata)))) (sym (less_not_wanted matched)) tt))
+    absurd (a (subst (λ (q : Bool). EndsIn (at + 1) (33 ∷ 45 ∷ 45 ∷ []) (cond (not q) (fail t kinds.BadMark at) (cond (nat_lt matched 6) (go t (modes.CdataStart (matched + 1))) (go t states.cdata)))) (sym (cdata_other matched 60 refl refl refl refl refl)) tt))
 markup_here s (modes.Cdata held) None at z l a d = absurd d
 markup_here s modes.Question None at z l a d = absurd (a tt)
 markup_here s (modes.Target colon) None at z l a d = absurd d
@@ -139,11 +139,6 @@ markup_here s m (Some p) at z l a d = let k = z.cut in absurd (a (cut_ends s m p
 
 abbrev Colons : State → Mode → Option Partial → ℕ → Type 0
 Colons s m c at = step_by (here s m c) at 58 m ≡ fail (here s m c) kinds.BadName at
-
-colon_not_wanted : (matched : ℕ) → steps.is_wanted (steps.cdata_byte matched) 46 ≡ false
-colon_not_wanted matched =
-    wanted_by (matched == 1) _ _ 46 refl (wanted_by (matched == 2) _ _ 46 refl (wanted_by (matched == 3) _ _ 46 refl
-    (wanted_by (matched == 4) _ _ 46 refl (wanted_by (matched == 5) _ _ 46 refl (wanted_by (matched == 6) _ _ 46 refl refl)))))
 
 dot_no_reference : (part : Reference) → refs.extended part 46 ≡ None
 dot_no_reference ref.Hash = refl
@@ -180,7 +175,7 @@ colon_here s modes.CommentDash None at z a e d = absurd d
 colon_here s modes.CommentDashes None at z a e d = absurd d
 colon_here s (modes.CdataStart matched) None at z a e d =
     let t : State = here s (modes.CdataStart matched) None in
-    absurd (a (subst (λ (q : Bool). EndsIn (at + 1) [] (cond (not q) (fail t kinds.BadMark at) (cond (nat_lt matched 6) (go t (modes.CdataStart (matched + 1))) (go t states.cdata)))) (sym (colon_not_wanted matched)) tt))
+    absurd (a (subst (λ (q : Bool). EndsIn (at + 1) [] (cond (not q) (fail t kinds.BadMark at) (cond (nat_lt matched 6) (go t (modes.CdataStart (matched + 1))) (go t states.cdata)))) (sym (cdata_other matched 46 refl refl refl refl refl)) tt))
 colon_here s (modes.Cdata held) None at z a e d = absurd d
 colon_here s modes.Question None at z a e d = absurd (a tt)
 colon_here s (modes.Target true) None at z a e d = refl
