@@ -36,9 +36,9 @@ use Rattle.xmi_text.proofs.NameSteps.{continues_low, far_parts, low_name, high_n
 use Rattle.xmi_text.proofs.Stepping.{blank_cases}
 use Rattle.xmi_text.proofs.Lettered.{is_letter, NameCharacter, goes_parts, starts_name}
 use Rattle.xmi_text.proofs.Reached.{state_from-append}
-use Rattle.xmi_text.proofs.BadBytes.{all_high, high_first, high_bytes}
+use Rattle.xmi_text.proofs.ToldBytes.{all_high, high_first, high_bytes}
 use Rattle.xmi_text.proofs.Told.{here_same}
-use Rattle.xmi_text.proofs.Nameless.{no_start}
+use Rattle.xmi_text.proofs.ToldNames.{no_start}
 use Rattle.xmi_text.proofs.Probes.{here, Ends, ends_on, broken, cdata_other, no_letter}
 
 every : (P : ℕ → Type 0) → P 32 → P 9 → P 10 → P 13 → (b : ℕ) → characters.is_blank b ≡ true → P b

@@ -3,11 +3,11 @@ use Rattle.xmi_text.specs.declared.error.TextKind.{TextKind}
 use Rattle.xmi_text.specs.declared.error.TextKind.TheVariants as kinds
 use Rattle.xmi_text.proofs.Prefixes.{IsNeverMissed, IsOutsideDocuments, marks_never_missed, marks_outside, open_never_missed, open_outside}
 use Rattle.xmi_text.proofs.Told.{told_never_missed, told_outside}
-use Rattle.xmi_text.proofs.BadBytes.{utf_never_missed, utf_outside}
-use Rattle.xmi_text.proofs.Nameless.{name_told, doctype_told, limit_told}
-use Rattle.xmi_text.proofs.WrongEnds.{end_told}
-use Rattle.xmi_text.proofs.Duplicates.{duplicate_told}
-use Rattle.xmi_text.proofs.Entities.{entity_told}
+use Rattle.xmi_text.proofs.ToldBytes.{utf_never_missed, utf_outside}
+use Rattle.xmi_text.proofs.ToldNames.{name_told, doctype_told, limit_told}
+use Rattle.xmi_text.proofs.ToldEnds.{end_told}
+use Rattle.xmi_text.proofs.ToldDuplicates.{duplicate_told}
+use Rattle.xmi_text.proofs.ToldReferences.{entity_told}
 
 pub never_missed : (kind : TextKind) → IsNeverMissed kind
 never_missed kinds.BadUtf8 = utf_never_missed

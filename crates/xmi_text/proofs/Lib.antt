@@ -29,11 +29,11 @@ pub mod Prefixes
 pub mod Lettered
 pub mod Probes
 pub mod Told
-pub mod Nameless
-pub mod Entities
-pub mod BadBytes
+pub mod ToldNames
+pub mod ToldReferences
+pub mod ToldBytes
 pub mod Named
-pub mod WrongEnds
+pub mod ToldEnds
 pub mod Blanks
-pub mod Duplicates
+pub mod ToldDuplicates
 pub mod FirstFault

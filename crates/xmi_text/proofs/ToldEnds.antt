@@ -20,10 +20,10 @@ use Rattle.xmi_text.proofs.Sound.{sound_of}
 use Rattle.xmi_text.proofs.Completing.{slash_wholes, all_ended, drop_more}
 use Rattle.xmi_text.proofs.Whole.{whole_markup}
 use Rattle.xmi_text.proofs.Named.{Good, AllGood, names_of}
-use Rattle.xmi_text.proofs.Entities.{more_read, one_read}
-use Rattle.xmi_text.proofs.BadBytes.{left_of, wanted_none, wanted_some, in_name}
+use Rattle.xmi_text.proofs.ToldReferences.{more_read, one_read}
+use Rattle.xmi_text.proofs.ToldBytes.{left_of, wanted_none, wanted_some, in_name}
 use Rattle.xmi_text.proofs.Told.{state_at, state_behind, stands_within, stands_join, told_behind, told_here, less_at, behind_less, IsTold}
-use Rattle.xmi_text.proofs.Nameless.{inside_here}
+use Rattle.xmi_text.proofs.ToldNames.{inside_here}
 
 -- ---- the innermost element
 

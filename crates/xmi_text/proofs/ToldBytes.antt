@@ -43,7 +43,7 @@ use Rattle.xmi_text.proofs.Told.{IsTold, state_at, told, here_same, told_first, 
 use Rattle.xmi_text.proofs.Probes.{here}
 use Rattle.xmi_text.specs.Writing.{named}
 use Rattle.xmi_text.specs.declared.state.Within.{Within}
-use Rattle.xmi_text.proofs.Entities.{more_agree, more_read, one_read}
+use Rattle.xmi_text.proofs.ToldReferences.{more_agree, more_read, one_read}
 
 -- ---- characters and bytes
 
