@@ -25,3 +25,6 @@ pub mod Backrefs
 pub mod Backfar
 pub mod Whole
 pub mod Standing
+pub mod Reasons
+pub mod History
+pub mod Probing

@@ -50,11 +50,11 @@ around_later true = tt
 around_later false = tt
 
 -- a character that has begun
-abbrev Early : Rest → Type 0
+abbrev pub Early : Rest → Type 0
 Early (rests.One bits) = bits < 32
 Early _ = Unit {0}
 
-abbrev Fresh : ℕ → Option Partial → Type 0
+abbrev pub Fresh : ℕ → Option Partial → Type 0
 Fresh at None = Unit {0}
 Fresh at (Some p) = (p.lead ≡ at) × Early p.rest
 
@@ -62,7 +62,7 @@ fresh : (at : ℕ) (b : Bool) (x y : Option Partial) → Fresh at x → Fresh at
 fresh at true x y f g = f
 fresh at false x y f g = g
 
-begun_fresh : (at b : ℕ) → Fresh at (utf.begun at b)
+pub begun_fresh : (at b : ℕ) → Fresh at (utf.begun at b)
 begun_fresh at b =
     fresh at (within 0xc2 0xdf b) _ _ (refl, omega arith)
     (fresh at (b == 0xe0) _ _ (refl, tt)
@@ -71,7 +71,7 @@ begun_fresh at b =
     (fresh at (b == 0xf0) _ _ (refl, tt) (fresh at (within 0xf1 0xf3 b) _ _ (refl, tt) (fresh at (b == 0xf4) _ _ (refl, tt) tt))))))
 
 -- a character keeps its place
-abbrev Led : ℕ → Growth → Type 0
+abbrev pub Led : ℕ → Growth → Type 0
 Led lead growths.Broken = Unit {0}
 Led lead (growths.Partial q) = q.lead ≡ lead
 Led lead (growths.Whole c) = Unit {0}
@@ -89,7 +89,7 @@ added_led p (rests.Three bits) b = refl
 added_led p (rests.Two bits) b = refl
 added_led p (rests.One bits) b = led p.lead (nat_lt 0x4fff bits) _ _ tt (found_led p.lead (utf.scalar (bits * 64 + b % 64)))
 
-extended_led : (p : Partial) (b : ℕ) → Led p.lead (utf.extended p b)
+pub extended_led : (p : Partial) (b : ℕ) → Led p.lead (utf.extended p b)
 extended_led p b = led p.lead (nat_lt b p.low || nat_lt p.high b) _ _ tt (added_led p p.rest b)
 
 same_admits : (s : State) (q : Partial) (m : Mode) → automaton.admits s m ≡ automaton.admits (record s { partial = Some q }) m
