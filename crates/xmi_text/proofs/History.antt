@@ -1,10 +1,10 @@
 -- Where what is open began: the bytes before the `<` of markup, the `&` of a reference and the first byte of a character, and
 -- the byte that is the first fault.
-use Rattle.std.proofs.Common.{◌≡◌, ℕ, ◌+◌, ◌≤◌, ◌<◌, ◌⊎◌, Bool, true, false, cond, List, [], ◌∷◌, ◌++◌, length, take, drop, get_or, zero, suc, refl, sym, ◌∙◌, ap, subst, arith, Option, Some, None, inl, inr, append_assoc, codes, encode_utf8_all}
+use Rattle.std.proofs.Common.{◌≡◌, ℕ, ◌+◌, ◌≤◌, ◌<◌, ◌⊎◌, Bool, true, false, cond, List, [], ◌∷◌, ◌++◌, length, take, drop, get_or, zero, suc, refl, sym, ◌∙◌, ap, subst, arith, Option, Some, None, inl, inr, append_assoc, codes, encode_utf8_all, ◌*◌, ◌%◌}
 use Rattle.std.proofs.Math.Seq.{take-length}
 use Rattle.std.proofs.lemmas.List.{take_more, take-append-drop}
-use Rattle.std.proofs.lemmas.Bool.{eqb-true, and_from, and_parts}
-use Rattle.std.specs.Prelude.{◌==◌, not, slice_get}
+use Rattle.std.proofs.lemmas.Bool.{eqb-true, and_from, and_parts, or_parts, ltb-false}
+use Rattle.std.specs.Prelude.{◌==◌, not, slice_get, ◌||◌, ◌&&◌, nat_lt, nat_le}
 use Rattle.std.specs.List.{list_all}
 use Rattle.xmi_text.specs.ByteClass.{within}
 use Rattle.xmi_text.specs.States.{cleared, cleared_by}
@@ -17,6 +17,10 @@ use Rattle.xmi_text.specs.declared.error.TextFault.{TextFault}
 use Rattle.xmi_text.specs.declared.error.TextKind.{TextKind}
 use Rattle.xmi_text.specs.declared.error.TextKind.TheVariants as kinds
 use Rattle.xmi_text.specs.declared.utf_eight.Partial.{Partial}
+use Rattle.xmi_text.specs.UtfEight as utf
+use Rattle.xmi_text.specs.declared.utf_eight.Growth.{Growth}
+use Rattle.xmi_text.specs.declared.utf_eight.Growth.TheVariants as growths
+use lib.Utf8.{encode, scalar}
 use Rattle.xmi_text.specs.declared.utf_eight.Rest.{Rest}
 use Rattle.xmi_text.specs.declared.utf_eight.Rest.TheVariants as rests
 use Rattle.xmi_text.specs.declared.state.State.{State}
@@ -25,7 +29,8 @@ use Rattle.xmi_text.specs.declared.state.Mode.TheVariants as modes
 use Rattle.xmi_text.specs.declared.state.Within.{Within}
 use Rattle.xmi_text.specs.declared.state.Ready.{Ready}
 use Rattle.xmi_text.specs.declared.state.Ready.TheVariants as ready
-use Rattle.xmi_text.proofs.Sound.{sound_of}
+use Rattle.xmi_text.proofs.Sound.{Bits, Cut, Takes, sound_of}
+use Rattle.xmi_text.proofs.Backward.{Fills, fills_one, fills_two, fills_three, Leads, begun_leads}
 use Rattle.xmi_text.proofs.Reached.{state_of-append}
 use Rattle.xmi_text.proofs.Staying.{idle_of, fault_stays, failed_mode}
 use Rattle.xmi_text.proofs.Reasons.{Goes, IsRound, InPlace, Reason, From, Grew, Came, step_led}
@@ -61,6 +66,9 @@ pub record Cutting (xs : List ℕ) (s : State) (p : Partial) : Type 0 where
   pub place : length before ≡ p.lead
   pub same : record (state_of before) { partial = Some p } ≡ s
   pub none : (state_of before).partial ≡ None
+  pub some : part ≡ [] → ⊥
+  pub first : (x : ℕ) (d : List ℕ) → part ≡ x ∷ d → 128 ≤ x
+  pub fills : (more : List ℕ) (c : ℕ) → Fills p.rest p.low more c → c < 0x110000 → (part ++ more ≡ encode c) × (128 ≤ c)
   pub cut : (a c : List ℕ) → part ≡ a ++ c → (a ≡ [] → ⊥) → (state_of (before ++ a)).partial ≡ None → ⊥
 
 abbrev pub innermost_bytes : List (List ℕ) → List ℕ
@@ -118,6 +126,80 @@ name_more (Some name) j b e = take_get (encode_utf8_all name) j b e
 all_more : (xs : List ℕ) (b : ℕ) → list_all is_no_end xs ≡ true → (b == 59) ≡ false → list_all is_no_end (xs ++ b ∷ []) ≡ true
 all_more [] b e f = rw f refl
 all_more (x ∷ xs) b e f = let p = and_parts (is_no_end x) (list_all is_no_end xs) e in and_from (is_no_end x) (list_all is_no_end (xs ++ b ∷ [])) p.0 (all_more xs b p.1 f)
+
+-- ---- characters
+
+abbrev NoPart : Growth → Type 0
+NoPart (growths.Partial q) = ⊥
+NoPart _ = Unit {0}
+
+no_part : (x : Bool) (g : Growth) → NoPart g → NoPart (cond x growths.Broken g)
+no_part true g h = tt
+no_part false g h = h
+
+found_no_part : (o : Option ℕ) → NoPart (utf.found o)
+found_no_part None = tt
+found_no_part (Some c) = tt
+
+in_range : (x : Bool) (g h : Growth) → (h ≡ growths.Broken → ⊥) → cond x growths.Broken g ≡ h → (x ≡ false) × (g ≡ h)
+in_range true g h n e = absurd (n (sym e))
+in_range false g h n e = (refl, e)
+
+same_part : (p q : Partial) → growths.Partial p ≡ growths.Partial q → p ≡ q
+same_part p q e = cc
+
+fills_added : (p q : Partial) (rest : Rest) (b : ℕ) (more : List ℕ) (c : ℕ) → Bits rest p.low p.high → p.low ≤ b → b ≤ p.high → utf.added p rest b ≡ growths.Partial q → Fills q.rest q.low more c → Fills rest p.low (b ∷ more) c
+fills_added p q (rests.Three bits) b more c z l u e f =
+    fills_three bits p.low b more c (omega (arith, z.1)) (omega (arith, z.3)) l (subst (λ (k : Partial). Fills k.rest k.low more c) (sym (same_part _ q e)) f)
+fills_added p q (rests.Two bits) b more c z l u e f =
+    fills_two bits p.low b more c (omega (arith, z.1)) (omega (arith, z.3)) l (subst (λ (k : Partial). Fills k.rest k.low more c) (sym (same_part _ q e)) f)
+fills_added p q (rests.One bits) b more c z l u e f = absurd (subst NoPart e (no_part (nat_lt 0x4fff bits) _ (found_no_part (utf.scalar (bits * 64 + b % 64)))))
+
+-- one more byte of a character
+fills_more : (p q : Partial) (b : ℕ) (more : List ℕ) (c : ℕ) → Bits p.rest p.low p.high → utf.extended p b ≡ growths.Partial q → Fills q.rest q.low more c → Fills p.rest p.low (b ∷ more) c
+fills_more p q b more c z e f =
+    let r = in_range (nat_lt b p.low || nat_lt p.high b) (utf.added p p.rest b) (growths.Partial q) (λ x. cc) e in
+    let o = or_parts (nat_lt b p.low) (nat_lt p.high b) r.0 in
+    fills_added p q p.rest b more c z (ltb-false b p.low o.0) (ltb-false p.high b o.1) r.1 f
+
+scalar_whole : (x : Bool) (n c : ℕ) → utf.found (cond x (Some n) None) ≡ growths.Whole c → (x ≡ true) × (n ≡ c)
+scalar_whole true n c e = (refl, cc)
+scalar_whole false n c e = cc
+
+or_cond : (x y : Bool) → (x || y) ≡ cond x true y
+or_cond true y = refl
+or_cond false y = refl
+
+whole_added : (p : Partial) (rest : Rest) (b c : ℕ) → Bits rest p.low p.high → p.low ≤ b → b ≤ p.high → utf.added p rest b ≡ growths.Whole c → Fills rest p.low (b ∷ []) c × (scalar c ≡ true)
+whole_added p (rests.Three bits) b c z l u e = cc
+whole_added p (rests.Two bits) b c z l u e = cc
+whole_added p (rests.One bits) b c z l u e =
+    let n : ℕ = bits * 64 + b % 64 in
+    let r = in_range (nat_lt 0x4fff bits) (utf.found (utf.scalar n)) (growths.Whole c) (λ x. cc) e in
+    let w = scalar_whole (nat_lt n 0xd800 || (nat_le 0xe000 n && nat_lt n 0x110000)) n c r.1 in
+    let ok : scalar n ≡ true = sym (or_cond (nat_lt n 0xd800) (nat_le 0xe000 n && nat_lt n 0x110000)) ∙ w.0 in
+    (fills_one bits p.low b c (omega (arith, z.3)) (omega (arith, z.4)) (sym w.1), ap scalar (sym w.1) ∙ ok)
+
+-- its last byte
+pub fills_whole : (p : Partial) (b c : ℕ) → Bits p.rest p.low p.high → utf.extended p b ≡ growths.Whole c → Fills p.rest p.low (b ∷ []) c × (scalar c ≡ true)
+fills_whole p b c z e =
+    let r = in_range (nat_lt b p.low || nat_lt p.high b) (utf.added p p.rest b) (growths.Whole c) (λ x. cc) e in
+    let o = or_parts (nat_lt b p.low) (nat_lt p.high b) r.0 in
+    whole_added p p.rest b c z (ltb-false b p.low o.0) (ltb-false p.high b o.1) r.1
+
+-- the bits of a character that is cut
+pub bits_for : (m : Mode) (c : Option Partial) (p : Partial) → Cut c m → Goes m → c ≡ Some p → Takes m × Bits p.rest p.low p.high
+bits_for (modes.Failed f) c p z g e = absurd g
+bits_for m None p z g e = cc
+bits_for m (Some q) p z g e = let same : q ≡ p = cc in (z.0, subst (λ (k : Partial). Bits k.rest k.low k.high) same z.1)
+
+first_more : (part : List ℕ) (b x : ℕ) (d : List ℕ) → (part ≡ [] → ⊥) → ((y : ℕ) (e : List ℕ) → part ≡ y ∷ e → 128 ≤ y) → part ++ b ∷ [] ≡ x ∷ d → 128 ≤ x
+first_more [] b x d n f e = absurd (n refl)
+first_more (y ∷ part) b x d n f e = let same : y ≡ x = cc in subst (λ z. 128 ≤ z) same (f y part refl)
+
+some_more : (part : List ℕ) (b : ℕ) → part ++ b ∷ [] ≡ [] → ⊥
+some_more [] b e = cc
+some_more (x ∷ part) b e = cc
 
 module _ (xs : List ℕ) (b : ℕ) where
   abbrev here : State
@@ -205,7 +287,7 @@ module _ (xs : List ℕ) (b : ℕ) where
         | inr d ↦ inr (ap (λ z. x ∷ z) d ∙ ap (λ z. z ∷ (part ++ b ∷ [])) (sym first))
       ]
 
-  cut_next : (t : State) (q : Partial) → (state_of all).partial ≡ Some q → Grew here (length xs) b t q → ((p : Partial) → here.partial ≡ Some p → Cutting xs here p) → Cutting all t q
+  cut_next : (t : State) (q : Partial) → (state_of all).partial ≡ Some q → Grew here (length xs) b t q → ((p : Partial) → here.partial ≡ Some p → Bits p.rest p.low p.high × Cutting xs here p) → Cutting all t q
   cut_next t q now g past = elim g.lead [
     | inl x ↦ record {
       before = xs;
@@ -214,10 +296,13 @@ module _ (xs : List ℕ) (b : ℕ) where
       place = sym x.1;
       same = sym g.same;
       none = x.0;
+      some = λ e. some_more [] b e;
+      first = λ y d e. let one : b ≡ y = cc in subst (λ z. 128 ≤ z) one x.3;
+      fills = subst (Leads b) x.2 (begun_leads (length xs) b);
       cut = λ a c e n. whole_one a c (parts a c [] e) n;
     }
     | inr x ↦
-        let h = past x.0 x.1 in
+        let h = (past x.0 x.1).1 in
         record {
           before = h.before;
           part = h.part ++ b ∷ [];
@@ -225,6 +310,11 @@ module _ (xs : List ℕ) (b : ℕ) where
           place = h.place ∙ sym x.2;
           same = ap (λ (z : State). record z { partial = Some q }) h.same ∙ sym g.same;
           none = h.none;
+          some = some_more h.part b;
+          first = λ y d e. first_more h.part b y d h.some h.first e;
+          fills = λ more c f k.
+              let w = h.fills (b ∷ more) c (fills_more x.0 q b more c (past x.0 x.1).0 x.3 f) k in
+              (append_assoc h.part (b ∷ []) more ∙ w.0, w.1);
           cut = λ a c e n y. elim (parts a c h.part e) [
             | inl d ↦ h.cut a d.0 d.1 n y
             | inr d ↦ not_none q (sym now ∙ ap (λ z. (state_of z).partial) (ap (λ z. z ++ b ∷ []) h.is ∙ append_assoc h.before h.part (b ∷ []) ∙ ap (λ z. h.before ++ z) (sym d)) ∙ y)
@@ -243,7 +333,7 @@ module _ (xs : List ℕ) (b : ℕ) where
       whole_one a c (inl d) n y = n (empty a d.0 d.1)
       whole_one a c (inr d) n y = not_none q (sym now ∙ ap (λ z. (state_of (xs ++ z)).partial) (sym d) ∙ y)
 
-  held_next : (t : State) (c : Option Partial) (n : Mode) → t.partial ≡ c → (state_of all).partial ≡ t.partial → (here.partial ≡ None → Past here.mode) → ((p : Partial) → here.partial ≡ Some p → Cutting xs here p) → Came here (length xs) b here.mode t c n → Held all t n c
+  held_next : (t : State) (c : Option Partial) (n : Mode) → t.partial ≡ c → (state_of all).partial ≡ t.partial → (here.partial ≡ None → Past here.mode) → ((p : Partial) → here.partial ≡ Some p → Bits p.rest p.low p.high × Cutting xs here p) → Came here (length xs) b here.mode t c n → Held all t n c
   held_next t c (modes.Failed f) e now k l h = tt
   held_next t None n e now k l h = since_next here.mode t n refl k h
   held_next t (Some q) n e now k l h = cut_next t q (now ∙ e) h l
@@ -313,7 +403,7 @@ one_more xs b g h =
     let came : Came s at b s.mode t t.partial t.mode = (step_led s at b s.mode s.partial refl refl (sound_of xs).cut g).came in
     let now : (state_of ys).partial ≡ t.partial = ap (λ (q : State). q.partial) is ∙ cleared_partial t t.ready in
     let held : Held ys t t.mode t.partial =
-    held_next xs b t t.partial t.mode refl now (past_of xs s s.mode s.partial h g) (λ p e. cut_of xs s s.mode s.partial p h g e) came in
+    held_next xs b t t.partial t.mode refl now (past_of xs s s.mode s.partial h g) (λ p e. ((bits_for s.mode s.partial p (sound_of xs).cut g e).1, cut_of xs s s.mode s.partial p h g e)) came in
     let idle : Goes t.mode → (q : Partial) → t.partial ≡ Some q → t.ready ≡ ready.Nothing = λ k q e. ap (λ (z : State). z.ready) (grew_of s at b s.mode t t.partial t.mode q came k e).same ∙ idle_of xs in
     let kept : Held ys (cleared t) t.mode t.partial = cleared_held ys t t.ready t.mode t.partial idle held in
     subst (IsHeld ys) (sym is)

@@ -28,3 +28,4 @@ pub mod Standing
 pub mod Reasons
 pub mod History
 pub mod Probing
+pub mod Entities

@@ -119,7 +119,7 @@ module _ (s : State) (at b : ℕ) where
   -- one more byte of a character
   pub record Grew (t : State) (q : Partial) : Type 0 where
     pub same : t ≡ record s { partial = Some q }
-    pub lead : ((s.partial ≡ None) × (q.lead ≡ at)) ⊎ ((p : Partial) × (s.partial ≡ Some p) × (q.lead ≡ p.lead))
+    pub lead : ((s.partial ≡ None) × (q.lead ≡ at) × (utf.begun at b ≡ Some q) × (128 ≤ b)) ⊎ ((p : Partial) × (s.partial ≡ Some p) × (q.lead ≡ p.lead) × (utf.extended p b ≡ growths.Partial q))
 
   abbrev pub Came : Mode → State → Option Partial → Mode → Type 0
   Came m t c (modes.Failed f) = Reason m f.kind f.at
@@ -387,17 +387,17 @@ takes_goes (modes.Failed f) t = absurd t
 takes_goes _ t = tt
 
 module _ (s : State) (at b : ℕ) where
-  lead_to : (m : Mode) (c : Option Partial) → s.mode ≡ m → s.partial ≡ None → Takes m → 128 ≤ b → ((q : Partial) → c ≡ Some q → q.lead ≡ at) → Led s at b m (automaton.lead_on s at c)
+  lead_to : (m : Mode) (c : Option Partial) → s.mode ≡ m → s.partial ≡ None → Takes m → 128 ≤ b → ((q : Partial) → c ≡ Some q → (q.lead ≡ at) × (utf.begun at b ≡ Some q)) → Led s at b m (automaton.lead_on s at c)
   lead_to m None e none t h f = record { came = no_lead s at b none m t h }
   lead_to m (Some q) e none t h f =
-      record { came = subst (λ (n : Mode). Came s at b m (record s { partial = Some q }) (Some q) n) (sym e) (grown s at b none m m (record s { partial = Some q }) q (takes_goes m t) (record { same = refl; lead = inl (none, f q refl) })) }
+      record { came = subst (λ (n : Mode). Came s at b m (record s { partial = Some q }) (Some q) n) (sym e) (grown s at b none m m (record s { partial = Some q }) q (takes_goes m t) (record { same = refl; lead = inl (none, (f q refl).0, (f q refl).1, h) })) }
 
   begun_at : (q : Partial) → utf.begun at b ≡ Some q → q.lead ≡ at
   begun_at q e = (subst (Fresh at) e (begun_fresh at b)).0
 
   first_to : (m : Mode) → s.mode ≡ m → s.partial ≡ None → Takes m → 128 ≤ b → Led s at b m (automaton.lead s m at b)
   first_to m e none t h =
-      either s at b m (automaton.ends_twin s m b) (λ x. record { came = twin_to s at b none m x }) (λ _. lead_to m (utf.begun at b) e none t h begun_at)
+      either s at b m (automaton.ends_twin s m b) (λ x. record { came = twin_to s at b none m x }) (λ _. lead_to m (utf.begun at b) e none t h (λ q x. (begun_at q x, x)))
 
   -- ---- a whole character
 
@@ -444,16 +444,16 @@ module _ (s : State) (at b : ℕ) where
   broken_at (modes.EndName l k) p t = absurd t
   broken_at _ p t = refl
 
-  grown_on : (m : Mode) (p q : Partial) → Takes m → s.mode ≡ m → s.partial ≡ Some p → q.lead ≡ p.lead → Led s at b m (record s { partial = Some q })
-  grown_on m p q t e k l = record { came = subst (λ (n : Mode). Came s at b m (record s { partial = Some q }) (Some q) n) (sym e) (by m t) }
+  grown_on : (m : Mode) (p q : Partial) → Takes m → s.mode ≡ m → s.partial ≡ Some p → q.lead ≡ p.lead → utf.extended p b ≡ growths.Partial q → Led s at b m (record s { partial = Some q })
+  grown_on m p q t e k l w = record { came = subst (λ (n : Mode). Came s at b m (record s { partial = Some q }) (Some q) n) (sym e) (by m t) }
     where
       by : (n : Mode) → Takes n → Came s at b m (record s { partial = Some q }) (Some q) n
       by (modes.Failed f) t = absurd t
-      by _ t = record { same = refl; lead = inr (p, k, l) }
+      by _ t = record { same = refl; lead = inr (p, k, l, w) }
 
   partial_to : (m : Mode) (p : Partial) (g : Growth) → utf.extended p b ≡ g → s.partial ≡ Some p → s.mode ≡ m → Takes m → Led s at b m (automaton.partial_by s m p.lead at g)
   partial_to m p growths.Broken w k e t = record { came = subst (λ (c : Option Partial). NoCharacter s at b c m p.lead) (sym k) (broken_at m p t) }
-  partial_to m p (growths.Partial q) w k e t = grown_on m p q t e k (subst (Leads p.lead) w (extended_led p b))
+  partial_to m p (growths.Partial q) w k e t = grown_on m p q t e k (subst (Leads p.lead) w (extended_led p b)) w
   partial_to m p (growths.Whole c) w k e t = record { came = (whole_to m p p.lead c k w).came }
 
 -- one more byte
