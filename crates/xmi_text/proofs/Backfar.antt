@@ -37,7 +37,7 @@ same_cut s p names (modes.Failed f) bs i r = absurd i
 same_cut s p names (modes.EndName less matched) bs i r = absurd i
 same_cut s p names _ bs i r = r
 
-small_scalar : (c : ℕ) → scalar c ≡ true → c < 0x110000
+pub small_scalar : (c : ℕ) → scalar c ≡ true → c < 0x110000
 small_scalar c e = elim (scalar_cases c e) [ inl l ↦ omega arith | inr r ↦ r.1 ]
 
 lead_read : (P : List ℕ → Type 0) (b : ℕ) (bs : List ℕ) (p : Partial) → Leads b (Some p) → CutRead P p.low p.rest bs → Read P (b ∷ bs)

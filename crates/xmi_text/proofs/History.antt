@@ -355,14 +355,14 @@ cleared_held ys t (ready.Close at) (modes.Failed f) c k h = tt
 cleared_held ys t (ready.Close at) n None k h = h
 cleared_held ys t (ready.Close at) n (Some q) k h = let e : ready.Close at ≡ ready.Nothing = k tt q refl in cc
 
-cleared_mode : (t : State) (r : Ready) → (cleared_by t r).mode ≡ t.mode
+pub cleared_mode : (t : State) (r : Ready) → (cleared_by t r).mode ≡ t.mode
 cleared_mode t ready.Nothing = refl
 cleared_mode t ready.Data = refl
 cleared_mode t ready.Open = refl
 cleared_mode t ready.Empty = refl
 cleared_mode t (ready.Close at) = refl
 
-cleared_partial : (t : State) (r : Ready) → (cleared_by t r).partial ≡ t.partial
+pub cleared_partial : (t : State) (r : Ready) → (cleared_by t r).partial ≡ t.partial
 cleared_partial t ready.Nothing = refl
 cleared_partial t ready.Data = refl
 cleared_partial t ready.Open = refl

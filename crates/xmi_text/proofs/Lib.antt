@@ -29,3 +29,5 @@ pub mod Reasons
 pub mod History
 pub mod Probing
 pub mod Entities
+pub mod Depths
+pub mod Cuts
