@@ -320,7 +320,7 @@ nothing : (k : ℕ) → drop k (encode_utf8_all (named None)) ≡ []
 nothing zero = refl
 nothing (suc k) = refl
 
-name_end : (o : Option (List ℕ)) (k : ℕ) → automaton.byte_of o k ≡ None → drop k (encode_utf8_all (named o)) ≡ []
+pub name_end : (o : Option (List ℕ)) (k : ℕ) → automaton.byte_of o k ≡ None → drop k (encode_utf8_all (named o)) ≡ []
 name_end None k e = nothing k
 name_end (Some name) k e = drop_end (encode_utf8_all name) k e
 

@@ -31,10 +31,10 @@ use Rattle.xmi_text.proofs.Probing.{in_mode, may, may_not, take_front, stands, i
 -- ---- what may follow where elements are open
 
 -- behind a `<`
-abbrev opened : State → ℕ → State
+abbrev pub opened : State → ℕ → State
 opened s at = record s { mode = modes.Less at; partial = None; ready = ready.Nothing; returned = false }
 
-round_less : (s : State) (m : Mode) (at b k : ℕ) → IsRound m → end_fault (state_from at (in_mode s m) (60 ∷ b ∷ [])) k ≡ end_fault (state_from (at + 1) (opened s at) (b ∷ [])) k
+pub round_less : (s : State) (m : Mode) (at b k : ℕ) → IsRound m → end_fault (state_from at (in_mode s m) (60 ∷ b ∷ [])) k ≡ end_fault (state_from (at + 1) (opened s at) (b ∷ [])) k
 round_less s modes.Start at b k r = refl
 round_less s modes.Outside at b k r = refl
 round_less s modes.Inside at b k r = refl
@@ -44,7 +44,7 @@ ended_run : (s : State) (at k : ℕ) (run : List ℕ) → end_fault (cleared (re
 ended_run s at k [] = refl
 ended_run s at k (c ∷ run) = refl
 
-end_may : (s : State) (m : Mode) (at k : ℕ) → IsRound m → is_inside s ≡ true → end_fault (state_from at (in_mode s m) (codes "</")) k ≡ Some (fault_at kinds.OpenTag k)
+pub end_may : (s : State) (m : Mode) (at k : ℕ) → IsRound m → is_inside s ≡ true → end_fault (state_from at (in_mode s m) (codes "</")) k ≡ Some (fault_at kinds.OpenTag k)
 end_may s m at k r i =
     let t : State = opened s at in
     round_less s m at 47 k r

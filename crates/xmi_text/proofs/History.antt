@@ -170,7 +170,7 @@ or_cond : (x y : Bool) → (x || y) ≡ cond x true y
 or_cond true y = refl
 or_cond false y = refl
 
-whole_added : (p : Partial) (rest : Rest) (b c : ℕ) → Bits rest p.low p.high → p.low ≤ b → b ≤ p.high → utf.added p rest b ≡ growths.Whole c → Fills rest p.low (b ∷ []) c × (scalar c ≡ true)
+whole_added : (p : Partial) (rest : Rest) (b c : ℕ) → Bits rest p.low p.high → p.low ≤ b → b ≤ p.high → utf.added p rest b ≡ growths.Whole c → Fills rest p.low (b ∷ []) c × (scalar c ≡ true) × (128 ≤ c)
 whole_added p (rests.Three bits) b c z l u e = cc
 whole_added p (rests.Two bits) b c z l u e = cc
 whole_added p (rests.One bits) b c z l u e =
@@ -178,10 +178,10 @@ whole_added p (rests.One bits) b c z l u e =
     let r = in_range (nat_lt 0x4fff bits) (utf.found (utf.scalar n)) (growths.Whole c) (λ x. cc) e in
     let w = scalar_whole (nat_lt n 0xd800 || (nat_le 0xe000 n && nat_lt n 0x110000)) n c r.1 in
     let ok : scalar n ≡ true = sym (or_cond (nat_lt n 0xd800) (nat_le 0xe000 n && nat_lt n 0x110000)) ∙ w.0 in
-    (fills_one bits p.low b c (omega (arith, z.3)) (omega (arith, z.4)) (sym w.1), ap scalar (sym w.1) ∙ ok)
+    (fills_one bits p.low b c (omega (arith, z.3)) (omega (arith, z.4)) (sym w.1), ap scalar (sym w.1) ∙ ok, omega (arith, z.0, w.1))
 
 -- its last byte
-pub fills_whole : (p : Partial) (b c : ℕ) → Bits p.rest p.low p.high → utf.extended p b ≡ growths.Whole c → Fills p.rest p.low (b ∷ []) c × (scalar c ≡ true)
+pub fills_whole : (p : Partial) (b c : ℕ) → Bits p.rest p.low p.high → utf.extended p b ≡ growths.Whole c → Fills p.rest p.low (b ∷ []) c × (scalar c ≡ true) × (128 ≤ c)
 fills_whole p b c z e =
     let r = in_range (nat_lt b p.low || nat_lt p.high b) (utf.added p p.rest b) (growths.Whole c) (λ x. cc) e in
     let o = or_parts (nat_lt b p.low) (nat_lt p.high b) r.0 in

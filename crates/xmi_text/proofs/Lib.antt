@@ -31,3 +31,5 @@ pub mod Probing
 pub mod Entities
 pub mod Depths
 pub mod Cuts
+pub mod OpenNames
+pub mod WrongEnds
