@@ -37,3 +37,11 @@ pub mod ToldEnds
 pub mod Blanks
 pub mod ToldDuplicates
 pub mod FirstFault
+pub mod Reasons
+pub mod History
+pub mod Probing
+pub mod Entities
+pub mod Depths
+pub mod Cuts
+pub mod OpenNames
+pub mod WrongEnds

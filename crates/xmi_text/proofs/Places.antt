@@ -71,7 +71,7 @@ begun_fresh at b =
     (fresh at (b == 0xf0) _ _ (refl, tt) (fresh at (within 0xf1 0xf3 b) _ _ (refl, tt) (fresh at (b == 0xf4) _ _ (refl, tt) tt))))))
 
 -- a character keeps its place
-abbrev Led : ℕ → Growth → Type 0
+abbrev pub Led : ℕ → Growth → Type 0
 Led lead growths.Broken = Unit {0}
 Led lead (growths.Partial q) = q.lead ≡ lead
 Led lead (growths.Whole c) = Unit {0}
@@ -89,7 +89,7 @@ added_led p (rests.Three bits) b = refl
 added_led p (rests.Two bits) b = refl
 added_led p (rests.One bits) b = led p.lead (nat_lt 0x4fff bits) _ _ tt (found_led p.lead (utf.scalar (bits * 64 + b % 64)))
 
-extended_led : (p : Partial) (b : ℕ) → Led p.lead (utf.extended p b)
+pub extended_led : (p : Partial) (b : ℕ) → Led p.lead (utf.extended p b)
 extended_led p b = led p.lead (nat_lt b p.low || nat_lt p.high b) _ _ tt (added_led p p.rest b)
 
 same_admits : (s : State) (q : Partial) (m : Mode) → automaton.admits s m ≡ automaton.admits (record s { partial = Some q }) m

@@ -59,7 +59,7 @@ dead_not_open s n m (Some p) e h d =
     subst (λ (c : Option Partial). NoneOpen (automaton.ended_by s m n c)) (sym e)
     (subst (λ (b : Bool). NotOpen (cond b (fault_at kinds.OpenTag n) (fault_at kinds.BadMark p.lead)).kind) (sym d) tt)
 
-same_kind : (f : TextFault) (k : TextKind) (n : ℕ) → Some f ≡ Some (fault_at k n) → (f.kind ≡ k) × (f.at ≡ n)
+pub same_kind : (f : TextFault) (k : TextKind) (n : ℕ) → Some f ≡ Some (fault_at k n) → (f.kind ≡ k) × (f.at ≡ n)
 same_kind f k n e = let same : f ≡ fault_at k n = cc in (ap (λ (g : TextFault). g.kind) same, ap (λ (g : TextFault). g.at) same)
 
 open_end : (bytes : List ℕ) (f : TextFault) → end_fault_of bytes ≡ Some f → f.kind ≡ kinds.OpenTag → f.at ≡ length bytes
