@@ -89,7 +89,7 @@ goes_letters : (k : Bool) (cs : List ℕ) → goes_on k cs ≡ true → list_all
 goes_letters k [] e = refl
 goes_letters k (c ∷ cs) e = let g = goes_parts k c cs e in and_from (is_letter c) (list_all is_letter cs) (one_letter c g.0) (goes_letters g.1 cs g.2)
 
-name_letters : (name : List ℕ) → is_name name ≡ true → list_all is_letter name ≡ true
+pub name_letters : (name : List ℕ) → is_name name ≡ true → list_all is_letter name ≡ true
 name_letters [] e = absurd (true≢false (sym e))
 name_letters (c ∷ cs) e =
     let n = and_parts (begins_name c || is_far c) (goes_on false cs) e in

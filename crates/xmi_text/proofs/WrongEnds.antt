@@ -37,7 +37,7 @@ use Rattle.xmi_text.proofs.History.{Begun, Held, fails, Early, goes_or_failed, i
 use Rattle.xmi_text.proofs.Probing.{in_mode, shape, may, take_front, drop_front, stands, is_markup, whole_of, past_by}
 use Rattle.xmi_text.proofs.Depths.{opened, end_may}
 use Rattle.xmi_text.proofs.Cuts.{name_end}
-use Rattle.xmi_text.proofs.OpenNames.{is_plain, are_plain, named_of}
+use Rattle.xmi_text.proofs.OpenNames.{is_plain, are_plain, plain_of}
 
 -- ---- the bytes of names
 
@@ -270,7 +270,7 @@ end_name_is bytes before n name t r c i h =
     let is : state_of (before ++ 60 ∷ 47 ∷ more) ≡ state_from (at + 1 + 1) (in_end e.state at 0) more =
     state_of-append before (60 ∷ 47 ∷ more) ∙ ap (λ (q : State). state_from at q (60 ∷ 47 ∷ more)) (shape before s.mode refl c) ∙ e.is in
     let plain : are_plain (innermost_bytes e.state.elements) ≡ true =
-    ap (λ (xs : List (List ℕ)). are_plain (innermost_bytes xs)) e.elements ∙ got_plain s.elements (length s.elements - 1) (named_of before).elements in
+    ap (λ (xs : List (List ℕ)). are_plain (innermost_bytes xs)) e.elements ∙ got_plain s.elements (length s.elements - 1) (plain_of before) in
     let run = end_run (encodes name) e.state at 0 (at + 1 + 1) (name_holds name h.0 h.1) plain (subst (λ (q : State). Goes q.mode) is goes) in
     sym run ∙ ap innermost_bytes e.elements
 
