@@ -231,7 +231,7 @@ some_size : (attrs : List Attr) → 1 ≤ size attrs
 some_size [] = omega arith
 some_size (a ∷ rest) = omega (arith, some_size rest)
 
-longest : (attrs : List Attr) (name : List ℕ) → size attrs ≤ length name → has_name attrs name ≡ false
+pub longest : (attrs : List Attr) (name : List ℕ) → size attrs ≤ length name → has_name attrs name ≡ false
 longest [] name h = refl
 longest (a ∷ rest) name h =
     or_from (pointwise nat_eq a.name name) (has_name rest name) (shorter a.name name (omega (arith, some_size rest))) (longest rest name (omega arith))

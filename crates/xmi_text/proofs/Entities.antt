@@ -77,10 +77,10 @@ not_unended [] d e = true≢false (sym e)
 not_unended (x ∷ text) d e = not_unended text d (and_parts (is_no_end x) (list_all is_no_end ((text ++ 59 ∷ []) ++ d)) e).1
 
 -- it is ASCII
-abbrev is_low : ℕ → Bool
+abbrev pub is_low : ℕ → Bool
 is_low c = nat_lt c 128
 
-low_bytes : (cs : List ℕ) → list_all is_low cs ≡ true → encodes cs ≡ cs
+pub low_bytes : (cs : List ℕ) → list_all is_low cs ≡ true → encodes cs ≡ cs
 low_bytes [] e = refl
 low_bytes (c ∷ cs) e =
     let p = and_parts (is_low c) (list_all is_low cs) e in

@@ -45,3 +45,5 @@ pub mod Depths
 pub mod Cuts
 pub mod OpenNames
 pub mod WrongEnds
+pub mod Twins
+pub mod Found

@@ -106,6 +106,28 @@ module _ (s : State) (at b : ℕ) where
   abbrev pub Same : State → Type 0
   Same t = (t.elements ≡ s.elements) × (t.rooted ≡ s.rooted) × (s.partial ≡ None)
 
+  -- a character that ends with this byte
+  abbrev pub Character : ℕ → ℕ → Type 0
+  Character c lead = ((s.partial ≡ None) × (c ≡ b) × (b < 128) × (lead ≡ at)) ⊎ ((p : Partial) × (s.partial ≡ Some p) × (utf.extended p b ≡ growths.Whole c) × (automaton.is_unstorable c ≡ false) × (lead ≡ p.lead))
+
+  -- it is the first of an attribute's name, or another
+  pub record Opens (t : State) (colon : Bool) : Type 0 where
+    pub c : ℕ
+    pub lead : ℕ
+    pub character : Character c lead
+    pub first : s.partial ≡ None → begins_name c ≡ true
+    pub plain : colon ≡ false
+    pub name : t.attr.name ≡ c ∷ []
+    pub place : t.attr.at ≡ lead
+
+  pub record GoesOn (earlier : Bool) (t : State) (colon : Bool) : Type 0 where
+    pub c : ℕ
+    pub lead : ℕ
+    pub character : Character c lead
+    pub name : t.attr.name ≡ s.attr.name ++ c ∷ []
+    pub place : t.attr.at ≡ s.attr.at
+    pub flag : ((c ≡ 58) × (earlier ≡ false) × (colon ≡ true)) ⊎ ((colon ≡ earlier) × (s.partial ≡ None → ((c == 58) ≡ false) × (continues_name c ≡ true)))
+
   -- how a mode was come to
   abbrev pub From : Mode → State → Mode → Type 0
   From m t (modes.Less l) = Same t × (l ≡ at) × IsRound m × (b ≡ 60)
@@ -114,6 +136,8 @@ module _ (s : State) (at b : ℕ) where
   From m t (modes.Doctype l w k) = Same t × (((m ≡ modes.Bang l) × (b ≡ 68) × (k ≡ 1)) ⊎ ((j : ℕ) × (m ≡ modes.Doctype l w j) × (k ≡ j + 1) × (steps.is_wanted (steps.doctype_byte j) b ≡ true) × (j < 6)))
   From m t (modes.EndName l k) = Same t × (((m ≡ modes.Less l) × (b ≡ 47) × (k ≡ 0)) ⊎ ((j : ℕ) × (m ≡ modes.EndName l j) × (k ≡ j + 1) × (automaton.wanted s j ≡ Some b)))
   From m t (modes.Reference a w part) = (s.partial ≡ None) × (((a ≡ at) × InPlace w m × (b ≡ 38)) ⊎ ((earlier : Reference) × (m ≡ modes.Reference a w earlier) × ((b == 59) ≡ false)))
+  From m t modes.Tag = is_blank b ≡ true
+  From m t (modes.AttrName colon) = ((m ≡ modes.Tag) × Opens t colon) ⊎ ((earlier : Bool) × (m ≡ modes.AttrName earlier) × GoesOn earlier t colon)
   From m t _ = Unit {0}
 
   -- one more byte of a character
@@ -253,7 +277,7 @@ module _ (s : State) (at b : ℕ) (none : s.partial ≡ None) where
   part_to : (m : Mode) → To m (steps.part s at b)
   part_to m =
       or m (b == 47) (λ _. record { came = on m (go s modes.Slash) modes.Slash tt tt })
-      (λ _. or m (b == 62) (λ _. record { came = on m (states.open_tag s at) modes.Inside tt tt }) (λ _. or m (is_blank b) (λ _. record { came = on m (go s modes.Tag) modes.Tag tt tt }) (λ _. record { came = tt })))
+      (λ _. or m (b == 62) (λ _. record { came = on m (states.open_tag s at) modes.Inside tt tt }) (λ _. or m (is_blank b) (λ e. record { came = on m (go s modes.Tag) modes.Tag tt e }) (λ _. record { came = tt })))
 
   tag_name_to : (had : Bool) → To (modes.TagName had) (steps.tag_name s had at b)
   tag_name_to had =
@@ -261,8 +285,12 @@ module _ (s : State) (at b : ℕ) (none : s.partial ≡ None) where
       or m (b == 58) (λ e. or m had (λ h. record { came = (refl, none, (h, eqb-true b 58 e)) }) (λ _. record { came = on m (states.add_to_tag s true 58) (modes.TagName true) tt tt }))
       (λ _. or m (continues_name b) (λ _. record { came = on m (states.add_to_tag s had b) (modes.TagName had) tt tt }) (λ _. part_to m))
 
-  tag_to : (m : Mode) → To m (steps.tag s at b)
-  tag_to m = or m (begins_name b) (λ _. record { came = on m (states.begin_attr s at b) (modes.AttrName false) tt tt }) (λ _. part_to m)
+  tag_to : b < 128 → To modes.Tag (steps.tag s at b)
+  tag_to h =
+      let m : Mode = modes.Tag in
+      or m (begins_name b)
+      (λ e. record { came = on m (states.begin_attr s at b) (modes.AttrName false) tt (inl (refl, record { c = b; lead = at; character = inl (none, refl, h, refl); first = λ _. e; plain = refl; name = refl; place = refl })) })
+      (λ _. part_to m)
 
   equals_to : (m : Mode) → To m (steps.equals s at b)
   equals_to m =
@@ -274,8 +302,8 @@ module _ (s : State) (at b : ℕ) (none : s.partial ≡ None) where
   attr_name_to : (had : Bool) → b < 128 → To (modes.AttrName had) (steps.attr_name s had at b)
   attr_name_to had h =
       let m : Mode = modes.AttrName had in
-      or m (b == 58) (λ e. or m had (λ k. record { came = (refl, none, (k, eqb-true b 58 e)) }) (λ _. record { came = on m (states.add_to_name s true 58) (modes.AttrName true) tt tt }))
-      (λ x. or m (continues_name b) (λ _. record { came = on m (states.add_to_name s had b) (modes.AttrName had) tt tt })
+      or m (b == 58) (λ e. or m had (λ k. record { came = (refl, none, (k, eqb-true b 58 e)) }) (λ k. record { came = on m (states.add_to_name s true 58) (modes.AttrName true) tt (inr (had, refl, record { c = 58; lead = at; character = inl (none, sym (eqb-true b 58 e), h, refl); name = refl; place = refl; flag = inl (refl, k, refl) })) }))
+      (λ x. or m (continues_name b) (λ e. record { came = on m (states.add_to_name s had b) (modes.AttrName had) tt (inr (had, refl, record { c = b; lead = at; character = inl (none, refl, h, refl); name = refl; place = refl; flag = inr (refl, λ _. (x, e)) })) })
       (λ y. or m (has_name s.attrs s.attr.name) (λ e. record { came = (refl, e, no_name_byte h x y, none) }) (λ _. equals_to m)))
 
   before_value_to : (m : Mode) → To m (steps.before_value s at b)
@@ -349,7 +377,7 @@ module _ (s : State) (at b : ℕ) (none : s.partial ≡ None) where
   ascii_to modes.Instruction t h = instruction_to modes.Instruction
   ascii_to modes.InstructionQuestion t h = instruction_end_to modes.InstructionQuestion
   ascii_to (modes.TagName had) t h = tag_name_to had
-  ascii_to modes.Tag t h = tag_to modes.Tag
+  ascii_to modes.Tag t h = tag_to h
   ascii_to (modes.AttrName had) t h = attr_name_to had h
   ascii_to modes.AfterName t h = equals_to modes.AfterName
   ascii_to modes.BeforeValue t h = before_value_to modes.BeforeValue
@@ -408,34 +436,37 @@ module _ (s : State) (at b : ℕ) where
   whole m true f g = f refl
   whole m false f g = g refl
 
-  admitted_to : (m : Mode) (lead c : ℕ) → Whole m (automaton.admitted s m lead c)
-  admitted_to modes.Inside lead c = record { came = tt }
-  admitted_to (modes.Cdata held) lead c = record { came = tt }
-  admitted_to (modes.TagName colon) lead c = record { came = tt }
-  admitted_to modes.Tag lead c = record { came = tt }
-  admitted_to (modes.AttrName colon) lead c = record { came = tt }
-  admitted_to (modes.Value q) lead c = record { came = tt }
-  admitted_to modes.Comment lead c = record { came = tt }
-  admitted_to modes.CommentDash lead c = record { came = tt }
-  admitted_to modes.CommentDashes lead c = record { came = tt }
-  admitted_to modes.Question lead c = record { came = tt }
-  admitted_to (modes.Target colon) lead c = record { came = tt }
-  admitted_to modes.Instruction lead c = record { came = tt }
-  admitted_to modes.InstructionQuestion lead c = record { came = tt }
-  admitted_to _ lead c = record { came = tt }
+  cut_name : (p : Partial) → s.partial ≡ Some p → s.partial ≡ None → ⊥
+  cut_name p e f = cc
 
-  whole_to : (m : Mode) (p : Partial) (lead c : ℕ) → s.partial ≡ Some p → utf.extended p b ≡ growths.Whole c → Whole m (automaton.whole s m lead at c)
-  whole_to modes.Start p lead c e w =
+  admitted_to : (m : Mode) (p : Partial) (c : ℕ) → s.partial ≡ Some p → utf.extended p b ≡ growths.Whole c → automaton.is_unstorable c ≡ false → Whole m (automaton.admitted s m p.lead c)
+  admitted_to modes.Inside p c e w u = record { came = tt }
+  admitted_to (modes.Cdata held) p c e w u = record { came = tt }
+  admitted_to (modes.TagName colon) p c e w u = record { came = tt }
+  admitted_to modes.Tag p c e w u = record { came = inl (refl, record { c = c; lead = p.lead; character = inr (p, e, w, u, refl); first = λ n. absurd (cut_name p e n); plain = refl; name = refl; place = refl }) }
+  admitted_to (modes.AttrName colon) p c e w u = record { came = inr (colon, refl, record { c = c; lead = p.lead; character = inr (p, e, w, u, refl); name = refl; place = refl; flag = inr (refl, λ n. absurd (cut_name p e n)) }) }
+  admitted_to (modes.Value q) p c e w u = record { came = tt }
+  admitted_to modes.Comment p c e w u = record { came = tt }
+  admitted_to modes.CommentDash p c e w u = record { came = tt }
+  admitted_to modes.CommentDashes p c e w u = record { came = tt }
+  admitted_to modes.Question p c e w u = record { came = tt }
+  admitted_to (modes.Target colon) p c e w u = record { came = tt }
+  admitted_to modes.Instruction p c e w u = record { came = tt }
+  admitted_to modes.InstructionQuestion p c e w u = record { came = tt }
+  admitted_to _ p c e w u = record { came = tt }
+
+  whole_to : (m : Mode) (p : Partial) (c : ℕ) → s.partial ≡ Some p → utf.extended p b ≡ growths.Whole c → Whole m (automaton.whole s m p.lead at c)
+  whole_to modes.Start p c e w =
       let m : Mode = modes.Start in
       whole m (c == 0xfeff) (λ _. record { came = tt }) (λ _. whole m (within 0xfec0 0xfefe c) (λ _. record { came = tt }) (λ _. whole m (within 0xf000 0xffff c) (λ _. record { came = tt }) (λ _. record { came = tt })))
-  whole_to (modes.Less l) p lead c e w =
+  whole_to (modes.Less l) p c e w =
       let m : Mode = modes.Less l in
       whole m (automaton.is_unstorable c) (λ _. record { came = tt })
       (λ u. whole m (is_inside s)
       (λ i. whole m (nat_lt (length s.elements) 256) (λ _. record { came = tt })
       (λ f. record { came = (refl, i, f, subst (λ (k : Option Partial). First k b) (sym e) (c, w, u)) }))
       (λ _. whole m s.rooted (λ _. record { came = tt }) (λ _. record { came = tt })))
-  whole_to m p lead c e w = whole m (automaton.is_unstorable c) (λ _. record { came = tt }) (λ _. admitted_to m lead c)
+  whole_to m p c e w = whole m (automaton.is_unstorable c) (λ _. record { came = tt }) (λ u. admitted_to m p c e w u)
 
   broken_at : (m : Mode) (p : Partial) → Takes m → NoCharacter s at b (Some p) m p.lead
   broken_at (modes.Failed f) p t = absurd t
@@ -454,7 +485,7 @@ module _ (s : State) (at b : ℕ) where
   partial_to : (m : Mode) (p : Partial) (g : Growth) → utf.extended p b ≡ g → s.partial ≡ Some p → s.mode ≡ m → Takes m → Led s at b m (automaton.partial_by s m p.lead at g)
   partial_to m p growths.Broken w k e t = record { came = subst (λ (c : Option Partial). NoCharacter s at b c m p.lead) (sym k) (broken_at m p t) }
   partial_to m p (growths.Partial q) w k e t = grown_on m p q t e k (subst (Leads p.lead) w (extended_led p b)) w
-  partial_to m p (growths.Whole c) w k e t = record { came = (whole_to m p p.lead c k w).came }
+  partial_to m p (growths.Whole c) w k e t = record { came = (whole_to m p c k w).came }
 
 -- one more byte
 pub step_led : (s : State) (at b : ℕ) (m : Mode) (c : Option Partial) → s.mode ≡ m → s.partial ≡ c → Cut c m → Goes m → Led s at b m (step_by s at b m)
