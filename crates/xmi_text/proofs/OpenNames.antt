@@ -53,7 +53,7 @@ all_take p (suc n) (x ∷ xs) e = let q = and_parts (p x) (list_all p xs) e in a
 other_by : (test : ℕ → Bool) → test 62 ≡ false → (b : ℕ) → test b ≡ true → is_plain b ≡ true
 other_by test n b e = not_from_false (b == 62) (ne_eqb b 62 (λ x. both_ways (test b) (ap test x ∙ n) e))
 
-far_plain : (c : ℕ) → 128 ≤ c → is_plain c ≡ true
+pub far_plain : (c : ℕ) → 128 ≤ c → is_plain c ≡ true
 far_plain c h = not_from_false (c == 62) (ne_eqb c 62 (λ x. omega (arith, x)))
 
 or : {x y : State} (b : Bool) → (b ≡ true → Named x) → (b ≡ false → Named y) → Named (cond b x y)
