@@ -26,7 +26,8 @@ use Rattle.xmi_text.proofs.Sound.{sound_of}
 use Rattle.xmi_text.proofs.Backfar.{storable_far, small_scalar}
 use Rattle.xmi_text.proofs.Reasons.{Goes, IsRound, First, TooDeep, Reason}
 use Rattle.xmi_text.proofs.History.{Begun, Held, IsHeld, fails, Early, held_at, bits_for, fills_whole}
-use Rattle.xmi_text.proofs.Probing.{in_mode, may, may_not, take_front, stands, is_markup, whole_of, past_none}
+use Rattle.xmi_text.proofs.Backward.{in_mode}
+use Rattle.xmi_text.proofs.Probing.{may, may_not, take_front, stands, is_markup, whole_of, past_none}
 
 -- ---- what may follow where elements are open
 

@@ -26,7 +26,8 @@ use Rattle.xmi_text.proofs.Staying.{fault_stays}
 use Rattle.xmi_text.proofs.ValueSteps.{mode_of, reference_walk}
 use Rattle.xmi_text.proofs.Reasons.{InPlace, NoReference, Reason}
 use Rattle.xmi_text.proofs.History.{Referred, Held, fails, Early, is_no_end}
-use Rattle.xmi_text.proofs.Probing.{in_mode, shape, may, may_not, take_front, drop_front, stands, past_by}
+use Rattle.xmi_text.proofs.Backward.{in_mode}
+use Rattle.xmi_text.proofs.Probing.{shape, may, may_not, take_front, drop_front, stands, past_by}
 
 -- ---- what agrees with bytes up to a fault
 

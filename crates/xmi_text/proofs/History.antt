@@ -31,6 +31,7 @@ use Rattle.xmi_text.specs.declared.state.Ready.{Ready}
 use Rattle.xmi_text.specs.declared.state.Ready.TheVariants as ready
 use Rattle.xmi_text.proofs.Sound.{Bits, Cut, Takes, sound_of}
 use Rattle.xmi_text.proofs.Backward.{Fills, fills_one, fills_two, fills_three, Leads, begun_leads}
+use Rattle.xmi_text.proofs.Whole.{or_cond}
 use Rattle.xmi_text.proofs.Reached.{state_of-append}
 use Rattle.xmi_text.proofs.Staying.{idle_of, fault_stays, failed_mode}
 use Rattle.xmi_text.proofs.Reasons.{Goes, IsRound, InPlace, Reason, From, Grew, Came, step_led}
@@ -165,10 +166,6 @@ fills_more p q b more c z e f =
 scalar_whole : (x : Bool) (n c : ℕ) → utf.found (cond x (Some n) None) ≡ growths.Whole c → (x ≡ true) × (n ≡ c)
 scalar_whole true n c e = (refl, cc)
 scalar_whole false n c e = cc
-
-or_cond : (x y : Bool) → (x || y) ≡ cond x true y
-or_cond true y = refl
-or_cond false y = refl
 
 whole_added : (p : Partial) (rest : Rest) (b c : ℕ) → Bits rest p.low p.high → p.low ≤ b → b ≤ p.high → utf.added p rest b ≡ growths.Whole c → Fills rest p.low (b ∷ []) c × (scalar c ≡ true) × (128 ≤ c)
 whole_added p (rests.Three bits) b c z l u e = cc

@@ -1,6 +1,6 @@
 -- No `>` stands in the name of an open element.
-use Rattle.std.proofs.Common.{◌≡◌, ℕ, Bool, true, List, [], ◌∷◌, refl, sym, ◌∙◌, ap, true≢false}
-use Rattle.std.proofs.lemmas.Bool.{and_parts, and_from, not_from_false, false_from_ne_true, eqb-true}
+use Rattle.std.proofs.Common.{◌≡◌, ℕ, Bool, true, List, [], ◌∷◌, refl, sym, ◌∙◌, ap, true≢false, ◌≤◌, arith}
+use Rattle.std.proofs.lemmas.Bool.{ne_eqb, and_parts, and_from, not_from_false, false_from_ne_true, eqb-true}
 use Rattle.std.specs.Prelude.{◌==◌, not}
 use Rattle.std.specs.List.{list_all}
 use Rattle.xmi_text.specs.Reading.{state_of}
@@ -12,6 +12,9 @@ is_plain c = not (c == 62)
 
 abbrev pub are_plain : List ℕ → Bool
 are_plain name = list_all is_plain name
+
+pub far_plain : (c : ℕ) → 128 ≤ c → is_plain c ≡ true
+far_plain c h = not_from_false (c == 62) (ne_eqb c 62 (λ x. omega (arith, x)))
 
 letter_plain : (c : ℕ) → is_letter c ≡ true → is_plain c ≡ true
 letter_plain c h = not_from_false (c == 62) (false_from_ne_true (c == 62) (λ e. true≢false (sym h ∙ ap is_letter (eqb-true c 62 e))))

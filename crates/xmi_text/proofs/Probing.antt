@@ -1,6 +1,6 @@
 -- What may follow bytes, by stepping over it; and faults of names, of document types and of markup.
-use Rattle.std.proofs.Common.{◌≡◌, ℕ, ◌+◌, ◌<◌, ◌⊎◌, Bool, true, false, List, [], ◌∷◌, ◌++◌, length, take, drop, suc, refl, sym, ◌∙◌, ap, subst, arith, Option, Some, None, inl, inr, append_assoc, codes, length-append}
-use Rattle.std.proofs.Math.Seq.{take-append_seam}
+use Rattle.std.proofs.Common.{◌≡◌, ℕ, ◌+◌, ◌<◌, ◌⊎◌, Bool, true, false, List, [], ◌∷◌, ◌++◌, length, take, drop, refl, sym, ◌∙◌, ap, subst, arith, Option, Some, None, inl, inr, append_assoc, codes, length-append}
+use Rattle.std.proofs.Math.Seq.{take-append_seam, drop-append_seam}
 use Rattle.std.proofs.lemmas.Bool.{eqb-true, eq-eqb, and_from, and_parts, ltb-false, eqb-false}
 use Rattle.std.specs.Prelude.{◌==◌}
 use Rattle.xmi_text.specs.ByteClass.{begins_name}
@@ -16,8 +16,8 @@ use Rattle.xmi_text.specs.declared.state.State.{State}
 use Rattle.xmi_text.specs.declared.state.Mode.{Mode}
 use Rattle.xmi_text.specs.declared.state.Mode.TheVariants as modes
 use Rattle.xmi_text.specs.declared.state.Ready.{Ready}
-use Rattle.xmi_text.specs.declared.state.Ready.TheVariants as ready
 use Rattle.xmi_text.proofs.Sound.{NotOpen, Takes, Cut, sound_of}
+use Rattle.xmi_text.proofs.Backward.{in_mode}
 use Rattle.xmi_text.proofs.Completing.{some_fault}
 use Rattle.xmi_text.proofs.Reached.{state_of-append}
 use Rattle.xmi_text.proofs.Staying.{idle_of}
@@ -27,10 +27,6 @@ use Rattle.xmi_text.proofs.Reasons.{Goes, IsRound, NoName, Reason, IsWord}
 use Rattle.xmi_text.proofs.History.{Begun, Since, Held, fails, Early}
 
 -- ---- probes
-
--- between two characters, in this mode
-abbrev pub in_mode : State → Mode → State
-in_mode s m = record s { mode = m; partial = None; ready = ready.Nothing }
 
 pub shape : (bytes : List ℕ) (m : Mode) → (state_of bytes).mode ≡ m → (state_of bytes).partial ≡ None → state_of bytes ≡ in_mode (state_of bytes) m
 shape bytes m e n =
@@ -67,14 +63,8 @@ may_not bytes before more n m t e c f b =
 pub take_front : (bytes before tail : List ℕ) (n : ℕ) → bytes ≡ before ++ tail → length before ≡ n → take n bytes ≡ before
 take_front bytes before tail n e l = ap (take n) e ∙ ap (λ k. take k (before ++ tail)) (sym l) ∙ take-append_seam before tail
 
-drop_length : (before tail : List ℕ) → drop (length before) (before ++ tail) ≡ tail
-drop_length [] tail = refl
-drop_length (x ∷ before) tail =
-    let more : length (x ∷ before) ≡ suc (length before) = omega arith in
-    ap (λ k. drop k (x ∷ before ++ tail)) more ∙ drop_length before tail
-
 pub drop_front : (bytes before tail : List ℕ) (n : ℕ) → bytes ≡ before ++ tail → length before ≡ n → drop n bytes ≡ tail
-drop_front bytes before tail n e l = ap (drop n) e ∙ ap (λ k. drop k (before ++ tail)) (sym l) ∙ drop_length before tail
+drop_front bytes before tail n e l = ap (drop n) e ∙ ap (λ k. drop k (before ++ tail)) (sym l) ∙ drop-append_seam before tail
 
 pub begins_with : (part rest : List ℕ) → begins part (part ++ rest) ≡ true
 begins_with [] rest = refl

@@ -1,13 +1,13 @@
 -- Faults of attributes: a name that its tag has already.
-use Rattle.std.proofs.Common.{◌≡◌, ℕ, ◌+◌, ◌≤◌, ◌<◌, ◌⊎◌, Bool, true, false, cond, List, [], ◌∷◌, ◌++◌, length, take, replicate, zero, suc, refl, sym, ◌∙◌, ap, subst, arith, Option, Some, None, inl, inr, append_assoc, append-nil, length-append, codes}
+use Rattle.std.proofs.Common.{◌≡◌, ℕ, ◌+◌, ◌≤◌, ◌<◌, ◌⊎◌, Bool, true, false, List, [], ◌∷◌, ◌++◌, length, take, replicate, zero, suc, refl, sym, ◌∙◌, ap, subst, arith, Option, Some, None, inl, inr, append_assoc, append-nil, length-append, codes}
 use Rattle.std.proofs.Math.Seq.{take-length}
 use Rattle.std.proofs.lemmas.List.{length-replicate}
-use Rattle.std.proofs.lemmas.Bool.{and_parts, and_from, cond-true, cond-false, lt-ltb, le-leb, leb-true, or_left, or_right, ne_eqb}
+use Rattle.std.proofs.lemmas.Bool.{and_parts, and_from, cond-true, cond-false, le-leb, leb-true, or_left, or_right, ne_eqb}
 use Rattle.std.proofs.lemmas.Str.{encode_ascii, encodes-append}
-use Rattle.std.specs.Prelude.{◌==◌, ◌||◌, ◌&&◌, not, nat_lt, nat_le}
+use Rattle.std.specs.Prelude.{◌==◌, ◌||◌, ◌&&◌, not, nat_le}
 use Rattle.std.specs.List.{list_all}
 use Rattle.std.specs.Str.{all_scalars}
-use lib.Utf8.{encode, encodes, scalar, scalars}
+use lib.Utf8.{encode, encodes, scalar, scalars, low_scalar}
 use Rattle.mof_metamodel.specs.Characters.{is_storable_character}
 use Rattle.xmi_text.specs.ByteClass.{is_blank, begins_name, continues_name, holds_in_name}
 use Rattle.xmi_text.specs.AttrNames.{has_name}
@@ -33,9 +33,11 @@ use Rattle.xmi_text.proofs.Reached.{state_of-append}
 use Rattle.xmi_text.proofs.Staying.{fault_stays, failed_mode}
 use Rattle.xmi_text.proofs.Completing.{longest}
 use Rattle.xmi_text.proofs.Backfar.{storable_far, small_scalar}
+use Rattle.xmi_text.proofs.Backsteps.{scalars_push}
 use Rattle.xmi_text.proofs.Reasons.{Goes, Character, Opens, GoesOn, Came, IsTwin, Reason, step_led}
 use Rattle.xmi_text.proofs.History.{Cutting, IsHeld, fails, Early, held_at, cut_of, bits_for, fills_whole, cleared_partial, goes_or_failed}
-use Rattle.xmi_text.proofs.Probing.{in_mode, may, may_not, take_front, stands}
+use Rattle.xmi_text.proofs.Backward.{in_mode}
+use Rattle.xmi_text.proofs.Probing.{may, may_not, take_front, stands}
 use Rattle.xmi_text.proofs.Entities.{low_bytes, is_low}
 
 -- ---- the name of an attribute
@@ -101,9 +103,6 @@ record Over (ys : List ℕ) (s : State) (m : Mode) (c lead : ℕ) : Type 0 where
   far : (s.partial ≡ None) ⊎ (is_far c ≡ true)
   held : AttrHeld zs s.attr m
 
-low_scalar : (c : ℕ) → c < 128 → scalar c ≡ true
-low_scalar c h = ap (λ b. cond b true (nat_le 0xe000 c && nat_lt c 0x110000)) (lt-ltb c 0xd800 (omega arith))
-
 abbrev Prior : List ℕ → ℕ → Type 0
 Prior bytes n = (zs d : List ℕ) → bytes ≡ zs ++ d → length zs ≤ n → (state_of zs).partial ≡ None → AttrHeld zs (state_of zs).attr (state_of zs).mode
 
@@ -115,7 +114,7 @@ over bytes xs b d m c lead e k g prior (inl w) = record {
   mode = k;
   none = w.0;
   attr = refl;
-  ok = low_scalar c (subst (λ y. y < 128) (sym w.1) w.2);
+  ok = low_scalar c (omega (arith, w.1, w.2));
   far = inl w.0;
   held = subst (AttrHeld xs (state_of xs).attr) k (prior xs (b ∷ d) e (omega arith) w.0);
 }
@@ -162,10 +161,6 @@ opens_next ys s t at b colon o v =
     subst (λ (x : Bool). Attributed ys t.attr.name t.attr.at x) (sym o.plain)
     (subst (λ (x : ℕ). Attributed ys t.attr.name x false) (sym o.place) (subst (λ (x : List ℕ). Attributed ys x o.lead false) (sym o.name) first))
 
-scalars_snoc : (cs : List ℕ) (c : ℕ) → scalars cs ≡ true → scalar c ≡ true → scalars (cs ++ c ∷ []) ≡ true
-scalars_snoc [] c e f = and_from (scalar c) true f refl
-scalars_snoc (x ∷ cs) c e f = let p = and_parts (scalar x) (scalars cs) e in and_from (scalar x) (scalars (cs ++ c ∷ [])) p.0 (scalars_snoc cs c p.1 f)
-
 not_colon : (c : ℕ) → is_far c ≡ true → (c == 58) ≡ false
 not_colon c e = ne_eqb c 58 (λ x. let l = leb-true 128 c (and_parts (nat_le 128 c) (is_storable_character c) e).0 in omega (arith, l, x))
 
@@ -192,7 +187,7 @@ goes_next ys s t at b earlier colon o v =
       mode = h.mode;
       none = h.none;
       prefix = more_prefix earlier colon s.attr.name o.c (flag_goes s o.c earlier colon o.flag v.far) h.prefix;
-      scalars = scalars_snoc s.attr.name o.c h.scalars v.ok;
+      scalars = scalars_push s.attr.name o.c h.scalars v.ok;
     } in
     subst (λ (x : ℕ). Attributed ys t.attr.name x colon) (sym o.place) (subst (λ (x : List ℕ). Attributed ys x s.attr.at colon) (sym o.name) more)
 

@@ -1,6 +1,6 @@
 -- Faults of end tags: the name is neither a part of the open element's, nor that name and a byte behind it.
 use Rattle.std.proofs.Common.{◌≡◌, ℕ, ◌+◌, ◌-◌, ◌/◌, ◌%◌, ◌≤◌, ◌<◌, ◌⊎◌, Bool, true, false, cond, List, [], ◌∷◌, ◌++◌, length, take, drop, zero, suc, refl, sym, ◌∙◌, ap, subst, arith, Option, Some, None, inl, inr, append_assoc, length-append, codes, encode_utf8_all, true≢false}
-use Rattle.std.proofs.lemmas.Bool.{eqb-true, and_parts, and_from, cases_lt, cases_Bool, cond-true, cond-false, not_from_false, ne_eqb, both_ways, or_left, or_right, or_cases, eq-eqb}
+use Rattle.std.proofs.lemmas.Bool.{eqb-true, and_parts, and_from, cases_lt, cases_Bool, cond-true, cond-false, both_ways, or_left, or_right, or_cases, eq-eqb}
 use Rattle.std.proofs.lemmas.Str.{encode_ascii}
 use Rattle.std.specs.Prelude.{◌==◌, ◌&&◌, ◌||◌, not, nat_lt, slice_get}
 use Rattle.std.specs.List.{list_all}
@@ -34,10 +34,11 @@ use Rattle.xmi_text.proofs.NameSteps.{far_parts}
 use Rattle.xmi_text.proofs.Standing.{begun_goes_on, same_kind}
 use Rattle.xmi_text.proofs.Reasons.{Goes, IsRound, NoEnd, Reason}
 use Rattle.xmi_text.proofs.History.{Begun, Held, fails, Early, goes_or_failed, innermost_bytes}
-use Rattle.xmi_text.proofs.Probing.{in_mode, shape, may, take_front, drop_front, stands, is_markup, whole_of, past_by}
+use Rattle.xmi_text.proofs.Backward.{in_mode}
+use Rattle.xmi_text.proofs.Probing.{shape, may, take_front, drop_front, stands, is_markup, whole_of, past_by}
 use Rattle.xmi_text.proofs.Depths.{opened, end_may}
 use Rattle.xmi_text.proofs.Cuts.{name_end}
-use Rattle.xmi_text.proofs.OpenNames.{is_plain, are_plain, plain_of}
+use Rattle.xmi_text.proofs.OpenNames.{is_plain, are_plain, far_plain, plain_of}
 
 -- ---- the bytes of names
 
@@ -130,9 +131,6 @@ name_holds (c ∷ cs) e ok =
 plain_append : (xs ys : List ℕ) → are_plain xs ≡ true → are_plain ys ≡ true → are_plain (xs ++ ys) ≡ true
 plain_append [] ys e f = f
 plain_append (x ∷ xs) ys e f = let p = and_parts (is_plain x) (are_plain xs) e in and_from (is_plain x) (are_plain (xs ++ ys)) p.0 (plain_append xs ys p.1 f)
-
-far_plain : (b : ℕ) → 128 ≤ b → is_plain b ≡ true
-far_plain b h = not_from_false (b == 62) (ne_eqb b 62 (λ x. omega (arith, x)))
 
 encode_plain : (c : ℕ) → is_plain c ≡ true → are_plain (encode c) ≡ true
 encode_plain c e = elim (cases_lt c 128) [
