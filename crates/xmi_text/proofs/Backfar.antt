@@ -37,7 +37,7 @@ same_cut s p names (modes.Failed f) bs i r = absurd i
 same_cut s p names (modes.EndName less matched) bs i r = absurd i
 same_cut s p names _ bs i r = r
 
-small_scalar : (c : ℕ) → scalar c ≡ true → c < 0x110000
+pub small_scalar : (c : ℕ) → scalar c ≡ true → c < 0x110000
 small_scalar c e = elim (scalar_cases c e) [ inl l ↦ omega arith | inr r ↦ r.1 ]
 
 lead_read : (P : List ℕ → Type 0) (b : ℕ) (bs : List ℕ) (p : Partial) → Leads b (Some p) → CutRead P p.low p.rest bs → Read P (b ∷ bs)
@@ -69,10 +69,10 @@ storable_far c l u =
     let p = or_parts (c == 0xfffe) (c == 0xffff) u in
     or_right ((c == 9) || (c == 10) || (c == 13)) _ (and_from (nat_le 32 c && not (c == 0xfffe)) _ (and_from (nat_le 32 c) _ (le-leb 32 c (omega arith)) (not_from_false _ p.0)) (not_from_false _ p.1))
 
-far_goes : (had : Bool) (c : ℕ) → 128 ≤ c → is_far c ≡ true → (letters : List ℕ) → goes_on had letters ≡ true → goes_on had (c ∷ letters) ≡ true
+pub far_goes : (had : Bool) (c : ℕ) → 128 ≤ c → is_far c ≡ true → (letters : List ℕ) → goes_on had letters ≡ true → goes_on had (c ∷ letters) ≡ true
 far_goes had c l f letters g = cond-false (c == 58) _ _ (ne_eqb c 58 (λ z. omega arith)) ∙ and_from (bytes.continues_name c || is_far c) (goes_on had letters) (or_right (bytes.continues_name c) (is_far c) f) g
 
-name_far : (c : ℕ) → is_far c ≡ true → (letters : List ℕ) → goes_on false letters ≡ true → is_name (c ∷ letters) ≡ true
+pub name_far : (c : ℕ) → is_far c ≡ true → (letters : List ℕ) → goes_on false letters ≡ true → is_name (c ∷ letters) ≡ true
 name_far c f letters g = and_from (bytes.begins_name c || is_far c) (goes_on false letters) (or_right (bytes.begins_name c) (is_far c) f) g
 
 pub then : (P Q : List ℕ → Type 0) (bs : List ℕ) → ((cs : List ℕ) → P cs → Q cs) → Read P bs → Read Q bs

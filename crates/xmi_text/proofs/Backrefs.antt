@@ -118,7 +118,7 @@ hash_hexadecimal b more next e f =
     let m = numbered_more markup.is_hexadecimal_digit 16 0 b d.0 more d.1 d.2 d.3 in
     (markup.Hexadecimal (b ∷ d.3.digits), ap (λ xs. 38 ∷ 35 ∷ 120 ∷ b ∷ xs) (sym d.3.is), and_from (not (length (b ∷ d.3.digits) == 0)) _ (some_digits b d.3.digits) (and_from (list_all markup.is_hexadecimal_digit (b ∷ d.3.digits)) _ m.all m.good))
 
-grows : (part : Reference) (b : ℕ) (more : List ℕ) (next : Reference) → refs.extended part b ≡ Some next → Finishes next more → Finishes part (b ∷ more)
+pub grows : (part : Reference) (b : ℕ) (more : List ℕ) (next : Reference) → refs.extended part b ≡ Some next → Finishes next more → Finishes part (b ∷ more)
 grows ref.Hash b more next e f = pick _ (b == 120) ref.Hexadecimal next _ e (shift ref.Hash ref.Hexadecimal b 120 more next (λ k. k) f) (λ g. hash_decimal b more next g f)
 grows (ref.Decimal n) b more next e f = let d = decimal_of n b more next e f in numbered_more markup.is_digit 10 n b d.0 more d.1 d.2 d.3
 grows ref.Hexadecimal b more next e f = hash_hexadecimal b more next e f
@@ -161,7 +161,7 @@ good_of n c e =
     let p = and_parts _ _ g in
     and_from (scalars (n ∷ [])) (is_storable_character n) (and_from (scalar n) true (sym (or_cond (nat_lt n 0xd800) (nat_le 0xe000 n && nat_lt n 0x110000)) ∙ p.0) refl) p.1
 
-ends : (part : Reference) (c : ℕ) → refs.character part ≡ Some c → Finishes part (59 ∷ [])
+pub ends : (part : Reference) (c : ℕ) → refs.character part ≡ Some c → Finishes part (59 ∷ [])
 ends ref.Amp c e = (markup.Amp, refl, refl)
 ends ref.Apos c e = (markup.Apos, refl, refl)
 ends ref.Lt c e = (markup.Lt, refl, refl)
@@ -203,7 +203,7 @@ hexadecimal_low n b next e = let g = grown_is ref.Digits 16 n (refs.hexadecimal_
 only_low : (b w : ℕ) (made next : Reference) → w < 128 → refs.only b w made ≡ Some next → b < 128
 only_low b w made next h e = pick _ (b == w) made next None e (λ q _. low_by b w h q) (λ n. absurd (none_some next n))
 
-extended_low : (part : Reference) (b : ℕ) (next : Reference) → refs.extended part b ≡ Some next → b < 128
+pub extended_low : (part : Reference) (b : ℕ) (next : Reference) → refs.extended part b ≡ Some next → b < 128
 extended_low ref.Hash b next e = pick _ (b == 120) ref.Hexadecimal next _ e (λ q _. low_by b 120 (omega arith) q) (λ g. decimal_low 0 b next g)
 extended_low (ref.Decimal n) b next e = decimal_low n b next e
 extended_low ref.Hexadecimal b next e = hexadecimal_low 0 b next e

@@ -42,15 +42,15 @@ use Rattle.xmi_text.proofs.Reached.{state_of-append}
 use Rattle.xmi_text.proofs.Staying.{idle_of}
 
 -- more bytes make a text whole
-abbrev Wholes : State → List ℕ → Type 0
+abbrev pub Wholes : State → List ℕ → Type 0
 Wholes s bytes = (at n : ℕ) → end_fault (state_from at s bytes) n ≡ None
 
 -- between two characters
-abbrev in_mode : State → Mode → State
+abbrev pub in_mode : State → Mode → State
 in_mode s m = record s { mode = m; partial = None; ready = ready.Nothing }
 
 -- they do so wherever these elements are open
-abbrev Then : List (List ℕ) → List ℕ → Type 0
+abbrev pub Then : List (List ℕ) → List ℕ → Type 0
 Then names bytes = (t : State) → t.rooted ≡ true → t.elements ≡ names → Wholes (in_mode t (around t)) bytes
 
 -- one byte, which leads to a state
@@ -67,7 +67,7 @@ none_open t r e at n =
     let outside : around t ≡ modes.Outside = ap (λ (xs : List (List ℕ)). cond (nat_lt 0 (length xs)) modes.Inside modes.Outside) e in
     subst (λ (m : Mode). end_fault (in_mode t m) n ≡ None) (sym outside) (ap (λ (b : Bool). cond b None (Some (fault_at kinds.OpenTag n))) r)
 
-get_drop : (bytes : List ℕ) (m : ℕ) → slice_get bytes m ≡ slice_get (drop m bytes) 0
+pub get_drop : (bytes : List ℕ) (m : ℕ) → slice_get bytes m ≡ slice_get (drop m bytes) 0
 get_drop [] zero = refl
 get_drop [] (suc m) = refl
 get_drop (b ∷ bytes) zero = refl
@@ -77,13 +77,13 @@ drop_none : (m : ℕ) → drop {A = ℕ} m [] ≡ []
 drop_none zero = refl
 drop_none (suc m) = refl
 
-drop_more : (bytes : List ℕ) (m : ℕ) → drop (m + 1) bytes ≡ drop 1 (drop m bytes)
+pub drop_more : (bytes : List ℕ) (m : ℕ) → drop (m + 1) bytes ≡ drop 1 (drop m bytes)
 drop_more [] zero = refl
 drop_more [] (suc m) = drop_none (suc m + 1)
 drop_more (b ∷ bytes) zero = refl
 drop_more (b ∷ bytes) (suc m) = let e : suc m + 1 ≡ suc (m + 1) = omega arith in ap (λ (k : ℕ). drop k (b ∷ bytes)) e ∙ drop_more bytes m
 
-byte_named : (name : Option (List ℕ)) (m : ℕ) → byte_of name m ≡ slice_get (encode_utf8_all (named name)) m
+pub byte_named : (name : Option (List ℕ)) (m : ℕ) → byte_of name m ≡ slice_get (encode_utf8_all (named name)) m
 byte_named None m = refl
 byte_named (Some name) m = refl
 
@@ -109,7 +109,7 @@ end_begun : (s : State) (run : List ℕ) (less : ℕ) (bytes : List ℕ) → ((r
 end_begun s [] less bytes w = w []
 end_begun s (c ∷ run) less bytes w = w []
 
-slash_wholes : (s : State) (less : ℕ) (more : List ℕ) → is_inside s ≡ true → s.rooted ≡ true → Then (front s.elements) more → Wholes (in_mode s (modes.Less less)) (47 ∷ (encode_utf8_all (named (innermost s.elements)) ++ 62 ∷ more))
+pub slash_wholes : (s : State) (less : ℕ) (more : List ℕ) → is_inside s ≡ true → s.rooted ≡ true → Then (front s.elements) more → Wholes (in_mode s (modes.Less less)) (47 ∷ (encode_utf8_all (named (innermost s.elements)) ++ 62 ∷ more))
 slash_wholes s less more i r w =
     let t : State = in_mode s (modes.Less less) in
     let name : List ℕ = encode_utf8_all (named (innermost s.elements)) in
@@ -149,7 +149,7 @@ tags_then (name ∷ inner) outer more w t r e =
     subst (Wholes (in_mode t (around t))) (sym (append_assoc (end_tags inner) (end_tag name) more))
     (tags_then inner (outer ++ name ∷ []) (end_tag name ++ more) (tag_then outer name more w) t r (e ∙ sym (append_assoc outer (name ∷ []) inner)))
 
-all_ended : (names : List (List ℕ)) → Then names (end_tags names)
+pub all_ended : (names : List (List ℕ)) → Then names (end_tags names)
 all_ended names t r e = subst (Wholes (in_mode t (around t))) (append-nil (end_tags names)) (tags_then names [] [] none_open t r e)
 
 -- ---- the root element
@@ -231,7 +231,7 @@ some_size : (attrs : List Attr) → 1 ≤ size attrs
 some_size [] = omega arith
 some_size (a ∷ rest) = omega (arith, some_size rest)
 
-longest : (attrs : List Attr) (name : List ℕ) → size attrs ≤ length name → has_name attrs name ≡ false
+pub longest : (attrs : List Attr) (name : List ℕ) → size attrs ≤ length name → has_name attrs name ≡ false
 longest [] name h = refl
 longest (a ∷ rest) name h =
     or_from (pointwise nat_eq a.name name) (has_name rest name) (shorter a.name name (omega (arith, some_size rest))) (longest rest name (omega arith))
@@ -274,7 +274,7 @@ not_surrogate : (n : ℕ) → (n < 0xd800) ⊎ (0x10000 ≤ n) → 0xd800 ≤ n 
 not_surrogate n (inl l) low high = omega arith
 not_surrogate n (inr l) low high = omega arith
 
-storable_is : (n : ℕ) → 32 ≤ n → (n < 0xd800) ⊎ (0x10000 ≤ n) → n ≤ 0x10ffff → refs.storable n ≡ Some n
+pub storable_is : (n : ℕ) → 32 ≤ n → (n < 0xd800) ⊎ (0x10000 ≤ n) → n ≤ 0x10ffff → refs.storable n ≡ Some n
 storable_is n l h u =
     let valid : utf.scalar n ≡ Some n = cond-true _ _ _ (scalar_is n h u) in
     let kept : is_storable_character n ≡ true =
@@ -285,7 +285,7 @@ storable_is n l h u =
     ap refs.kept valid ∙ cond-true _ _ _ kept
 
 -- one more digit
-grown_more : (made : ℕ → Reference) (base n d : ℕ) → n ≤ 0x10ffff → n * base + d ≤ 0x10ffff → refs.grown made base n (Some d) ≡ Some (made (n * base + d))
+pub grown_more : (made : ℕ → Reference) (base n d : ℕ) → n ≤ 0x10ffff → n * base + d ≤ 0x10ffff → refs.grown made base n (Some d) ≡ Some (made (n * base + d))
 grown_more made base n d h k = cond-false (nat_lt 0x10ffff n) _ _ (le-ltb 0x10ffff n h) ∙ cond-false (nat_lt 0x10ffff (n * base + d)) _ _ (le-ltb 0x10ffff (n * base + d) k)
 
 digit_wholes : (s : State) (amp : ℕ) (place : Within) (part longer : Reference) (b : ℕ) (bytes : List ℕ) → (b == 59) ≡ false → refs.extended part b ≡ Some longer → Wholes (in_mode (record s { returned = false }) (modes.Reference amp place longer)) bytes → Wholes (in_mode s (modes.Reference amp place part)) (b ∷ bytes)
@@ -294,14 +294,14 @@ digit_wholes s amp place part longer b bytes f e w =
     next t (go t (modes.Reference amp place longer)) b bytes (λ at. cond-false (b == 59) _ _ f ∙ ap (automaton.reference_on t amp place) e) w
 
 -- numbers to a base
-record IsBase (made : ℕ → Reference) (base : ℕ) : Type 0 where
-  five : (n : ℕ) → refs.extended (made n) 53 ≡ refs.grown made base n (Some 5)
-  none : (n : ℕ) → refs.extended (made n) 48 ≡ refs.grown made base n (Some 0)
-  is : (n : ℕ) → refs.character (made n) ≡ refs.storable n
-  small : (n : ℕ) → n < 32 → (n * base + 5 ≤ 0x10ffff) × (32 ≤ (n * base + 5) * base + 0) × ((n * base + 5) * base + 0 < 0xd800)
-  large : (n : ℕ) → 0xd800 ≤ n → n < 0x10000 → (0x10000 ≤ n * base + 0) × (n * base + 0 ≤ 0x10ffff)
+pub record IsBase (made : ℕ → Reference) (base : ℕ) : Type 0 where
+  pub five : (n : ℕ) → refs.extended (made n) 53 ≡ refs.grown made base n (Some 5)
+  pub none : (n : ℕ) → refs.extended (made n) 48 ≡ refs.grown made base n (Some 0)
+  pub is : (n : ℕ) → refs.character (made n) ≡ refs.storable n
+  pub small : (n : ℕ) → n < 32 → (n * base + 5 ≤ 0x10ffff) × (32 ≤ (n * base + 5) * base + 0) × ((n * base + 5) * base + 0 < 0xd800)
+  pub large : (n : ℕ) → 0xd800 ≤ n → n < 0x10000 → (0x10000 ≤ n * base + 0) × (n * base + 0 ≤ 0x10ffff)
 
-decimals : IsBase ref.Decimal 10
+pub decimals : IsBase ref.Decimal 10
 decimals = record {
   five = λ n. refl;
   none = λ n. refl;
@@ -310,7 +310,7 @@ decimals = record {
   large = λ n h k. (omega arith, omega arith);
 }
 
-hexadecimals : IsBase ref.Digits 16
+pub hexadecimals : IsBase ref.Digits 16
 hexadecimals = record {
   five = λ n. refl;
   none = λ n. refl;
@@ -325,7 +325,7 @@ some_fault f e = cc
 some_none : (n : ℕ) → Some n ≡ None → ⊥
 some_none n e = cc
 
-surrogate : (n : ℕ) → n ≤ 0x10ffff → 32 ≤ n → refs.storable n ≡ None → (0xd800 ≤ n) × (n < 0x10000)
+pub surrogate : (n : ℕ) → n ≤ 0x10ffff → 32 ≤ n → refs.storable n ≡ None → (0xd800 ≤ n) × (n < 0x10000)
 surrogate n u l e =
     elim (cases_lt n 0xd800) [
       | inl low ↦ absurd (some_none n (sym (storable_is n l (inl low) u) ∙ e))
@@ -520,7 +520,7 @@ whole_wholes s _ p lead at c a u r h = absurd (true≢false (sym a))
 -- ---- the end of a cut character
 
 -- the least byte that may come
-least_extended : (lead low high : ℕ) (rest : Rest) → low ≤ high → utf.extended (record { lead = lead; low = low; high = high; rest = rest }) low ≡ utf.added (record { lead = lead; low = low; high = high; rest = rest }) rest low
+pub least_extended : (lead low high : ℕ) (rest : Rest) → low ≤ high → utf.extended (record { lead = lead; low = low; high = high; rest = rest }) low ≡ utf.added (record { lead = lead; low = low; high = high; rest = rest }) rest low
 least_extended lead low high rest h = cond-false (nat_lt low low || nat_lt high low) _ _ (or_from (nat_lt low low) (nat_lt high low) (le-ltb low low (omega arith)) (le-ltb high low h))
 
 -- the first character of 64

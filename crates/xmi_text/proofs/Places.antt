@@ -41,7 +41,7 @@ use Rattle.xmi_text.proofs.Completing.{completed}
 use Rattle.xmi_text.proofs.Reached.{state_of-append}
 use Rattle.xmi_text.proofs.Ending.{Dead, IsDead, IsLater, IsNoMark, NotLess, not_fifteen, dead_from, dead_cleared, open_or_dead}
 
-abbrev IsMark : TextKind → Type 0
+abbrev pub IsMark : TextKind → Type 0
 IsMark kinds.BadMark = Unit {0}
 IsMark _ = ⊥
 
@@ -50,11 +50,11 @@ around_later true = tt
 around_later false = tt
 
 -- a character that has begun
-abbrev Early : Rest → Type 0
+abbrev pub Early : Rest → Type 0
 Early (rests.One bits) = bits < 32
 Early _ = Unit {0}
 
-abbrev Fresh : ℕ → Option Partial → Type 0
+abbrev pub Fresh : ℕ → Option Partial → Type 0
 Fresh at None = Unit {0}
 Fresh at (Some p) = (p.lead ≡ at) × Early p.rest
 
@@ -62,7 +62,7 @@ fresh : (at : ℕ) (b : Bool) (x y : Option Partial) → Fresh at x → Fresh at
 fresh at true x y f g = f
 fresh at false x y f g = g
 
-begun_fresh : (at b : ℕ) → Fresh at (utf.begun at b)
+pub begun_fresh : (at b : ℕ) → Fresh at (utf.begun at b)
 begun_fresh at b =
     fresh at (within 0xc2 0xdf b) _ _ (refl, omega arith)
     (fresh at (b == 0xe0) _ _ (refl, tt)
@@ -71,7 +71,7 @@ begun_fresh at b =
     (fresh at (b == 0xf0) _ _ (refl, tt) (fresh at (within 0xf1 0xf3 b) _ _ (refl, tt) (fresh at (b == 0xf4) _ _ (refl, tt) tt))))))
 
 -- a character keeps its place
-abbrev Led : ℕ → Growth → Type 0
+abbrev pub Led : ℕ → Growth → Type 0
 Led lead growths.Broken = Unit {0}
 Led lead (growths.Partial q) = q.lead ≡ lead
 Led lead (growths.Whole c) = Unit {0}
@@ -89,7 +89,7 @@ added_led p (rests.Three bits) b = refl
 added_led p (rests.Two bits) b = refl
 added_led p (rests.One bits) b = led p.lead (nat_lt 0x4fff bits) _ _ tt (found_led p.lead (utf.scalar (bits * 64 + b % 64)))
 
-extended_led : (p : Partial) (b : ℕ) → Led p.lead (utf.extended p b)
+pub extended_led : (p : Partial) (b : ℕ) → Led p.lead (utf.extended p b)
 extended_led p b = led p.lead (nat_lt b p.low || nat_lt p.high b) _ _ tt (added_led p p.rest b)
 
 same_admits : (s : State) (q : Partial) (m : Mode) → automaton.admits s m ≡ automaton.admits (record s { partial = Some q }) m
@@ -125,7 +125,7 @@ module _ (H G : ℕ → Type 0) where
   Placed f = H f.at × (IsMark f.kind → G f.at)
 
   -- the places that a state knows
-  abbrev Kept : ℕ → Mode → Type 0
+  abbrev pub Kept : ℕ → Mode → Type 0
   Kept attr (modes.Less at) = H at
   Kept attr (modes.Bang at) = H at
   Kept attr (modes.Doctype less word_at matched) = H less × H word_at × G word_at
@@ -137,12 +137,12 @@ module _ (H G : ℕ → Type 0) where
   Kept attr _ = Unit {0}
 
   -- in what may be a byte order mark, of which n bytes have come
-  abbrev StartKept : ℕ → ℕ → Rest → Type 0
+  abbrev pub StartKept : ℕ → ℕ → Rest → Type 0
   StartKept n lead (rests.Three bits) = G lead
   StartKept n lead (rests.Two bits) = (bits ≡ 15 → n ≡ 1) × ((bits ≡ 15 → ⊥) → G lead)
   StartKept n lead (rests.One bits) = (bits ≡ 0x3fb → n ≡ 2) × (within 0x3c0 0x3ff bits ≡ true → (bits ≡ 0x3fb → ⊥) → H 1 × G 1) × (within 0x3c0 0x3ff bits ≡ false → G lead)
 
-  abbrev CutKept : State → Mode → Option Partial → ℕ → Type 0
+  abbrev pub CutKept : State → Mode → Option Partial → ℕ → Type 0
   CutKept s (modes.Failed f) c n = Unit {0}
   CutKept s modes.Start None n = n ≡ 0
   CutKept s m None n = Unit {0}
@@ -434,7 +434,7 @@ module _ (H G : ℕ → Type 0) where
   lead_on_next s m at None f t h k c = bad (state s m None) kinds.BadUtf8 at h
   lead_on_next s m at (Some p) f t h k c = record { kept = λ d. record { mode = k; cut = lead_cut s m at p f.0 f.1 t h c d } }
 
-  twin_kept : (s : State) (m : Mode) (b : ℕ) → automaton.ends_twin s m b ≡ true → Kept s.attr.at m → H s.attr.at
+  pub twin_kept : (s : State) (m : Mode) (b : ℕ) → automaton.ends_twin s m b ≡ true → Kept s.attr.at m → H s.attr.at
   twin_kept s (modes.AttrName colon) b e k = k
   twin_kept s _ b e k = absurd (true≢false (sym e))
 
@@ -575,7 +575,7 @@ module _ (H G : ℕ → Type 0) where
   later_step s m (Some p) at b l t z k q live =
       later_next (state s m (Some p)) m p at (utf.extended p b) l (extended_led p b) k q.0 q.1 (λ a. live (λ x. both_ways (automaton.admits s m) x a)) refl
 
-  next_kept : (s : State) (m : Mode) (c : Option Partial) (at b : ℕ) → Cut c m → Kept s.attr.at m → CutKept s m c at → ((IsDead s m c → ⊥) → H at) → Next at (step_by (state s m c) at b m)
+  pub next_kept : (s : State) (m : Mode) (c : Option Partial) (at b : ℕ) → Cut c m → Kept s.attr.at m → CutKept s m c at → ((IsDead s m c → ⊥) → H at) → Next at (step_by (state s m c) at b m)
   next_kept s (modes.Failed f) c at b z k q live = record { kept = λ d. record { mode = k; cut = tt } }
   next_kept s (modes.Doctype less word_at matched) None at b z k q live = doctype_next (state s (modes.Doctype less word_at matched) None) less word_at matched at b refl k.0 k.1 k.2
   next_kept s (modes.Doctype less word_at matched) (Some p) at b z k q live = absurd z.0
@@ -597,7 +597,7 @@ module _ (H G : ℕ → Type 0) where
   same_cut s t modes.Start (Some p) n e r k = k
   same_cut s t m (Some p) n e r k = (k.0, λ a. k.1 (admits_same s t m e r ∙ a))
 
-  cleared_kept : (s : State) (r : Ready) (n : ℕ) → IsKept s n → IsKept (cleared_by s r) n
+  pub cleared_kept : (s : State) (r : Ready) (n : ℕ) → IsKept s n → IsKept (cleared_by s r) n
   cleared_kept s ready.Nothing n k = k
   cleared_kept s ready.Data n k = record { mode = k.mode; cut = same_cut s (record s { run = []; ready = ready.Nothing }) s.mode s.partial n refl refl k.cut }
   cleared_kept s ready.Open n k = record { mode = k.mode; cut = same_cut s (record s { tag = []; attrs = []; ready = ready.Nothing }) s.mode s.partial n refl refl k.cut }
@@ -646,7 +646,7 @@ Through : List ℕ → ℕ → Type 0
 Through bytes p = MayGoOn (take (p + 1) bytes) → ⊥
 
 -- a state that nothing makes whole
-no_more : (bytes : List ℕ) → Dead (state_of bytes) → MayGoOn bytes → ⊥
+pub no_more : (bytes : List ℕ) → Dead (state_of bytes) → MayGoOn bytes → ⊥
 unfolding end_fault_of
 no_more bytes d o =
     let more : List ℕ = completion (state_of bytes) in
@@ -654,7 +654,7 @@ no_more bytes d o =
     (ap (λ (t : State). end_fault t (length (bytes ++ more))) (sym (state_of-append bytes more)) ∙ completed bytes o)
 
 -- and one that something does
-goes_on : (bytes : List ℕ) → (Dead (state_of bytes) → ⊥) → MayGoOn bytes
+pub goes_on : (bytes : List ℕ) → (Dead (state_of bytes) → ⊥) → MayGoOn bytes
 unfolding end_fault_of
 goes_on bytes n =
     let s : State = state_of bytes in

@@ -308,7 +308,7 @@ tail_sound s place at b p h =
 
 -- ---- references and end tags
 
-abbrev Grows : Option Reference → Type 0
+abbrev pub Grows : Option Reference → Type 0
 Grows None = Unit {0}
 Grows (Some part) = Reachable part
 
@@ -333,7 +333,7 @@ first_grows b =
 second_grows : (b : ℕ) → Grows (refs.second b)
 second_grows b = grows (b == 109) _ _ (λ _. tt) (λ _. grows (b == 112) _ _ (λ _. tt) (λ _. tt))
 
-extended_grows : (part : Reference) (b : ℕ) → Grows (refs.extended part b)
+pub extended_grows : (part : Reference) (b : ℕ) → Grows (refs.extended part b)
 extended_grows ref.Hash b = grows (b == 120) _ _ (λ _. tt) (λ _. grown_grows ref.Decimal 10 0 (refs.digit b) (λ _ h. h))
 extended_grows (ref.Decimal n) b = grown_grows ref.Decimal 10 n (refs.digit b) (λ _ h. h)
 extended_grows ref.Hexadecimal b = grown_grows ref.Digits 16 0 (refs.hexadecimal_digit b) (λ _ h. h)

@@ -31,7 +31,7 @@ unfolding state_of
 idle_of bytes = idle_from 0 start bytes refl
 
 -- the mode of a fault
-failed_mode : (mode : Mode) (f : TextFault) → fault_by mode ≡ Some f → mode ≡ Failed f
+pub failed_mode : (mode : Mode) (f : TextFault) → fault_by mode ≡ Some f → mode ≡ Failed f
 failed_mode (Failed g) f e = cc
 failed_mode _ f e = cc
 

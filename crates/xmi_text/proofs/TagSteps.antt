@@ -83,7 +83,7 @@ behind_walk at s place [] e = (place, Walk-none at (at_mode s (mode_at place) fa
 behind_walk at s place (c ∷ cs) e = (Blank, blank_run s (mode_at place) modes.Tag false (blank_part s place) (blank_part s Blank) at c cs e)
 
 -- an attribute begins
-abbrev begun : State → ℕ → List ℕ → State
+abbrev pub begun : State → ℕ → List ℕ → State
 begun s at cs = record s { attr = record { name = cs; value = []; at = at } }
 
 first_of_name : (at : ℕ) (s : State) (c : ℕ) → utf8.scalar c ≡ true → (begins_name c || is_far c) ≡ true → Walk at (at_mode s modes.Tag false) (encode c) [] (at_mode (begun s at (c ∷ [])) (modes.AttrName false) false)
@@ -92,7 +92,7 @@ first_of_name at s c ok e =
     (λ l. if_true (begins_name c) _ _ (begins_low c e l))
     (λ l p last b. high_admitted s modes.Tag false p last c _ refl (begins_high c e l) (ap (λ q. at_mode (begun s q (c ∷ [])) (modes.AttrName false) false) b))
 
-attr_name_walk : (at : ℕ) (s : State) (name : List ℕ) → scalars name ≡ true → is_name name ≡ true → (k : Bool) × Walk at (at_mode s modes.Tag false) (encodes name) [] (at_mode (begun s at name) (modes.AttrName k) false)
+pub attr_name_walk : (at : ℕ) (s : State) (name : List ℕ) → scalars name ≡ true → is_name name ≡ true → (k : Bool) × Walk at (at_mode s modes.Tag false) (encodes name) [] (at_mode (begun s at name) (modes.AttrName k) false)
 attr_name_walk at s [] ok e = absurd (true≢false (sym e))
 attr_name_walk at s (c ∷ cs) ok e =
     let o = and_parts (utf8.scalar c) (scalars cs) ok in

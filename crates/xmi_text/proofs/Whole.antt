@@ -53,7 +53,7 @@ growth goal bs s m lead at false x y f g = g refl
 broken : (goal : Type 0) (bs : List ℕ) (s : State) (m : Mode) (p : Partial) (names : List (List ℕ)) (at : ℕ) → Has s names → Back goal bs (automaton.partial_by (in_character s m p) m p.lead at growths.Broken)
 broken goal bs s m p names at e = record { back = λ l. absurd (l names e) }
 
-or_cond : (x y : Bool) → (x || y) ≡ cond x true y
+pub or_cond : (x y : Bool) → (x || y) ≡ cond x true y
 or_cond true y = refl
 or_cond false y = refl
 

@@ -12,3 +12,4 @@ pub mod Trees
 pub mod Markup
 pub mod Calls
 pub mod Completion
+pub mod Faults

@@ -7,6 +7,8 @@ mod automaton;
 mod byte_class;
 mod document_laws;
 mod error;
+mod fault_laws;
+mod first_fault_laws;
 mod laws;
 mod mark;
 mod reader;
@@ -18,6 +20,8 @@ mod writer;
 
 pub use document_laws::one_document_tree;
 pub use error::{TextError, TextFault, TextKind};
+pub use fault_laws::faults_stand;
+pub use first_fault_laws::{documents_have_no_fault, no_fault_is_missed, told_fault_is_first};
 pub use laws::{
     completions_end, documents_are_read, documents_begin, faults_have_places, faults_stay,
     marks_stay, one_tree, trees_are_documents,
