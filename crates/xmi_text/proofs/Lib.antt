@@ -47,3 +47,5 @@ pub mod OpenNames
 pub mod WrongEnds
 pub mod Twins
 pub mod Found
+pub mod Breaking
+pub mod Fixed

@@ -113,7 +113,7 @@ Reached-piece bytes piece all at given s e r =
       marks = ap (λ xs. drop given (marks_of xs)) same ∙ r.marks;
     }
 
-drop_next : {A : Type 0} (xs : List A) (n : ℕ) (y : A) (ys : List A) → drop n xs ≡ y ∷ ys → (drop (n + 1) xs ≡ ys) × (n + 1 ≤ length xs)
+pub drop_next : {A : Type 0} (xs : List A) (n : ℕ) (y : A) (ys : List A) → drop n xs ≡ y ∷ ys → (drop (n + 1) xs ≡ ys) × (n + 1 ≤ length xs)
 drop_next [] zero y ys e = cc
 drop_next [] (suc n) y ys e = cc
 drop_next (x ∷ xs) zero y ys e = (ap (drop 1) e, omega arith)

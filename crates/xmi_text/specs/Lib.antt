@@ -6,6 +6,7 @@ pub mod States
 pub mod Steps
 pub mod Automaton
 pub mod Reading
+pub mod Fixing
 pub mod Names
 pub mod Writing
 pub mod Trees

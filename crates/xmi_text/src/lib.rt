@@ -9,6 +9,7 @@ mod document_laws;
 mod error;
 mod fault_laws;
 mod first_fault_laws;
+mod fixed_laws;
 mod laws;
 mod mark;
 mod reader;
@@ -22,6 +23,7 @@ pub use document_laws::one_document_tree;
 pub use error::{TextError, TextFault, TextKind};
 pub use fault_laws::faults_stand;
 pub use first_fault_laws::{documents_have_no_fault, no_fault_is_missed, told_fault_is_first};
+pub use fixed_laws::{given_answers_are_fixed, not_yet_is_open};
 pub use laws::{
     completions_end, documents_are_read, documents_begin, faults_have_places, faults_stay,
     marks_stay, one_tree, trees_are_documents,
