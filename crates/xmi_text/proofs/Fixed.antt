@@ -1,9 +1,10 @@
 -- Where the bytes so far fix the next answer, and where they leave it open.
-use Rattle.std.proofs.Common.{◌≡◌, ◌⊎◌, ℕ, true, false, List, [], ◌∷◌, ◌++◌, length, drop, refl, sym, ◌∙◌, ap, arith, append-nil, Option, Some, None, inl, inr, Result, Ok, Err}
+use Rattle.std.proofs.Common.{◌≡◌, ◌⊎◌, ℕ, true, false, List, [], ◌∷◌, ◌++◌, length, drop, refl, sym, ◌∙◌, ap, subst, arith, append-nil, Bool, Option, Some, None, inl, inr, Result, Ok, Err}
 use Rattle.std.proofs.lemmas.List.{drop-append-le}
-use Rattle.xmi_text.specs.Automaton.{end_fault_by, fault, fault_by}
-use Rattle.xmi_text.specs.Fixing.{next_of, answer_so_far, Fixes, LeavesOpen}
-use Rattle.xmi_text.specs.Reading.{marks_from, state_of, marks_of, fault_of, end_fault_of, answer, answer_by, or_fault}
+use Rattle.std.proofs.lemmas.Bool.{cases_Bool}
+use Rattle.xmi_text.specs.Automaton.{end_fault, fault, fault_by}
+use Rattle.xmi_text.specs.Fixing.{next_of, answer_so_far, Fixes, LeavesOpen, Tells}
+use Rattle.xmi_text.specs.Reading.{Fed, marks_from, state_of, marks_of, fault_of, end_fault_of, answer, answer_by, last_by, or_fault, Answers}
 use Rattle.xmi_text.specs.declared.error.TextError.{TextError}
 use Rattle.xmi_text.specs.declared.error.TextError.TheVariants as errors
 use Rattle.xmi_text.specs.declared.error.TextFault.{TextFault}
@@ -15,14 +16,9 @@ use Rattle.xmi_text.specs.declared.state.State.{State}
 use Rattle.xmi_text.specs.declared.state.Mode.{Mode}
 use Rattle.xmi_text.specs.declared.state.Mode.TheVariants as modes
 use Rattle.xmi_text.proofs.Reached.{drop_next, state_of-append, marks_of-append}
-use Rattle.xmi_text.proofs.Staying.{failed_mode, fault_stays, marks_end}
+use Rattle.xmi_text.proofs.Staying.{fault_stays, fault_ends, marks_end}
 use Rattle.xmi_text.proofs.Reasons.{Goes}
 use Rattle.xmi_text.proofs.Breaking.{Breaks, broken}
-
--- the fault of unfinished bytes is that of the same bytes where they end
-pub fault_ends : (bytes : List ℕ) (f : TextFault) → fault_of bytes ≡ Some f → end_fault_of bytes ≡ Some f
-unfolding fault_of end_fault_of
-fault_ends bytes f e = let s : State = state_of bytes in ap (end_fault_by s (length bytes)) (failed_mode s.mode f e)
 
 -- ---- the next answer
 
@@ -90,30 +86,30 @@ left_open bytes given e n =
 
 -- ---- one of the two
 
-abbrev Tells : Result Step TextError → Type 0
-Tells result = ¬ (result ≡ Ok answers.NotYet)
+abbrev IsAnswer : Result Step TextError → Type 0
+IsAnswer result = ¬ (result ≡ Ok answers.NotYet)
 
-mark_tells : (m : Mark) → Tells (Ok (answers.Mark m))
-mark_tells m e = cc
+mark_answer : (m : Mark) → IsAnswer (Ok (answers.Mark m))
+mark_answer m e = cc
 
-fault_tells : (f : TextFault) → Tells (Err (errors.Fault f))
-fault_tells f e = cc
+fault_answer : (f : TextFault) → IsAnswer (Err (errors.Fault f))
+fault_answer f e = cc
 
 -- an answer that nothing changes
 record Settled (bytes : List ℕ) (given : ℕ) : Type 0 where
   pub result : Result Step TextError
   pub is : answer_so_far bytes given ≡ result
-  pub told : Tells result
+  pub told : IsAnswer result
   pub fixed : Fixes bytes given result
 
 abbrev Either : List ℕ → ℕ → Type 0
 Either bytes given = ((answer_so_far bytes given ≡ Ok answers.NotYet) × LeavesOpen bytes given) ⊎ Settled bytes given
 
 either_by : (bytes : List ℕ) (given : ℕ) (ms : List Mark) (o : Option TextFault) → drop given (marks_of bytes) ≡ ms → fault_of bytes ≡ o → Either bytes given
-either_by bytes given (m ∷ rest) o e n = inr (record { result = Ok (answers.Mark m); is = far_mark bytes given m rest e; told = mark_tells m; fixed = mark_fixed bytes given m rest e })
+either_by bytes given (m ∷ rest) o e n = inr (record { result = Ok (answers.Mark m); is = far_mark bytes given m rest e; told = mark_answer m; fixed = mark_fixed bytes given m rest e })
 either_by bytes given [] None e n = inl (far_last bytes given e ∙ ap (or_fault answers.NotYet) n, left_open bytes given e n)
 either_by bytes given [] (Some f) e n =
-    inr (record { result = Err (errors.Fault f); is = far_last bytes given e ∙ ap (or_fault answers.NotYet) n; told = fault_tells f; fixed = fault_fixed bytes given f e n })
+    inr (record { result = Err (errors.Fault f); is = far_last bytes given e ∙ ap (or_fault answers.NotYet) n; told = fault_answer f; fixed = fault_fixed bytes given f e n })
 
 either : (bytes : List ℕ) (given : ℕ) → Either bytes given
 either bytes given = either_by bytes given (drop given (marks_of bytes)) (fault_of bytes) refl refl
@@ -124,11 +120,44 @@ not_yet_open bytes given e = elim (either bytes given) [ inl p ↦ p.1 | inr r �
 pub open_not_yet : (bytes : List ℕ) (given : ℕ) → LeavesOpen bytes given → answer_so_far bytes given ≡ Ok answers.NotYet
 open_not_yet bytes given l = elim (either bytes given) [ inl p ↦ p.0 | inr r ↦ absurd (l.differ (r.fixed l.one ∙ sym (r.fixed l.other))) ]
 
-pub given_fixed : (bytes : List ℕ) (given : ℕ) (result : Result Step TextError) → (answer_so_far bytes given ≡ result) × Tells result → Fixes bytes given result
+pub given_fixed : (bytes : List ℕ) (given : ℕ) (result : Result Step TextError) → (answer_so_far bytes given ≡ result) × IsAnswer result → Fixes bytes given result
 given_fixed bytes given result p more = elim (either bytes given) [ inl q ↦ absurd (p.1 (sym p.0 ∙ q.0)) | inr r ↦ r.fixed more ∙ sym r.is ∙ p.0 ]
 
-pub fixed_given : (bytes : List ℕ) (given : ℕ) (result : Result Step TextError) → Fixes bytes given result → (answer_so_far bytes given ≡ result) × Tells result
+pub fixed_given : (bytes : List ℕ) (given : ℕ) (result : Result Step TextError) → Fixes bytes given result → (answer_so_far bytes given ≡ result) × IsAnswer result
 fixed_given bytes given result f = elim (either bytes given) [
   | inl q ↦ (let l = q.1 in absurd (l.differ (f l.one ∙ sym (f l.other))))
   | inr r ↦ (let same : r.result ≡ result = sym (r.fixed []) ∙ f [] in (r.is ∙ same, λ n. r.told (same ∙ n)))
 ]
+
+-- ---- what a reader's answer tells
+
+end_told : (o : Option TextFault) → IsAnswer (or_fault (answers.Mark marks.End) o)
+end_told None = mark_answer marks.End
+end_told (Some f) = fault_answer f
+
+-- a text that ends has an answer
+ended_by : (fed : Fed) (ms : List Mark) → fed.finished ≡ true → IsAnswer (answer_by fed ms)
+ended_by fed [] e =
+    let s : State = state_of fed.bytes in
+    let n : ℕ = length fed.bytes in
+    subst (λ (b : Bool). IsAnswer (last_by b s n)) (sym e) (end_told (end_fault s n))
+ended_by fed (m ∷ rest) e = mark_answer m
+
+ended : (fed : Fed) → fed.finished ≡ true → IsAnswer (answer fed)
+unfolding answer
+ended fed e = ended_by fed (drop fed.given (marks_of fed.bytes)) e
+
+unended : (fed : Fed) → fed.finished ≡ false → answer fed ≡ answer_so_far fed.bytes fed.given
+unended fed e = ap (λ (b : Bool). answer (record fed { finished = b })) e
+
+fixes : (fed : Fed) (result : Result Step TextError) → IsAnswer result → result ≡ answer fed → fed.finished ≡ false → Fixes fed.bytes fed.given result
+fixes fed result t e f = given_fixed fed.bytes fed.given result (sym (unended fed f) ∙ sym e, t)
+
+pub tells : (fed : Fed) (result : Result Step TextError) → Answers result (answer fed) → Tells result fed
+tells fed (Ok answers.NotYet) e = elim (cases_Bool fed.finished) [
+  | inl t ↦ absurd (ended fed t (sym e))
+  | inr f ↦ (f, not_yet_open fed.bytes fed.given (sym (unended fed f) ∙ sym e))
+]
+tells fed (Ok (answers.Mark m)) e = fixes fed (Ok (answers.Mark m)) (mark_answer m) e
+tells fed (Err errors.NoMemory) e = tt
+tells fed (Err (errors.Fault g)) e = fixes fed (Err (errors.Fault g)) (fault_answer g) e

@@ -23,6 +23,7 @@ IsNeverMissed kind = (bytes : List ℕ) (fault : TextFault) (n : ℕ) → end_fa
 abbrev pub IsOutsideDocuments : TextKind → Type 0
 IsOutsideDocuments kind = (bytes : List ℕ) (tree : Tree) (n : ℕ) → Markup bytes tree → IsFaultAt bytes kind n → ⊥
 
+-- bytes that begin a document may go on to a whole text
 pub begins_goes_on : (bytes : List ℕ) → Begins bytes → MayGoOn bytes
 begins_goes_on bytes b = only_open bytes b.0 (markup_spelled _ b.1 b.2).whole
 

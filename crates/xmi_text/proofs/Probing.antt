@@ -22,7 +22,8 @@ use Rattle.xmi_text.proofs.Completing.{some_fault}
 use Rattle.xmi_text.proofs.Reached.{state_of-append}
 use Rattle.xmi_text.proofs.Staying.{idle_of}
 use Rattle.xmi_text.proofs.Whole.{goes_on_begins}
-use Rattle.xmi_text.proofs.Standing.{begun_goes_on, same_kind}
+use Rattle.xmi_text.proofs.Prefixes.{begins_goes_on}
+use Rattle.xmi_text.proofs.Standing.{same_kind}
 use Rattle.xmi_text.proofs.Reasons.{Goes, IsRound, NoName, Reason, IsWord}
 use Rattle.xmi_text.proofs.History.{Begun, Since, Held, fails, Early}
 
@@ -53,7 +54,7 @@ may_not bytes before more n m t e c f b =
     let r = f (length before) k in
     let ends : end_fault_of (before ++ more) ≡ Some r.0 =
     ap (λ (q : State). end_fault q k) (state_of-append before more ∙ ap (λ (q : State). state_from (length before) q more) (shape before m e c)) ∙ r.1 in
-    elim (begun_goes_on (before ++ more) (subst (λ (xs : List ℕ). Begins (xs ++ more)) t b)) [
+    elim (begins_goes_on (before ++ more) (subst (λ (xs : List ℕ). Begins (xs ++ more)) t b)) [
       | inl x ↦ some_fault r.0 (sym ends ∙ x)
       | inr x ↦ subst NotOpen (same_kind r.0 kinds.OpenTag k (sym ends ∙ x)).0 r.2
     ]

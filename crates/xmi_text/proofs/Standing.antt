@@ -1,5 +1,5 @@
 -- Where a fault is told, one of its kind stands: bad marks, and the ends of bytes that are no document yet.
-use Rattle.std.proofs.Common.{◌≡◌, ℕ, ◌+◌, ◌<◌, Bool, true, false, cond, List, ◌++◌, length, take, refl, sym, ◌∙◌, ap, subst, arith, Option, Some, None, append-nil, inl, inr}
+use Rattle.std.proofs.Common.{◌≡◌, ℕ, ◌+◌, ◌<◌, Bool, true, false, cond, List, length, take, refl, sym, ◌∙◌, ap, subst, arith, Option, Some, None, append-nil, inl, inr}
 use Rattle.std.proofs.lemmas.List.{take_all}
 use Rattle.std.proofs.lemmas.Bool.{cases_lt}
 use Rattle.xmi_text.specs.ByteClass.{within}
@@ -21,14 +21,11 @@ use Rattle.xmi_text.specs.declared.state.Mode.{Mode}
 use Rattle.xmi_text.specs.declared.state.Mode.TheVariants as modes
 use Rattle.xmi_text.proofs.Sound.{NotOpen, Stands, sound_of}
 use Rattle.xmi_text.proofs.Completing.{some_fault}
-use Rattle.xmi_text.proofs.Ending.{IsDead, IsNoMark, open_or_dead, only_open}
+use Rattle.xmi_text.proofs.Ending.{IsDead, IsNoMark, open_or_dead}
 use Rattle.xmi_text.proofs.Places.{before_fault, through_mark}
 use Rattle.xmi_text.proofs.Spelled.{markup_spelled}
 use Rattle.xmi_text.proofs.Whole.{goes_on_begins}
-
--- bytes that begin a document are those that may go on
-pub begun_goes_on : (bytes : List ℕ) → Begins bytes → MayGoOn bytes
-begun_goes_on bytes b = only_open bytes b.0 (markup_spelled (bytes ++ b.0) b.1 b.2).whole
+use Rattle.xmi_text.proofs.Prefixes.{begins_goes_on}
 
 -- ---- what ends too early
 
@@ -100,5 +97,5 @@ pub bad_mark : (bytes : List ℕ) (f : TextFault) → end_fault_of bytes ≡ Som
 bad_mark bytes f e k = record {
   within = at_byte bytes f e (subst NotOpen (sym k) tt);
   before = subst Begins (sym (append-nil (take f.at bytes))) (goes_on_begins (take f.at bytes) (before_fault bytes f e));
-  through = λ b. through_mark bytes f e k (begun_goes_on (take (f.at + 1) bytes) (subst Begins (append-nil (take (f.at + 1) bytes)) b));
+  through = λ b. through_mark bytes f e k (begins_goes_on (take (f.at + 1) bytes) (subst Begins (append-nil (take (f.at + 1) bytes)) b));
 }

@@ -1,8 +1,8 @@
 -- What more bytes change, and that bytes are read as one tree at most.
 use Rattle.std.proofs.Common.{◌≡◌, ℕ, ◌+◌, List, [], ◌∷◌, ◌++◌, length, refl, sym, ◌∙◌, ap, subst, append_assoc, append-nil, Some}
 use Rattle.xmi_text.specs.States.{start, complete, complete_by, cleared, cleared_by}
-use Rattle.xmi_text.specs.Automaton.{step, step_by, fault, fault_by}
-use Rattle.xmi_text.specs.Reading.{state_from, marks_from, state_of, marks_of, fault_of}
+use Rattle.xmi_text.specs.Automaton.{step, step_by, fault, fault_by, end_fault_by}
+use Rattle.xmi_text.specs.Reading.{state_from, marks_from, state_of, marks_of, fault_of, end_fault_of}
 use Rattle.xmi_text.specs.Trees.{Nodes, Ends, Run, Element, Tree, Event, Opens, Says, Closes, events_of, Spells}
 use Rattle.xmi_text.specs.declared.error.TextFault.{TextFault}
 use Rattle.xmi_text.specs.declared.state.State.{State}
@@ -65,6 +65,11 @@ unfolding fault_of
 fault_stays bytes more f e =
     let s : State = state_of bytes in
     ap fault (state_of-append bytes more ∙ stuck_state (length bytes) s f more (failed_mode s.mode f e) (idle_of bytes)) ∙ e
+
+-- and is that of the same bytes where they end
+pub fault_ends : (bytes : List ℕ) (f : TextFault) → fault_of bytes ≡ Some f → end_fault_of bytes ≡ Some f
+unfolding fault_of end_fault_of
+fault_ends bytes f e = let s : State = state_of bytes in ap (end_fault_by s (length bytes)) (failed_mode s.mode f e)
 
 pub marks_end : (bytes more : List ℕ) (f : TextFault) → fault_of bytes ≡ Some f → marks_of (bytes ++ more) ≡ marks_of bytes
 unfolding fault_of

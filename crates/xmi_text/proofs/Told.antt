@@ -4,7 +4,7 @@ use Rattle.std.proofs.lemmas.Bool.{and_parts, eqb-true}
 use Rattle.std.proofs.lemmas.List.{length-take-le, take-append-drop, drop-drop}
 use Rattle.std.specs.Prelude.{◌==◌, ◌&&◌}
 use Rattle.xmi_text.specs.States.{cleared}
-use Rattle.xmi_text.specs.Automaton.{end_fault_by, fault_by, fault_at}
+use Rattle.xmi_text.specs.Automaton.{fault_by, fault_at}
 use Rattle.xmi_text.specs.Reading.{state_from, state_of, fault_of, end_fault_of}
 use Rattle.xmi_text.specs.Markup.{begins, Markup}
 use Rattle.xmi_text.specs.Faults.{May, Stands, IsMarkup, IsFaultAt, IsBefore}
@@ -18,7 +18,7 @@ use Rattle.xmi_text.specs.declared.state.Ready.{Ready}
 use Rattle.xmi_text.specs.declared.state.Ready.TheVariants as ready
 use Rattle.xmi_text.proofs.Sound.{IsSound, sound_of}
 use Rattle.xmi_text.proofs.Reached.{state_of-append}
-use Rattle.xmi_text.proofs.Staying.{fault_stays, failed_mode, idle_of}
+use Rattle.xmi_text.proofs.Staying.{fault_stays, fault_ends, idle_of}
 use Rattle.xmi_text.proofs.Ending.{Dead, open_or_dead}
 use Rattle.xmi_text.proofs.Places.{no_more}
 use Rattle.xmi_text.proofs.Spelled.{markup_spelled}
@@ -77,15 +77,14 @@ may_not bytes n part h m =
 -- ---- the fault that is told
 
 pub told : (bytes : List ℕ) (n : ℕ) (part : List ℕ) (f : TextFault) → n ≤ length bytes → Stands bytes n part → (state_from n (state_at bytes n) part).mode ≡ modes.Failed f → end_fault_of bytes ≡ Some f
-unfolding fault_of end_fault_of
+unfolding fault_of
 told bytes n part f h e m =
     let front : List ℕ = take n bytes in
     let r = begins_split part (drop n bytes) e in
     let all : (front ++ part) ++ r.0 ≡ bytes = append_assoc front part r.0 ∙ ap (λ (xs : List ℕ). front ++ xs) (sym r.1) ∙ take-append-drop n bytes in
     let first : fault_of (front ++ part) ≡ Some f = ap (λ (s : State). fault_by s.mode) (state_behind bytes n part h) ∙ ap fault_by m in
     let last : fault_of bytes ≡ Some f = subst (λ (xs : List ℕ). fault_of xs ≡ Some f) all (fault_stays (front ++ part) r.0 f first) in
-    let s : State = state_of bytes in
-    ap (end_fault_by s (length bytes)) (failed_mode s.mode f last)
+    fault_ends bytes f last
 
 -- a fault of the kind at the place leads to one that is told, there or before
 pub record IsTold (bytes : List ℕ) (kind : TextKind) (n : ℕ) : Type 0 where

@@ -31,7 +31,8 @@ use Rattle.xmi_text.proofs.Staying.{stuck_state}
 use Rattle.xmi_text.proofs.Encoded.{encode_two, encode_three, encode_four, within_from}
 use Rattle.xmi_text.proofs.Backfar.{small_scalar}
 use Rattle.xmi_text.proofs.NameSteps.{far_parts}
-use Rattle.xmi_text.proofs.Standing.{begun_goes_on, same_kind}
+use Rattle.xmi_text.proofs.Prefixes.{begins_goes_on}
+use Rattle.xmi_text.proofs.Standing.{same_kind}
 use Rattle.xmi_text.proofs.Reasons.{Goes, IsRound, NoEnd, Reason}
 use Rattle.xmi_text.proofs.History.{Begun, Held, fails, Early, goes_or_failed, innermost_bytes}
 use Rattle.xmi_text.proofs.Backward.{in_mode}
@@ -264,7 +265,7 @@ end_name_is bytes before n name t r c i h =
     let at : ℕ = length before in
     let more : List ℕ = encodes name ++ 62 ∷ [] in
     let e = ended s s.mode at more r i in
-    let goes : Goes (state_of (before ++ 60 ∷ 47 ∷ more)).mode = open_goes (before ++ 60 ∷ 47 ∷ more) (begun_goes_on (before ++ 60 ∷ 47 ∷ more) (subst (λ xs. Begins (xs ++ 60 ∷ 47 ∷ more)) t h.2)) in
+    let goes : Goes (state_of (before ++ 60 ∷ 47 ∷ more)).mode = open_goes (before ++ 60 ∷ 47 ∷ more) (begins_goes_on (before ++ 60 ∷ 47 ∷ more) (subst (λ xs. Begins (xs ++ 60 ∷ 47 ∷ more)) t h.2)) in
     let is : state_of (before ++ 60 ∷ 47 ∷ more) ≡ state_from (at + 1 + 1) (in_end e.state at 0) more =
     state_of-append before (60 ∷ 47 ∷ more) ∙ ap (λ (q : State). state_from at q (60 ∷ 47 ∷ more)) (shape before s.mode refl c) ∙ e.is in
     let plain : are_plain (innermost_bytes e.state.elements) ≡ true =

@@ -12,10 +12,11 @@ pub fn marks_stay()
     ensures { (bytes more : List ℕ) → (rest : List Mark) × (marks_of (bytes ++ more) ≡ marks_of bytes ++ rest) }
 {}
 
-/// A fault that bytes have, however they go on, is that of every text that they begin, and no mark comes behind
-/// it.
+/// A fault that bytes have, however they go on, is that of every text that they begin, and of the bytes where they
+/// end, and no mark comes behind it.
 pub fn faults_stay()
     ensures fault { (bytes more : List ℕ) (fault : TextFault) → fault_of bytes ≡ Some fault → fault_of (bytes ++ more) ≡ Some fault }
+    ensures ended { (bytes : List ℕ) (fault : TextFault) → fault_of bytes ≡ Some fault → end_fault_of bytes ≡ Some fault }
     ensures marks { (bytes more : List ℕ) (fault : TextFault) → fault_of bytes ≡ Some fault → marks_of (bytes ++ more) ≡ marks_of bytes }
 {}
 

@@ -1,4 +1,5 @@
 ghost use Rattle.std.specs.Prelude.{◌≡◌, ◌<◌, ◌≤◌, ℕ, [], false, true, ◌++◌, length, OnOk, OnErr};
+ghost use Rattle.xmi_text.specs.Fixing.{Tells};
 ghost use Rattle.xmi_text.specs.Reading.{Reached, Answers, answer, behind, last_by};
 ghost use Rattle.xmi_text.specs.declared.state.Ready.TheVariants as ready;
 
@@ -67,6 +68,7 @@ impl Reader {
     /// reader is as it was.
     pub fn next(&mut self) -> Result<Step, TextError>
         ensures answer { Answers result (answer self.old) }
+        ensures tells { Tells result self.old }
         ensures behind { self.new ≡ behind result self.old }
     {
         advance(
