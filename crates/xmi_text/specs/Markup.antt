@@ -6,6 +6,7 @@ use Rattle.std.specs.Char.{digit_value}
 use Rattle.std.specs.List.{list_all}
 use Rattle.std.specs.Str.{all_scalars}
 use Rattle.mof_metamodel.specs.Characters.{is_blank, is_storable_character, is_storable_text}
+use Rattle.mof_metamodel.specs.declared.limits.TheConstants.{MAX_XMI_NESTING}
 use Rattle.xmi_text.specs.ByteClass.{within, continues_name}
 use Rattle.xmi_text.specs.Names.{is_far, is_name}
 use Rattle.xmi_text.specs.Trees.{Event, Opens, Says, Closes, Tree, events}
@@ -268,10 +269,11 @@ open_behind names (StartTag tag) = tag.name ∷ names
 open_behind names (EndTag name blanks) = outer names
 open_behind names _ = names
 
--- a piece fits in open elements: 256 at most are nested, and an end tag has the innermost one's name
+-- a piece fits in open elements: a start tag where they are fewer than the limit on nesting, an end tag where the innermost
+-- one has its name
 abbrev pub Fits : List (List ℕ) → Piece → Type 0
-Fits names (StartTag tag) = length names < 256
-Fits names (EmptyTag tag) = length names < 256
+Fits names (StartTag tag) = length names < MAX_XMI_NESTING
+Fits names (EmptyTag tag) = length names < MAX_XMI_NESTING
 Fits names (EndTag name blanks) = innermost names ≡ Some name
 Fits names _ = Unit {0}
 

@@ -1,5 +1,6 @@
 -- What one more ASCII byte does in each place of the grammar.
 use Rattle.std.specs.Prelude.{ℕ, Bool, true, false, ◌+◌, ◌==◌, ◌&&◌, ◌||◌, not, nat_lt, [], ◌∷◌, ◌++◌, length, Option, Some, None, if◌then◌else◌}
+use Rattle.mof_metamodel.specs.declared.limits.TheConstants.{MAX_XMI_NESTING}
 use Rattle.xmi_text.specs.ByteClass.{begins_name, continues_name, is_blank, is_storable_byte}
 use Rattle.xmi_text.specs.AttrNames.{has_name}
 use Rattle.xmi_text.specs.States as states
@@ -61,10 +62,10 @@ end s less at = if is_inside s then states.begin_end s less else fail s kinds.Ba
 abbrev pub too_deep : State → ℕ → State
 too_deep s less = fail (record s { ready = states.due s.run }) kinds.Limit less
 
--- at the first character of a start tag's name: there is one root, and at most 256 elements are nested
+-- at the first character of a start tag's name: there is one root, and elements are nested up to a limit
 abbrev pub begin_element : State → ℕ → ℕ → ℕ → State
 begin_element s less at c =
-    if is_inside s then (if nat_lt (length s.elements) 256 then states.begin_tag s less c else too_deep s less)
+    if is_inside s then (if nat_lt (length s.elements) MAX_XMI_NESTING then states.begin_tag s less c else too_deep s less)
     else if s.rooted then fail s kinds.BadMark at
     else states.begin_tag s less c
 

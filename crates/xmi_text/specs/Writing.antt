@@ -1,6 +1,7 @@
 -- What a writer writes, as characters.
 use Rattle.std.specs.Prelude.{ℕ, Bool, true, false, ◌==◌, ◌-◌, ◌||◌, ◌&&◌, not, nat_lt, nat_eq, List, [], ◌∷◌, ◌++◌, length, codes, slice_get, Option, None, Some, if◌then◌else◌}
 use Rattle.std.specs.Cmp.Lexicographic.{pointwise}
+use Rattle.mof_metamodel.specs.declared.limits.TheConstants.{MAX_XMI_NESTING}
 use Rattle.xmi_text.specs.States.{front}
 
 -- the characters so far, the names of the open elements, the root first, and the names of the attributes of the
@@ -25,9 +26,9 @@ is_tag (Some names) = true
 abbrev pub is_inside : Written → Bool
 is_inside w = nat_lt 0 (length w.elements)
 
--- an element may begin: the root, or one inside at most 255 others
+-- an element may begin: the root, or one inside fewer others than the limit on nesting
 abbrev pub may_open : Written → Bool
-may_open w = if is_inside w then nat_lt (length w.elements) 256 else (length w.text == 0)
+may_open w = if is_inside w then nat_lt (length w.elements) MAX_XMI_NESTING else (length w.text == 0)
 
 -- one of the names is this
 abbrev pub has : List (List ℕ) → List ℕ → Bool

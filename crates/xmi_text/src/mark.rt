@@ -5,7 +5,7 @@ use mof_metamodel::{Seq, Text};
 pub enum Step {
     /// The next mark of the text.
     Mark(Mark),
-    /// The bytes so far don't fix the next mark.
+    /// The bytes so far leave the next answer open.
     NotYet,
 }
 
