@@ -94,17 +94,9 @@ after_blank s (modes.Doctype less word_at matched) c at b e z l =
     (both (nat_lt matched 6) (go t (modes.Doctype less word_at (matched + 1))) (fail t kinds.Doctype less) tt tt)
 after_blank s (modes.EndName less matched) (Some p) at b e z l = let k = z.cut in absurd k.0
 after_blank s (modes.Reference amp place part) (Some p) at b e z l = let k = z.cut in absurd k.0
-after_blank s modes.Start None at b e z l = every (λ x. After s at x modes.Start None) tt tt tt tt b e
-after_blank s modes.Outside None at b e z l = every (λ x. After s at x modes.Outside None) tt tt tt tt b e
 after_blank s modes.Inside None at b e z l =
     let t : State = here s modes.Inside None in
     every (λ x. After s at x modes.Inside None) tt tt (both s.returned (go t modes.Inside) (states.add t modes.Inside (10 ∷ []) false) tt tt) tt b e
-after_blank s (modes.Less less) None at b e z l = every (λ x. After s at x (modes.Less less) None) tt tt tt tt b e
-after_blank s (modes.Bang less) None at b e z l = every (λ x. After s at x (modes.Bang less) None) tt tt tt tt b e
-after_blank s modes.Dash None at b e z l = every (λ x. After s at x modes.Dash None) tt tt tt tt b e
-after_blank s modes.Comment None at b e z l = every (λ x. After s at x modes.Comment None) tt tt tt tt b e
-after_blank s modes.CommentDash None at b e z l = every (λ x. After s at x modes.CommentDash None) tt tt tt tt b e
-after_blank s modes.CommentDashes None at b e z l = every (λ x. After s at x modes.CommentDashes None) tt tt tt tt b e
 after_blank s (modes.CdataStart matched) None at b e z l =
     let t : State = here s (modes.CdataStart matched) None in
     let other = every (λ x. steps.is_wanted (steps.cdata_byte matched) x ≡ false) (cdata_other matched 32 refl refl refl refl refl) (cdata_other matched 9 refl refl refl refl refl) (cdata_other matched 10 refl refl refl refl refl) (cdata_other matched 13 refl refl refl refl refl) b e in
@@ -113,10 +105,6 @@ after_blank s (modes.CdataStart matched) None at b e z l =
 after_blank s (modes.Cdata held) None at b e z l =
     let t : State = here s (modes.Cdata held) None in
     every (λ x. After s at x (modes.Cdata held) None) tt tt (both s.returned (go t states.cdata) (states.add t states.cdata (states.brackets held ++ 10 ∷ []) false) tt tt) tt b e
-after_blank s modes.Question None at b e z l = every (λ x. After s at x modes.Question None) tt tt tt tt b e
-after_blank s (modes.Target colon) None at b e z l = every (λ x. After s at x (modes.Target colon) None) tt tt tt tt b e
-after_blank s modes.Instruction None at b e z l = every (λ x. After s at x modes.Instruction None) tt tt tt tt b e
-after_blank s modes.InstructionQuestion None at b e z l = every (λ x. After s at x modes.InstructionQuestion None) tt tt tt tt b e
 after_blank s (modes.TagName colon) None at b e z l = every (λ x. After s at x (modes.TagName colon) None) refl refl refl refl b e
 after_blank s modes.Tag None at b e z l = every (λ x. After s at x modes.Tag None) refl refl refl refl b e
 after_blank s (modes.AttrName colon) None at b e z l =
@@ -124,8 +112,6 @@ after_blank s (modes.AttrName colon) None at b e z l =
     let ended : Blanked (cleared (cond (has_name s.attrs s.attr.name) (fail t kinds.DuplicateAttribute s.attr.at) (go t modes.AfterName))) =
     both (has_name s.attrs s.attr.name) (fail t kinds.DuplicateAttribute s.attr.at) (go t modes.AfterName) tt tt in
     every (λ x. After s at x (modes.AttrName colon) None) ended ended ended ended b e
-after_blank s modes.AfterName None at b e z l = every (λ x. After s at x modes.AfterName None) tt tt tt tt b e
-after_blank s modes.BeforeValue None at b e z l = every (λ x. After s at x modes.BeforeValue None) tt tt tt tt b e
 after_blank s (modes.Value quotes.Double) None at b e z l =
     let t : State = here s (modes.Value quotes.Double) None in
     every (λ x. After s at x (modes.Value quotes.Double) None) tt tt (both s.returned (go t (modes.Value quotes.Double)) (states.add_to_value t quotes.Double 32 false) tt tt) tt b e
@@ -133,12 +119,11 @@ after_blank s (modes.Value quotes.Single) None at b e z l =
     let t : State = here s (modes.Value quotes.Single) None in
     every (λ x. After s at x (modes.Value quotes.Single) None) tt tt (both s.returned (go t (modes.Value quotes.Single)) (states.add_to_value t quotes.Single 32 false) tt tt) tt b e
 after_blank s modes.AfterValue None at b e z l = every (λ x. After s at x modes.AfterValue None) refl refl refl refl b e
-after_blank s modes.Slash None at b e z l = every (λ x. After s at x modes.Slash None) tt tt tt tt b e
 after_blank s (modes.EndName less matched) None at b e z l = blank_name s less matched at b (wanted s matched) e (l matched)
-after_blank s (modes.EndTail less) None at b e z l = every (λ x. After s at x (modes.EndTail less) None) tt tt tt tt b e
 after_blank s (modes.Reference amp place part) None at b e z l =
     let t : State = here s (modes.Reference amp place part) None in
     subst (λ (u : State). Blanked (cleared u)) (sym (cond-false (b == 59) _ _ (every (λ x. (x == 59) ≡ false) refl refl refl refl b e) ∙ ap (automaton.reference_on t amp place) (blank_no_reference part b e))) tt
+after_blank s m None at b e z l = every (λ x. After s at x m None) tt tt tt tt b e
 after_blank s m (Some p) at b e z l =
     let k = z.cut in
     let low : b < 128 = every (λ x. x < 128) (omega arith) (omega arith) (omega arith) (omega arith) b e in

@@ -103,9 +103,6 @@ markup_here s (modes.Reference amp place part) (Some p) at z l a d = let k = z.c
 markup_here s modes.Start None at z l a d = record { uncut = refl; step = refl }
 markup_here s modes.Outside None at z l a d = record { uncut = refl; step = refl }
 markup_here s modes.Inside None at z l a d = record { uncut = refl; step = refl }
-markup_here s (modes.Less less) None at z l a d = absurd (a tt)
-markup_here s (modes.Bang less) None at z l a d = absurd (a tt)
-markup_here s modes.Dash None at z l a d = absurd (a tt)
 markup_here s modes.Comment None at z l a d = absurd d
 markup_here s modes.CommentDash None at z l a d = absurd d
 markup_here s modes.CommentDashes None at z l a d = absurd d
@@ -113,26 +110,19 @@ markup_here s (modes.CdataStart matched) None at z l a d =
     let t : State = here s (modes.CdataStart matched) None in
     absurd (a (subst (λ (q : Bool). EndsIn (at + 1) (33 ∷ 45 ∷ 45 ∷ []) (cond (not q) (fail t kinds.BadMark at) (cond (nat_lt matched 6) (go t (modes.CdataStart (matched + 1))) (go t states.cdata)))) (sym (cdata_other matched 60 refl refl refl refl refl)) tt))
 markup_here s (modes.Cdata held) None at z l a d = absurd d
-markup_here s modes.Question None at z l a d = absurd (a tt)
 markup_here s (modes.Target colon) None at z l a d = absurd d
 markup_here s modes.Instruction None at z l a d = absurd d
 markup_here s modes.InstructionQuestion None at z l a d = absurd d
-markup_here s (modes.TagName colon) None at z l a d = absurd (a tt)
-markup_here s modes.Tag None at z l a d = absurd (a tt)
 markup_here s (modes.AttrName colon) None at z l a d =
     let t : State = here s (modes.AttrName colon) None in
     absurd (a (both_end (at + 1) (33 ∷ 45 ∷ 45 ∷ []) (has_name s.attrs s.attr.name) (fail t kinds.DuplicateAttribute s.attr.at) (fail t kinds.BadMark at) tt tt))
-markup_here s modes.AfterName None at z l a d = absurd (a tt)
-markup_here s modes.BeforeValue None at z l a d = absurd (a tt)
 markup_here s (modes.Value quotes.Double) None at z l a d = absurd (a tt)
 markup_here s (modes.Value quotes.Single) None at z l a d = absurd (a tt)
-markup_here s modes.AfterValue None at z l a d = absurd (a tt)
-markup_here s modes.Slash None at z l a d = absurd (a tt)
 markup_here s (modes.EndName less matched) None at z l a d = absurd (a (less_no_name s less matched at (wanted s matched) (l matched)))
-markup_here s (modes.EndTail less) None at z l a d = absurd (a tt)
 markup_here s (modes.Reference amp place part) None at z l a d =
     let t : State = here s (modes.Reference amp place part) None in
     absurd (a (subst (λ (o : Option Reference). EndsIn (at + 1) (33 ∷ 45 ∷ 45 ∷ []) (automaton.reference_on t amp place o)) (sym (less_no_reference part)) tt))
+markup_here s m None at z l a d = absurd (a tt)
 markup_here s m (Some p) at z l a d = let k = z.cut in absurd (a (cut_ends s m p at 60 (33 ∷ 45 ∷ 45 ∷ []) (omega arith) k.1 tt))
 
 -- ---- a second colon
@@ -164,12 +154,7 @@ colon_here s (modes.Failed f) c at z a e d = absurd (a tt)
 colon_here s (modes.Doctype less word_at matched) c at z a e d = absurd (a (ends_on at (here s (modes.Doctype less word_at matched) c) (46 ∷ []) z tt))
 colon_here s (modes.EndName less matched) (Some p) at z a e d = let k = z.cut in absurd k.0
 colon_here s (modes.Reference amp place part) (Some p) at z a e d = let k = z.cut in absurd k.0
-colon_here s modes.Start None at z a e d = absurd (a tt)
-colon_here s modes.Outside None at z a e d = absurd (a tt)
 colon_here s modes.Inside None at z a e d = absurd d
-colon_here s (modes.Less less) None at z a e d = absurd (a tt)
-colon_here s (modes.Bang less) None at z a e d = absurd (a tt)
-colon_here s modes.Dash None at z a e d = absurd (a tt)
 colon_here s modes.Comment None at z a e d = absurd d
 colon_here s modes.CommentDash None at z a e d = absurd d
 colon_here s modes.CommentDashes None at z a e d = absurd d
@@ -177,25 +162,19 @@ colon_here s (modes.CdataStart matched) None at z a e d =
     let t : State = here s (modes.CdataStart matched) None in
     absurd (a (subst (λ (q : Bool). EndsIn (at + 1) [] (cond (not q) (fail t kinds.BadMark at) (cond (nat_lt matched 6) (go t (modes.CdataStart (matched + 1))) (go t states.cdata)))) (sym (cdata_other matched 46 refl refl refl refl refl)) tt))
 colon_here s (modes.Cdata held) None at z a e d = absurd d
-colon_here s modes.Question None at z a e d = absurd (a tt)
 colon_here s (modes.Target true) None at z a e d = refl
 colon_here s (modes.Target false) None at z a e d = absurd d
 colon_here s modes.Instruction None at z a e d = absurd d
 colon_here s modes.InstructionQuestion None at z a e d = absurd d
 colon_here s (modes.TagName true) None at z a e d = refl
 colon_here s (modes.TagName false) None at z a e d = absurd d
-colon_here s modes.Tag None at z a e d = absurd (a tt)
 colon_here s (modes.AttrName true) None at z a e d = refl
 colon_here s (modes.AttrName false) None at z a e d = absurd d
-colon_here s modes.AfterName None at z a e d = absurd (a tt)
-colon_here s modes.BeforeValue None at z a e d = absurd (a tt)
 colon_here s (modes.Value quotes.Double) None at z a e d = absurd d
 colon_here s (modes.Value quotes.Single) None at z a e d = absurd d
-colon_here s modes.AfterValue None at z a e d = absurd (a tt)
-colon_here s modes.Slash None at z a e d = absurd (a tt)
 colon_here s (modes.EndName less matched) None at z a e d = absurd (one_byte s less matched at (wanted s matched) a e)
-colon_here s (modes.EndTail less) None at z a e d = absurd (a tt)
 colon_here s (modes.Reference amp place part) None at z a e d =
     let t : State = here s (modes.Reference amp place part) None in
     absurd (a (subst (λ (o : Option Reference). EndsIn (at + 1) [] (automaton.reference_on t amp place o)) (sym (dot_no_reference part)) tt))
+colon_here s m None at z a e d = absurd (a tt)
 colon_here s m (Some p) at z a e d = let k = z.cut in absurd (a (cut_ends s m p at 46 [] (omega arith) k.1 tt))

@@ -59,12 +59,7 @@ reference_place s (modes.Failed f) c at z l a d = absurd (a tt)
 reference_place s (modes.Doctype less word_at matched) c at z l a d = absurd (a (ends_on at (here s (modes.Doctype less word_at matched) c) (38 ∷ 108 ∷ 116 ∷ 59 ∷ []) z tt))
 reference_place s (modes.EndName less matched) (Some p) at z l a d = let k = z.cut in absurd k.0
 reference_place s (modes.Reference amp place part) (Some p) at z l a d = let k = z.cut in absurd k.0
-reference_place s modes.Start None at z l a d = absurd (a tt)
-reference_place s modes.Outside None at z l a d = absurd (a tt)
 reference_place s modes.Inside None at z l a d = record { uncut = refl; place = places.Content; step = refl }
-reference_place s (modes.Less less) None at z l a d = absurd (a tt)
-reference_place s (modes.Bang less) None at z l a d = absurd (a tt)
-reference_place s modes.Dash None at z l a d = absurd (a tt)
 reference_place s modes.Comment None at z l a d = absurd d
 reference_place s modes.CommentDash None at z l a d = absurd d
 reference_place s modes.CommentDashes None at z l a d = absurd d
@@ -72,26 +67,19 @@ reference_place s (modes.CdataStart matched) None at z l a d =
     let t : State = here s (modes.CdataStart matched) None in
     absurd (a (subst (λ (q : Bool). EndsIn (at + 1) (108 ∷ 116 ∷ 59 ∷ []) (cond (not q) (fail t kinds.BadMark at) (cond (nat_lt matched 6) (go t (modes.CdataStart (matched + 1))) (go t states.cdata)))) (sym (cdata_other matched 38 refl refl refl refl refl)) tt))
 reference_place s (modes.Cdata held) None at z l a d = absurd d
-reference_place s modes.Question None at z l a d = absurd (a tt)
 reference_place s (modes.Target colon) None at z l a d = absurd d
 reference_place s modes.Instruction None at z l a d = absurd d
 reference_place s modes.InstructionQuestion None at z l a d = absurd d
-reference_place s (modes.TagName colon) None at z l a d = absurd (a tt)
-reference_place s modes.Tag None at z l a d = absurd (a tt)
 reference_place s (modes.AttrName colon) None at z l a d =
     let t : State = here s (modes.AttrName colon) None in
     absurd (a (both_end (at + 1) (108 ∷ 116 ∷ 59 ∷ []) (has_name s.attrs s.attr.name) (fail t kinds.DuplicateAttribute s.attr.at) (fail t kinds.BadMark at) tt tt))
-reference_place s modes.AfterName None at z l a d = absurd (a tt)
-reference_place s modes.BeforeValue None at z l a d = absurd (a tt)
 reference_place s (modes.Value quotes.Double) None at z l a d = record { uncut = refl; place = places.Value quotes.Double; step = refl }
 reference_place s (modes.Value quotes.Single) None at z l a d = record { uncut = refl; place = places.Value quotes.Single; step = refl }
-reference_place s modes.AfterValue None at z l a d = absurd (a tt)
-reference_place s modes.Slash None at z l a d = absurd (a tt)
 reference_place s (modes.EndName less matched) None at z l a d = absurd (a (amp_no_name s less matched at (wanted s matched) (l matched)))
-reference_place s (modes.EndTail less) None at z l a d = absurd (a tt)
 reference_place s (modes.Reference amp place part) None at z l a d =
     let t : State = here s (modes.Reference amp place part) None in
     absurd (a (subst (λ (o : Option Reference). EndsIn (at + 1) (108 ∷ 116 ∷ 59 ∷ []) (automaton.reference_on t amp place o)) (sym (amp_no_reference part)) tt))
+reference_place s m None at z l a d = absurd (a tt)
 reference_place s m (Some p) at z l a d = let k = z.cut in absurd (a (cut_ends s m p at 38 (108 ∷ 116 ∷ 59 ∷ []) (omega arith) k.1 tt))
 
 -- ---- each part of a reference goes on to one
