@@ -39,7 +39,7 @@ use Rattle.xmi_text.proofs.Reached.{state_from-append}
 use Rattle.xmi_text.proofs.ToldBytes.{all_high, high_first, high_bytes}
 use Rattle.xmi_text.proofs.Told.{here_same}
 use Rattle.xmi_text.proofs.ToldNames.{no_start}
-use Rattle.xmi_text.proofs.Probes.{here, Ends, ends_on, broken, cdata_other, no_letter}
+use Rattle.xmi_text.proofs.Probes.{here, Ends, ends_on, broken, cdata_other, other_name}
 
 every : (P : ℕ → Type 0) → P 32 → P 9 → P 10 → P 13 → (b : ℕ) → characters.is_blank b ≡ true → P b
 every P space tab line return b e = elim (blank_cases b e) [
@@ -81,9 +81,7 @@ blank_no_reference part b e = every (λ x. refs.extended part x ≡ None) refl r
 blank_name : (s : State) (less matched at b : ℕ) (w : Option ℕ) → characters.is_blank b ≡ true → ((x : ℕ) → w ≡ Some x → is_letter x ≡ true) → Blanked (cleared (automaton.end_name_by (here s (modes.EndName less matched) None) less matched at b w))
 blank_name s less matched at b None e f = every (λ x. Blanked (cleared (automaton.end_name_by (here s (modes.EndName less matched) None) less matched at x None))) tt tt tt tt b e
 blank_name s less matched at b (Some w) e f =
-    let t : State = here s (modes.EndName less matched) None in
-    let other : (w == b) ≡ false = false_from_ne_true (w == b) (no_letter w b (f w refl) (every (λ x. is_letter x ≡ false) refl refl refl refl b e)) in
-    subst (λ (q : Bool). Blanked (cleared (cond q (go t (modes.EndName less (matched + 1))) (fail t kinds.WrongEnd less)))) (sym other) tt
+    subst (λ (t : State). Blanked (cleared t)) (sym (other_name s less matched at b w (f w refl) (every (λ x. is_letter x ≡ false) refl refl refl refl b e))) tt
 
 pub after_blank : (s : State) (m : Mode) (c : Option Partial) (at b : ℕ) → characters.is_blank b ≡ true → IsSound (here s m c) → ((matched x : ℕ) → wanted s matched ≡ Some x → is_letter x ≡ true) → After s at b m c
 after_blank s (modes.Failed f) c at b e z l = tt

@@ -1,14 +1,14 @@
 -- What follows a text that has no fault so far may break it: a byte that never stands in UTF-8, one that no end tag's name has,
 -- or the rest of a document type's word.
-use Rattle.std.proofs.Common.{◌≡◌, ℕ, ◌+◌, ◌≤◌, ◌<◌, Bool, true, false, cond, List, [], ◌∷◌, ◌++◌, length, refl, sym, ◌∙◌, ap, subst, arith, Option, Some, None, zero, suc, codes}
+use Rattle.std.proofs.Common.{◌≡◌, ℕ, ◌≤◌, ◌<◌, Bool, true, false, cond, List, [], ◌∷◌, ◌++◌, length, refl, sym, ◌∙◌, ap, subst, arith, Option, Some, None, zero, suc, codes}
 use Rattle.std.proofs.Math.Seq.{take-length}
-use Rattle.std.proofs.lemmas.Bool.{and_from, cond-true, or_right, lt-ltb, false_from_ne_true}
+use Rattle.std.proofs.lemmas.Bool.{and_from, cond-true, or_right, lt-ltb}
 use Rattle.std.specs.Prelude.{nat_lt, ◌==◌, ◌||◌}
 use Rattle.xmi_text.specs.ByteClass.{within}
 use Rattle.xmi_text.specs.AttrNames.{has_name}
 use Rattle.xmi_text.specs.UtfEight as utf
 use Rattle.xmi_text.specs.References as refs
-use Rattle.xmi_text.specs.States.{go, fail, complete, cleared}
+use Rattle.xmi_text.specs.States.{fail, complete, cleared}
 use Rattle.xmi_text.specs.Automaton as automaton
 use Rattle.xmi_text.specs.Automaton.{step_by, wanted, end_fault, fault_at}
 use Rattle.xmi_text.specs.Fixing.{are_bytes}
@@ -28,7 +28,7 @@ use Rattle.xmi_text.specs.declared.state.Mode.TheVariants as modes
 use Rattle.xmi_text.proofs.Sound.{Bits, Cut, NotOpen, sound_of}
 use Rattle.xmi_text.proofs.Staying.{idle_of}
 use Rattle.xmi_text.proofs.Lettered.{is_letter, lettered_wanted}
-use Rattle.xmi_text.proofs.Probes.{here, no_letter}
+use Rattle.xmi_text.proofs.Probes.{here, other_name}
 use Rattle.xmi_text.proofs.Told.{here_same}
 use Rattle.xmi_text.proofs.Reasons.{Goes}
 use Rattle.xmi_text.proofs.History.{Held, IsHeld, held_at}
@@ -127,9 +127,7 @@ end_name : (s : State) (less matched at : ℕ) (w : Option ℕ) → ((x : ℕ) �
     → (h : TextFault) × (automaton.end_name_by (here s (modes.EndName less matched) None) less matched at 60 w ≡ fail (here s (modes.EndName less matched) None) h.kind h.at) × NotOpen h.kind
 end_name s less matched at None f = (fault_at kinds.BadMark at, refl, tt)
 end_name s less matched at (Some w) f =
-    let u : State = here s (modes.EndName less matched) None in
-    let other : (w == 60) ≡ false = false_from_ne_true (w == 60) (no_letter w 60 (f w refl) refl) in
-    (fault_at kinds.WrongEnd less, ap (λ (q : Bool). cond q (go u (modes.EndName less (matched + 1))) (fail u kinds.WrongEnd less)) other, tt)
+    (fault_at kinds.WrongEnd less, other_name s less matched at 60 w (f w refl) refl, tt)
 
 in_end_name : (s : State) (less matched at : ℕ) → ((x : ℕ) → wanted s matched ≡ Some x → is_letter x ≡ true) → Breaks (here s (modes.EndName less matched) None) at
 in_end_name s less matched at l =

@@ -1,6 +1,6 @@
 -- What bytes that may follow tell of the state: where markup begins, where a reference does, and where a name has a colon.
 use Rattle.std.proofs.Common.{◌≡◌, ℕ, ◌+◌, ◌≤◌, ◌<◌, Bool, true, false, cond, List, [], ◌∷◌, refl, sym, ◌∙◌, ap, subst, arith, Option, Some, None, inl, inr, true≢false}
-use Rattle.std.proofs.lemmas.Bool.{or_left, lt-ltb, cond-true, eqb-true, cases_Bool}
+use Rattle.std.proofs.lemmas.Bool.{or_left, lt-ltb, cond-true, cond-false, eqb-true, cases_Bool, false_from_ne_true}
 use Rattle.std.specs.Prelude.{nat_lt, ◌==◌, ◌||◌, not}
 use Rattle.xmi_text.specs.AttrNames.{has_name}
 use Rattle.xmi_text.specs.UtfEight as utf
@@ -73,8 +73,13 @@ cdata_other matched b c d a t k =
 
 -- ---- markup
 
-pub no_letter : (w b : ℕ) → is_letter w ≡ true → is_letter b ≡ false → (w == b) ≡ true → ⊥
+no_letter : (w b : ℕ) → is_letter w ≡ true → is_letter b ≡ false → (w == b) ≡ true → ⊥
 no_letter w b h n e = true≢false (sym h ∙ ap is_letter (eqb-true w b e) ∙ n)
+
+-- a byte of no name in an end tag's
+pub other_name : (s : State) (less matched at b w : ℕ) → is_letter w ≡ true → is_letter b ≡ false
+    → automaton.end_name_by (here s (modes.EndName less matched) None) less matched at b (Some w) ≡ fail (here s (modes.EndName less matched) None) kinds.WrongEnd less
+other_name s less matched at b w h n = cond-false (w == b) _ _ (false_from_ne_true (w == b) (no_letter w b h n))
 
 pub record Marks (s : State) (m : Mode) (c : Option Partial) (at : ℕ) : Type 0 where
   pub uncut : c ≡ None
@@ -86,13 +91,7 @@ less_no_reference _ = refl
 
 less_no_name : (s : State) (less matched at : ℕ) (w : Option ℕ) → ((x : ℕ) → w ≡ Some x → is_letter x ≡ true) → EndsIn (at + 1) (33 ∷ 45 ∷ 45 ∷ []) (automaton.end_name_by (here s (modes.EndName less matched) None) less matched at 60 w)
 less_no_name s less matched at None f = tt
-less_no_name s less matched at (Some w) f =
-    elim (cases_Bool (w == 60)) [
-      | inl e ↦ absurd (no_letter w 60 (f w refl) refl e)
-      | inr e ↦
-          let t : State = here s (modes.EndName less matched) None in
-          subst (λ (q : Bool). EndsIn (at + 1) (33 ∷ 45 ∷ 45 ∷ []) (cond q (go t (modes.EndName less (matched + 1))) (fail t kinds.WrongEnd less))) (sym e) tt
-    ]
+less_no_name s less matched at (Some w) f = subst (EndsIn (at + 1) (33 ∷ 45 ∷ 45 ∷ [])) (sym (other_name s less matched at 60 w (f w refl) refl)) tt
 
 pub markup_here : (s : State) (m : Mode) (c : Option Partial) (at : ℕ) → IsSound (here s m c) → ((matched x : ℕ) → wanted s matched ≡ Some x → is_letter x ≡ true)
     → (Ends (here s m c) at (60 ∷ 33 ∷ 45 ∷ 45 ∷ []) → ⊥) → Ends (here s m c) at (60 ∷ 32 ∷ []) → Marks s m c at

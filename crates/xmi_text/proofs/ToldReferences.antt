@@ -29,7 +29,7 @@ use Rattle.xmi_text.proofs.Staying.{idle_of}
 use Rattle.xmi_text.proofs.Backward.{Finishes}
 use Rattle.xmi_text.proofs.Backrefs.{grows, ends}
 use Rattle.xmi_text.proofs.Lettered.{is_letter, lettered_wanted}
-use Rattle.xmi_text.proofs.Probes.{here, Ends, EndsIn, ends_on, both_end, cut_ends, cdata_other, no_letter}
+use Rattle.xmi_text.proofs.Probes.{here, Ends, EndsIn, ends_on, both_end, cut_ends, cdata_other, other_name}
 use Rattle.xmi_text.proofs.Told.{state_at, stands_within, may_go, may_not, told, told_here, here_same, begins_split, IsTold}
 
 -- ---- a place where a reference may stand
@@ -45,13 +45,7 @@ amp_no_reference _ = refl
 
 amp_no_name : (s : State) (less matched at : ℕ) (w : Option ℕ) → ((x : ℕ) → w ≡ Some x → is_letter x ≡ true) → EndsIn (at + 1) (108 ∷ 116 ∷ 59 ∷ []) (automaton.end_name_by (here s (modes.EndName less matched) None) less matched at 38 w)
 amp_no_name s less matched at None f = tt
-amp_no_name s less matched at (Some w) f =
-    elim (cases_Bool (w == 38)) [
-      | inl e ↦ absurd (no_letter w 38 (f w refl) refl e)
-      | inr e ↦
-          let t : State = here s (modes.EndName less matched) None in
-          subst (λ (q : Bool). EndsIn (at + 1) (108 ∷ 116 ∷ 59 ∷ []) (cond q (go t (modes.EndName less (matched + 1))) (fail t kinds.WrongEnd less))) (sym e) tt
-    ]
+amp_no_name s less matched at (Some w) f = subst (EndsIn (at + 1) (108 ∷ 116 ∷ 59 ∷ [])) (sym (other_name s less matched at 38 w (f w refl) refl)) tt
 
 reference_place : (s : State) (m : Mode) (c : Option Partial) (at : ℕ) → IsSound (here s m c) → ((matched x : ℕ) → wanted s matched ≡ Some x → is_letter x ≡ true)
     → (Ends (here s m c) at (38 ∷ 108 ∷ 116 ∷ 59 ∷ []) → ⊥) → Ends (here s m c) at (38 ∷ 32 ∷ []) → Refers s m c at
