@@ -63,9 +63,9 @@ impl Reader {
         self.finished = true;
     }
 
-    /// The next mark of the text, if the bytes so far fix it. Behind the last mark comes `End` or the fault, or
-    /// `NotYet` while the text goes on without a fault; the same answer comes again then. After `NoMemory` the
-    /// reader is as it was.
+    /// The next mark of the text, or behind the last one `End` or the fault, which comes again then. While the text
+    /// may go on it is answered where the bytes so far fix it, whatever follows, and `NotYet` where they leave it
+    /// open. After `NoMemory` the reader is as it was.
     pub fn next(&mut self) -> Result<Step, TextError>
         ensures answer { Answers result (answer self.old) }
         ensures tells { Tells result self.old }
