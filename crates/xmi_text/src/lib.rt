@@ -18,7 +18,9 @@ mod steps;
 mod utf_eight;
 mod writer;
 
-pub use document_laws::one_document_tree;
+pub use document_laws::{
+    marks_are_complete_early, marks_have_places, marks_tell_documents, one_document_tree,
+};
 pub use error::{TextError, TextFault, TextKind};
 pub use fault_laws::faults_stand;
 pub use first_fault_laws::{documents_have_no_fault, no_fault_is_missed, told_fault_is_first};
