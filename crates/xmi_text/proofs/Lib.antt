@@ -12,6 +12,8 @@ pub mod ValueSteps
 pub mod TagSteps
 pub mod Spelled
 pub mod Timing
+pub mod Silent
+pub mod Stopping
 pub mod EventTrees
 pub mod Written
 pub mod Sound

@@ -22,7 +22,7 @@ pub use document_laws::{
     marks_are_complete_early, marks_have_places, marks_tell_documents, one_document_tree,
 };
 pub use error::{TextError, TextFault, TextKind};
-pub use fault_laws::faults_stand;
+pub use fault_laws::{faults_stand, marks_stop};
 pub use first_fault_laws::{documents_have_no_fault, no_fault_is_missed, told_fault_is_first};
 pub use laws::{
     completions_end, documents_are_read, documents_begin, faults_have_places, faults_stay,
