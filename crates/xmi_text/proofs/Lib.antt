@@ -14,6 +14,7 @@ pub mod Spelled
 pub mod Timing
 pub mod Silent
 pub mod Stopping
+pub mod Deepest
 pub mod EventTrees
 pub mod Written
 pub mod Sound

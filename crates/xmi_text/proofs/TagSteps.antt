@@ -239,35 +239,37 @@ admitted_element s place at c a = elim a [
 abbrev tag_begun : State → ℕ → List ℕ → State
 tag_begun s place cs = record s { run = []; tag = cs; tag_at = place; attrs = []; rooted = true }
 
-abbrev whole_of : State → State
+abbrev pub whole_of : State → State
 whole_of s = record s { partial = None }
 
 begins_other : (c d : ℕ) → begins_name c ≡ true → begins_name d ≡ false → (c == d) ≡ false
 begins_other c d e f = other c d (λ x. true≢false (sym (subst (λ q. begins_name q ≡ true) x e) ∙ f))
 
-less_low : (s : State) (place at c : ℕ) → Admits s → begins_name c ≡ true → ascii (at_mode s (modes.Less place) false) (modes.Less place) at c ≡ states.begin_tag (at_mode s (modes.Less place) false) place c
-less_low s place at c a e =
-    if_false (c == 33) _ _ (begins_other c 33 e refl)
-    ∙ if_false (c == 63) _ _ (begins_other c 63 e refl)
-    ∙ if_false (c == 47) _ _ (begins_other c 47 e refl)
-    ∙ if_true (begins_name c) _ _ e
-    ∙ admitted_element (at_mode s (modes.Less place) false) place at c a
+pub less_low : (s : State) (place at c : ℕ) → begins_name c ≡ true → ascii (at_mode s (modes.Less place) false) (modes.Less place) at c ≡ steps.begin_element (at_mode s (modes.Less place) false) place at c
+less_low s place at c e =
+    if_false (c == 33) _ _ (begins_other c 33 e refl) ∙ if_false (c == 63) _ _ (begins_other c 63 e refl) ∙ if_false (c == 47) _ _ (begins_other c 47 e refl) ∙ if_true (begins_name c) _ _ e
 
-less_high : (s : State) (place : ℕ) (p : Partial) (last c : ℕ) → Admits s → is_unstorable c ≡ false → behind_whole s (modes.Less place) false p last c ≡ states.begin_tag (at_mode s (modes.Less place) false) place c
-less_high s place p last c a f =
+pub less_high : (s : State) (place : ℕ) (p : Partial) (last c : ℕ) → is_unstorable c ≡ false → behind_whole s (modes.Less place) false p last c ≡ whole_of (steps.begin_element (within_character s (modes.Less place) false p) place p.lead c)
+less_high s place p last c f =
     let t : State = within_character s (modes.Less place) false p in
     ap whole_of (if_false (is_unstorable c) (unstorable t (modes.Less place) p.lead last) (steps.begin_element t place p.lead c) f)
-    ∙ ap whole_of (admitted_element t place p.lead c a)
+
+-- the first character of a name behind `<`, where an element may begin
+admitted_low : (s : State) (place at c : ℕ) → Admits s → begins_name c ≡ true → ascii (at_mode s (modes.Less place) false) (modes.Less place) at c ≡ states.begin_tag (at_mode s (modes.Less place) false) place c
+admitted_low s place at c a e = less_low s place at c e ∙ admitted_element (at_mode s (modes.Less place) false) place at c a
+
+admitted_high : (s : State) (place : ℕ) (p : Partial) (last c : ℕ) → Admits s → is_unstorable c ≡ false → behind_whole s (modes.Less place) false p last c ≡ states.begin_tag (at_mode s (modes.Less place) false) place c
+admitted_high s place p last c a f = less_high s place p last c f ∙ ap whole_of (admitted_element (within_character s (modes.Less place) false p) place p.lead c a)
 
 first_of_tag : (at place : ℕ) (s : State) (run : List ℕ) (c : ℕ) → utf8.scalar c ≡ true → (begins_name c || is_far c) ≡ true → Admits s → Walk at (at_mode (record s { run = run }) (modes.Less place) false) (encode c) (data_at s.run_at run (at + length (encode c))) (at_mode (tag_begun s place (c ∷ [])) (modes.TagName false) false)
 first_of_tag at place s [] c ok e a =
     let s1 : State = record s { run = [] } in
     one_character at s1 (modes.Less place) false c (states.begin_tag (at_mode s1 (modes.Less place) false) place c) tt ok
-    (λ l. less_low s1 place at c a (begins_low c e l)) (λ l p last b. less_high s1 place p last c a (begins_high c e l))
+    (λ l. admitted_low s1 place at c a (begins_low c e l)) (λ l p last b. admitted_high s1 place p last c a (begins_high c e l))
 first_of_tag at place s (x ∷ run) c ok e a =
     let s1 : State = record s { run = x ∷ run } in
     one_character at s1 (modes.Less place) false c (states.begin_tag (at_mode s1 (modes.Less place) false) place c) tt ok
-    (λ l. less_low s1 place at c a (begins_low c e l)) (λ l p last b. less_high s1 place p last c a (begins_high c e l))
+    (λ l. admitted_low s1 place at c a (begins_low c e l)) (λ l p last b. admitted_high s1 place p last c a (begins_high c e l))
 
 tag_name_walk : (at place : ℕ) (s : State) (run name : List ℕ) → scalars name ≡ true → is_name name ≡ true → Admits s → (k : Bool) × Walk at (at_mode (record s { run = run }) (modes.Less place) false) (encodes name) (data_at s.run_at run (at + length (encodes (take 1 name)))) (at_mode (tag_begun s place name) (modes.TagName k) false)
 tag_name_walk at place s run [] ok e a = absurd (true≢false (sym e))

@@ -1,12 +1,14 @@
 -- The marks that the first bytes of a text complete are those of the text that need no more bytes.
-use Rattle.std.proofs.Common.{◌≡◌, ℕ, zero, suc, ◌+◌, ◌≤◌, ◌<◌, Bool, true, false, List, [], ◌∷◌, ◌++◌, take, refl, sym, ◌∙◌, ap, ap₂, arith, cond}
+use Rattle.std.proofs.Common.{◌≡◌, ℕ, zero, suc, ◌+◌, ◌≤◌, ◌<◌, Bool, true, false, List, [], ◌∷◌, ◌++◌, length, take, refl, sym, ◌∙◌, ap, ap₂, arith, cond}
 use Rattle.std.specs.Prelude.{nat_le, encode_utf8_all}
 use Rattle.std.specs.Str.{all_scalars}
+use Rattle.std.proofs.Math.Seq.{take-append_seam}
 use Rattle.std.proofs.lemmas.Bool.{le-leb, lt-leb}
 use Rattle.xmi_text.specs.States.{start, complete, cleared}
 use Rattle.xmi_text.specs.Automaton.{step}
 use Rattle.xmi_text.specs.Reading.{marks_from, marks_of}
-use Rattle.xmi_text.specs.Markup.{Document, IsDocument, document_text}
+use Rattle.xmi_text.specs.Markup.{Document, IsDocument, document_text, Markup}
+use Rattle.xmi_text.specs.Trees.{Tree}
 use Rattle.xmi_text.specs.Places.{Timed, marks_only, document_marks, complete_within, complete_marks}
 use Rattle.xmi_text.specs.declared.mark.Mark.{Mark}
 use Rattle.xmi_text.specs.declared.state.State.{State}
@@ -66,3 +68,7 @@ first_marks_read d n i ok =
     within_from n 0 start bytes
     ∙ ap (λ (k : ℕ). complete_within k (timed_from 0 start bytes)) (omega arith)
     ∙ ap (complete_within n) (document_timed d i ok)
+
+pub beginning_read : (bytes more : List ℕ) (tree : Tree) (m : Markup (bytes ++ more) tree) → marks_of bytes ≡ complete_marks m.document (length bytes)
+beginning_read bytes more tree m =
+    ap marks_of (sym (take-append_seam bytes more) ∙ ap (take (length bytes)) m.written) ∙ first_marks_read m.document (length bytes) m.whole m.scalars

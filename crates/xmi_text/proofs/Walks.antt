@@ -27,7 +27,7 @@ marks_only-append : (xs ys : List Timed) → marks_only (xs ++ ys) ≡ marks_onl
 marks_only-append [] ys = refl
 marks_only-append (x ∷ xs) ys = ap (λ (ms : List Mark). x.mark ∷ ms) (marks_only-append xs ys)
 
-all_by-only : (n : ℕ) (ms : List Mark) → marks_only (all_by n ms) ≡ ms
+pub all_by-only : (n : ℕ) (ms : List Mark) → marks_only (all_by n ms) ≡ ms
 all_by-only n [] = refl
 all_by-only n (m ∷ ms) = ap (λ (xs : List Mark). m ∷ xs) (all_by-only n ms)
 

@@ -1,4 +1,4 @@
-ghost use Rattle.std.specs.Prelude.{◌≡◌, ◌≢◌, ◌+◌, ℕ, List, Some, take};
+ghost use Rattle.std.specs.Prelude.{◌≡◌, ◌≢◌, ◌+◌, ◌++◌, ℕ, List, Some, take, codes};
 ghost use Rattle.xmi_text.specs.Faults.{IsFaultAt};
 ghost use Rattle.xmi_text.specs.Markup.{Begins};
 ghost use Rattle.xmi_text.specs.Reading.{end_fault_of, marks_of};
@@ -10,7 +10,9 @@ pub fn faults_stand()
     ensures { (bytes : List ℕ) (fault : TextFault) → end_fault_of bytes ≡ Some fault → IsFaultAt bytes fault.kind fault.at }
 {}
 
-/// With the byte that shows a fault, and behind it, no mark is complete.
+/// The byte with which bytes no longer begin a document, and those behind it, complete no mark. An element too deep
+/// completes the run of text before it, as an end tag in its place would.
 pub fn marks_stop()
-    ensures { (bytes : List ℕ) (n : ℕ) (fault : TextFault) → end_fault_of bytes ≡ Some fault → fault.kind ≢ Limit → ¬ Begins (take (n + 1) bytes) → marks_of bytes ≡ marks_of (take n bytes) }
+    ensures behind { (bytes : List ℕ) (n : ℕ) (fault : TextFault) → end_fault_of bytes ≡ Some fault → fault.kind ≢ Limit → ¬ Begins (take (n + 1) bytes) → marks_of bytes ≡ marks_of (take n bytes) }
+    ensures deep { (bytes : List ℕ) (fault : TextFault) → end_fault_of bytes ≡ Some fault → fault.kind ≡ Limit → marks_of bytes ≡ marks_of (take fault.at bytes ++ codes "</") }
 {}

@@ -19,7 +19,7 @@ mod utf_eight;
 mod writer;
 
 pub use document_laws::{
-    marks_are_complete_early, marks_have_places, marks_tell_documents, one_document_tree,
+    first_bytes_are_read, marks_have_places, marks_tell_documents, one_document_tree,
 };
 pub use error::{TextError, TextFault, TextKind};
 pub use fault_laws::{faults_stand, marks_stop};
