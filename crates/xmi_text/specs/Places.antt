@@ -38,7 +38,7 @@ tag_marks at (EmptyTag tag) = timed (behind at (EmptyTag tag)) (open_at at tag) 
 tag_marks at (EndTag name blanks) = timed (behind at (EndTag name blanks)) (marks.Close at) ∷ []
 tag_marks at _ = []
 
--- the characters up to the next tag
+-- the characters up to the next tag, where a comment or an instruction says none
 abbrev pub run : List Piece → List ℕ
 run [] = []
 run (Characters text ∷ pieces) = line_ends false text ++ run pieces
@@ -48,7 +48,7 @@ run (Comment text ∷ pieces) = run pieces
 run (Instruction target text ∷ pieces) = run pieces
 run (tag ∷ pieces) = []
 
--- how many bytes show that the next tag begins: those up to the `/` or the first character behind its `<`
+-- how many bytes show that the next tag begins: those through the `/` or the name's first character behind its `<`
 abbrev pub run_end : ℕ → List Piece → ℕ
 run_end at [] = at
 run_end at (StartTag tag ∷ pieces) = at + size (60 ∷ take 1 tag.name)
@@ -56,7 +56,7 @@ run_end at (EmptyTag tag ∷ pieces) = at + size (60 ∷ take 1 tag.name)
 run_end at (EndTag name blanks ∷ pieces) = at + size (60 ∷ 47 ∷ [])
 run_end at (piece ∷ pieces) = run_end (behind at piece) pieces
 
--- the mark of a run of text behind a tag that ends at this place; no character gives no mark
+-- the mark of a run of text, whose place is the first byte behind the tag before it; no character gives no mark
 abbrev pub data_at : ℕ → List ℕ → ℕ → List Timed
 data_at at [] by = []
 data_at at (c ∷ characters) by = timed by (marks.Data (c ∷ characters) at) ∷ []
