@@ -105,9 +105,9 @@ comment_run at s h (c ∷ cs) ok e n =
 
 comment_end : (at : ℕ) (s : State) (h : Brackets) → Walk at (at_mode s (dashed h) false) (encodes (codes "-->")) [] (at_mode s (around s) false)
 unfolding encode
-comment_end at s None = record { state = refl; events = refl }
-comment_end at s One = record { state = refl; events = refl }
-comment_end at s Two = record { state = refl; events = refl }
+comment_end at s None = record { state = refl; marks = refl }
+comment_end at s One = record { state = refl; marks = refl }
+comment_end at s Two = record { state = refl; marks = refl }
 
 -- ## the start of each, inside an element or outside
 
@@ -120,8 +120,8 @@ around_level s = refl
 
 comment_start : (at : ℕ) (s : State) (inside r : Bool) → Walk at (at_mode s (level inside) r) (encodes (codes "<!--")) [] (at_mode s modes.Comment false)
 unfolding encode
-comment_start at s true r = record { state = refl; events = refl }
-comment_start at s false r = record { state = refl; events = refl }
+comment_start at s true r = record { state = refl; marks = refl }
+comment_start at s false r = record { state = refl; marks = refl }
 
 pub comment_walk : (at : ℕ) (s : State) (inside r : Bool) (text : List ℕ) → scalars text ≡ true → IsUpTo (codes "-->") text → Walk at (at_mode s (level inside) r) (encodes (codes "<!--" ++ (text ++ codes "-->"))) [] (at_mode s (around s) false)
 comment_walk at s inside r text ok e =
@@ -140,17 +140,17 @@ mark question = if question then 63 ∷ [] else []
 
 instruction_end : (at : ℕ) (s : State) (q : Bool) → Walk at (at_mode s (asked q) false) (encodes (codes "?>")) [] (at_mode s (around s) false)
 unfolding encode
-instruction_end at s true = record { state = refl; events = refl }
-instruction_end at s false = record { state = refl; events = refl }
+instruction_end at s true = record { state = refl; marks = refl }
+instruction_end at s false = record { state = refl; marks = refl }
 
 target_end : (at : ℕ) (s : State) (k : Bool) → Walk at (at_mode s (modes.Target k) false) (encodes (codes "?>")) [] (at_mode s (around s) false)
 unfolding encode
-target_end at s k = record { state = refl; events = refl }
+target_end at s k = record { state = refl; marks = refl }
 
 instruction_start : (at : ℕ) (s : State) (inside r : Bool) → Walk at (at_mode s (level inside) r) (encodes (codes "<?")) [] (at_mode s modes.Question false)
 unfolding encode
-instruction_start at s true r = record { state = refl; events = refl }
-instruction_start at s false r = record { state = refl; events = refl }
+instruction_start at s true r = record { state = refl; marks = refl }
+instruction_start at s false r = record { state = refl; marks = refl }
 
 asked_plain : (q : Bool) → IsPlain (asked q)
 asked_plain true = tt
@@ -443,17 +443,17 @@ section_run at s h r (c ∷ cs) i ok e n =
 
 section_end : (at : ℕ) (s : State) (h : Brackets) (r : Bool) → Walk at (at_mode s (modes.Cdata h) r) (encodes (codes "]]>")) [] (at_mode (record s { run = s.run ++ held 93 h }) modes.Inside false)
 unfolding encode
-section_end at s None r = record { state = ap (λ x. at_mode (record s { run = x }) modes.Inside false) (sym (append-nil s.run)); events = refl }
-section_end at s One r = record { state = refl; events = refl }
-section_end at s Two r = record { state = ap (λ x. at_mode (record s { run = x }) modes.Inside false) (append_assoc s.run (93 ∷ []) (93 ∷ [])); events = refl }
+section_end at s None r = record { state = ap (λ x. at_mode (record s { run = x }) modes.Inside false) (sym (append-nil s.run)); marks = refl }
+section_end at s One r = record { state = refl; marks = refl }
+section_end at s Two r = record { state = ap (λ x. at_mode (record s { run = x }) modes.Inside false) (append_assoc s.run (93 ∷ []) (93 ∷ [])); marks = refl }
 
 section_bang : (at : ℕ) (s : State) (r : Bool) → Walk at (at_mode s modes.Inside r) (encodes (codes "<!")) [] (at_mode s (modes.Bang at) false)
 unfolding encode
-section_bang at s r = record { state = refl; events = refl }
+section_bang at s r = record { state = refl; marks = refl }
 
 section_word : (at : ℕ) (s : State) → Walk at (at_mode s (modes.CdataStart 1) false) (encodes (codes "CDATA[")) [] (at_mode s (modes.Cdata None) false)
 unfolding encode
-section_word at s = record { state = refl; events = refl }
+section_word at s = record { state = refl; marks = refl }
 
 section_open : (at place : ℕ) (s : State) → is_inside s ≡ true → Walk at (at_mode s (modes.Bang place) false) (encodes (codes "[")) [] (at_mode s (modes.CdataStart 1) false)
 section_open at place s e =

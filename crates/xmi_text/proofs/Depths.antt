@@ -23,6 +23,7 @@ use Rattle.xmi_text.specs.declared.state.Mode.{Mode}
 use Rattle.xmi_text.specs.declared.state.Mode.TheVariants as modes
 use Rattle.xmi_text.specs.declared.state.Ready.TheVariants as ready
 use Rattle.xmi_text.proofs.Sound.{sound_of}
+use lib.Utf8.{low_scalar}
 use Rattle.xmi_text.proofs.Backfar.{storable_far, small_scalar}
 use Rattle.xmi_text.proofs.Reasons.{Goes, IsRound, First, TooDeep, Reason}
 use Rattle.xmi_text.proofs.History.{Begun, Held, IsHeld, fails, Early, held_at, bits_for, fills_whole}
@@ -69,43 +70,71 @@ element_may_not s m at k r i f =
 
 -- a character that begins a name
 record Begins (c : ℕ) : Type 0 where
+  scalar : scalar c ≡ true
   begun : (begins_name c ≡ true) ⊎ ((is_far c ≡ true) × (all_scalars (c ∷ []) ≡ true))
 
-limit_at : (bytes ys rest : List ℕ) (n c : ℕ) (names : List (List ℕ)) (r : Bool) → (h : Begun ys n (60 ∷ []) names r) → bytes ≡ h.before ++ ((60 ∷ encode c) ++ rest) → nat_lt 0 (length names) ≡ true → nat_lt (length names) 256 ≡ false → Begins c → IsLimit bytes n
-limit_at bytes ys rest n c names r h e i f w =
+-- an element too deep begins here
+pub record Deep (bytes : List ℕ) (n : ℕ) : Type 0 where
+  pub before : List ℕ
+  pub first : ℕ
+  pub rest : List ℕ
+  pub is : bytes ≡ before ++ ((60 ∷ encode first) ++ rest)
+  pub place : length before ≡ n
+  pub round : IsRound (state_of before).mode
+  pub none : (state_of before).partial ≡ None
+  pub inside : is_inside (state_of before) ≡ true
+  pub full : nat_lt (length (state_of before).elements) 256 ≡ false
+  pub scalar : scalar first ≡ true
+  pub begun : (begins_name first ≡ true) ⊎ ((is_far first ≡ true) × (all_scalars (first ∷ []) ≡ true))
+
+deep_at : (bytes ys rest : List ℕ) (n c : ℕ) (names : List (List ℕ)) (r : Bool) → (h : Begun ys n (60 ∷ []) names r) → bytes ≡ h.before ++ ((60 ∷ encode c) ++ rest) → nat_lt 0 (length names) ≡ true → nat_lt (length names) 256 ≡ false → Begins c → Deep bytes n
+deep_at bytes ys rest n c names r h e i f w = record {
+  before = h.before;
+  first = c;
+  rest = rest;
+  is = e;
+  place = h.place;
+  round = h.round;
+  none = h.none;
+  inside = ap (λ (xs : List (List ℕ)). nat_lt 0 (length xs)) h.elements ∙ i;
+  full = ap (λ (xs : List (List ℕ)). nat_lt (length xs) 256) h.elements ∙ f;
+  scalar = w.scalar;
+  begun = w.begun;
+}
+
+limit_at : (bytes : List ℕ) (n : ℕ) → Deep bytes n → IsLimit bytes n
+limit_at bytes n h =
     let t : State = state_of h.before in
-    let front : take n bytes ≡ h.before = take_front bytes h.before ((60 ∷ encode c) ++ rest) n e h.place in
-    let inside : is_inside t ≡ true = ap (λ (xs : List (List ℕ)). nat_lt 0 (length xs)) h.elements ∙ i in
-    let full : nat_lt (length t.elements) 256 ≡ false = ap (λ (xs : List (List ℕ)). nat_lt (length xs) 256) h.elements ∙ f in
+    let front : take n bytes ≡ h.before = take_front bytes h.before ((60 ∷ encode h.first) ++ h.rest) n h.is h.place in
     record {
       markup = is_markup bytes h.before n front h.round h.none;
-      inside = may bytes h.before (codes "</") n t.mode front refl h.none (λ at k. end_may t t.mode at k h.round inside);
-      full = may_not bytes h.before (codes "<a") n t.mode front refl h.none (λ at k. (fault_at kinds.Limit at, element_may_not t t.mode at k h.round inside full, tt));
-      first = c;
-      begun = w.begun;
-      there = stands bytes h.before (60 ∷ encode c) rest n e h.place;
+      inside = may bytes h.before (codes "</") n t.mode front refl h.none (λ at k. end_may t t.mode at k h.round h.inside);
+      full = may_not bytes h.before (codes "<a") n t.mode front refl h.none (λ at k. (fault_at kinds.Limit at, element_may_not t t.mode at k h.round h.inside h.full, tt));
+      first = h.first;
+      begun = h.begun;
+      there = stands bytes h.before (60 ∷ encode h.first) h.rest n h.is h.place;
     }
 
 -- behind a `<` and an ASCII letter
-limit_low : (bytes xs : List ℕ) (b : ℕ) (rest : List ℕ) (n : ℕ) (names : List (List ℕ)) (r : Bool) → bytes ≡ xs ++ b ∷ rest → Begun xs n (60 ∷ []) names r → nat_lt 0 (length names) ≡ true → nat_lt (length names) 256 ≡ false → b < 128 → begins_name b ≡ true → IsLimit bytes n
-limit_low bytes xs b rest n names r e h i f l w =
-    limit_at bytes xs rest n b names r h
-    (whole_of bytes xs h.before (60 ∷ []) b rest e h.is ∙ ap (λ y. h.before ++ (60 ∷ (y ++ rest))) (sym (encode_ascii b l))) i f (record { begun = inl w })
+deep_low : (bytes xs : List ℕ) (b : ℕ) (rest : List ℕ) (n : ℕ) (names : List (List ℕ)) (r : Bool) → bytes ≡ xs ++ b ∷ rest → Begun xs n (60 ∷ []) names r → nat_lt 0 (length names) ≡ true → nat_lt (length names) 256 ≡ false → b < 128 → begins_name b ≡ true → Deep bytes n
+deep_low bytes xs b rest n names r e h i f l w =
+    deep_at bytes xs rest n b names r h
+    (whole_of bytes xs h.before (60 ∷ []) b rest e h.is ∙ ap (λ y. h.before ++ (60 ∷ (y ++ rest))) (sym (encode_ascii b l))) i f (record { scalar = low_scalar b (omega arith); begun = inl w })
 
 -- behind a `<` and the bytes of a character
-limit_far : (bytes xs : List ℕ) (b : ℕ) (rest : List ℕ) (n c : ℕ) (names : List (List ℕ)) (r : Bool) (before part : List ℕ) → bytes ≡ xs ++ b ∷ rest → xs ≡ before ++ part → Begun before n (60 ∷ []) names r → part ++ b ∷ [] ≡ encode c → 128 ≤ c → scalar c ≡ true → automaton.is_unstorable c ≡ false → nat_lt 0 (length names) ≡ true → nat_lt (length names) 256 ≡ false → IsLimit bytes n
-limit_far bytes xs b rest n c names r before part e p h w l ok u i f =
+deep_far : (bytes xs : List ℕ) (b : ℕ) (rest : List ℕ) (n c : ℕ) (names : List (List ℕ)) (r : Bool) (before part : List ℕ) → bytes ≡ xs ++ b ∷ rest → xs ≡ before ++ part → Begun before n (60 ∷ []) names r → part ++ b ∷ [] ≡ encode c → 128 ≤ c → scalar c ≡ true → automaton.is_unstorable c ≡ false → nat_lt 0 (length names) ≡ true → nat_lt (length names) 256 ≡ false → Deep bytes n
+deep_far bytes xs b rest n c names r before part e p h w l ok u i f =
     let all : bytes ≡ h.before ++ ((60 ∷ encode c) ++ rest) =
     whole_of bytes xs before part b rest e p
     ∙ ap (λ y. y ++ (part ++ b ∷ rest)) h.is
     ∙ append_assoc h.before (60 ∷ []) (part ++ b ∷ rest)
     ∙ ap (λ y. h.before ++ (60 ∷ y)) (sym (append_assoc part (b ∷ []) rest) ∙ ap (λ y. y ++ rest) w) in
-    limit_at bytes before rest n c names r h all i f
-    (record { begun = inr (and_from (nat_le 128 c) (is_storable_character c) (le-leb 128 c l) (storable_far c l u), and_from (scalar c) true ok refl) })
+    deep_at bytes before rest n c names r h all i f
+    (record { scalar = ok; begun = inr (and_from (nat_le 128 c) (is_storable_character c) (le-leb 128 c l) (storable_far c l u), and_from (scalar c) true ok refl) })
 
-limit_by : (bytes xs : List ℕ) (b : ℕ) (rest : List ℕ) (n l : ℕ) (c : Option Partial) → bytes ≡ xs ++ b ∷ rest → (state_of xs).mode ≡ modes.Less l → (state_of xs).partial ≡ c → Held xs (state_of xs) (modes.Less l) c → is_inside (state_of xs) ≡ true → nat_lt (length (state_of xs).elements) 256 ≡ false → First c b → n ≡ l → IsLimit bytes n
-limit_by bytes xs b rest n l None e k o h i f w p = subst (IsLimit bytes) (sym p) (limit_low bytes xs b rest l (state_of xs).elements (state_of xs).rooted e h i f w.0 w.1)
-limit_by bytes xs b rest n l (Some q) e k o h i f w p =
+deep_less : (bytes xs : List ℕ) (b : ℕ) (rest : List ℕ) (n l : ℕ) (c : Option Partial) → bytes ≡ xs ++ b ∷ rest → (state_of xs).mode ≡ modes.Less l → (state_of xs).partial ≡ c → Held xs (state_of xs) (modes.Less l) c → is_inside (state_of xs) ≡ true → nat_lt (length (state_of xs).elements) 256 ≡ false → First c b → n ≡ l → Deep bytes n
+deep_less bytes xs b rest n l None e k o h i f w p = subst (Deep bytes) (sym p) (deep_low bytes xs b rest l (state_of xs).elements (state_of xs).rooted e h i f w.0 w.1)
+deep_less bytes xs b rest n l (Some q) e k o h i f w p =
     let s : State = state_of xs in
     let t : State = state_of h.before in
     let bits = (bits_for s.mode s.partial q (sound_of xs).cut (subst Goes (sym k) tt) o).1 in
@@ -119,17 +148,20 @@ limit_by bytes xs b rest n l (Some q) e k o h i f w p =
     let mode : t.mode ≡ modes.Less l = ap (λ (z : State). z.mode) h.same ∙ k in
     let past : Begun h.before l (60 ∷ []) t.elements t.rooted = past_none h.before t (modes.Less l) t.partial (subst (λ (m : Mode). Held h.before t m t.partial) mode held) h.none tt in
     let names : t.elements ≡ s.elements = ap (λ (z : State). z.elements) h.same in
-    subst (IsLimit bytes) (sym p)
-    (limit_far bytes xs b rest l w.0 t.elements t.rooted h.before h.part e h.is past fills.0 fills.1 one.1 w.2
+    subst (Deep bytes) (sym p)
+    (deep_far bytes xs b rest l w.0 t.elements t.rooted h.before h.part e h.is past fills.0 fills.1 one.1 w.2
     (ap (λ (ns : List (List ℕ)). nat_lt 0 (length ns)) names ∙ i) (ap (λ (ns : List (List ℕ)). nat_lt (length ns) 256) names ∙ f))
 
-deep_by : (bytes xs : List ℕ) (b : ℕ) (rest : List ℕ) (n : ℕ) (m : Mode) → bytes ≡ xs ++ b ∷ rest → (state_of xs).mode ≡ m → Held xs (state_of xs) m (state_of xs).partial → TooDeep (state_of xs) (length xs) b m n → IsLimit bytes n
-deep_by bytes xs b rest n (modes.Less l) e k h w = limit_by bytes xs b rest n l (state_of xs).partial e k refl h w.1 w.2 w.3 w.0
+deep_by : (bytes xs : List ℕ) (b : ℕ) (rest : List ℕ) (n : ℕ) (m : Mode) → bytes ≡ xs ++ b ∷ rest → (state_of xs).mode ≡ m → Held xs (state_of xs) m (state_of xs).partial → TooDeep (state_of xs) (length xs) b m n → Deep bytes n
+deep_by bytes xs b rest n (modes.Less l) e k h w = deep_less bytes xs b rest n l (state_of xs).partial e k refl h w.1 w.2 w.3 w.0
 deep_by bytes xs b rest n _ e k h w = absurd w
 
-pub limit : (bytes : List ℕ) (f : TextFault) → end_fault_of bytes ≡ Some f → f.kind ≡ kinds.Limit → IsLimit bytes f.at
-limit bytes f e k =
+pub deep : (bytes : List ℕ) (f : TextFault) → end_fault_of bytes ≡ Some f → f.kind ≡ kinds.Limit → Deep bytes f.at
+deep bytes f e k =
     let h = fails bytes f (subst Early (sym k) tt) e in
     let s : State = state_of h.xs in
     let w = subst (λ kind. Reason s (length h.xs) h.b s.mode kind f.at) k h.reason in
     deep_by bytes h.xs h.b h.rest f.at s.mode h.is refl h.held w
+
+pub limit : (bytes : List ℕ) (f : TextFault) → end_fault_of bytes ≡ Some f → f.kind ≡ kinds.Limit → IsLimit bytes f.at
+limit bytes f e k = limit_at bytes f.at (deep bytes f e k)

@@ -1,5 +1,5 @@
 -- The bytes of a character from U+0080 on are stepped over as one character.
-use Rattle.std.proofs.Common.{◌≡◌, ℕ, ◌+◌, ◌*◌, ◌/◌, ◌%◌, ◌≤◌, ◌<◌, Bool, true, false, List, [], ◌∷◌, refl, sym, ◌∙◌, ap, arith, cond, None, Some, inl, inr, ⊎_elim}
+use Rattle.std.proofs.Common.{◌≡◌, ℕ, ◌+◌, ◌*◌, ◌/◌, ◌%◌, ◌≤◌, ◌<◌, Bool, true, false, List, [], ◌∷◌, length, refl, sym, ◌∙◌, ap, arith, cond, None, Some, inl, inr, ⊎_elim}
 use Rattle.std.specs.Prelude.{◌==◌, ◌||◌, ◌&&◌, not, nat_lt, nat_le, if◌then◌else◌}
 use Rattle.std.proofs.lemmas.Bool.{cases_lt, cases_eq, or_from, lt-ltb, le-ltb, le-leb, lt-leb, ne_eqb}
 use lib.Utf8.{encode, scalar_cases}
@@ -9,8 +9,8 @@ use Rattle.xmi_text.specs.AttrNames.{has_name}
 use Rattle.xmi_text.specs.UtfEight.{begun, extended, added, opened, scalar, found}
 use Rattle.xmi_text.specs.States.{complete, cleared}
 use Rattle.xmi_text.specs.Automaton.{step, step_by, character_step, character_by, ascii, lead, lead_on, ends_twin, whole, partial_by}
-use Rattle.xmi_text.specs.Reading.{state_from, marks_from}
-use Rattle.xmi_text.specs.Trees.{Event, told}
+use Rattle.xmi_text.specs.Reading.{state_from}
+use Rattle.xmi_text.specs.Places.{Timed}
 use Rattle.xmi_text.specs.declared.utf_eight.Partial.{Partial}
 use Rattle.xmi_text.specs.declared.utf_eight.Rest.{Rest}
 use Rattle.xmi_text.specs.declared.utf_eight.Rest.TheVariants as rest
@@ -19,7 +19,7 @@ use Rattle.xmi_text.specs.declared.state.State.{State}
 use Rattle.xmi_text.specs.declared.state.Mode.{Mode}
 use Rattle.xmi_text.specs.declared.state.Mode.TheVariants.{Failed, Reference, Doctype, EndName, AttrName, Start}
 use Rattle.xmi_text.specs.declared.state.Ready.TheVariants.{Nothing}
-use Rattle.xmi_text.proofs.Walks.{Walk, Walk-step, Walk-last}
+use Rattle.xmi_text.proofs.Walks.{all_by, timed_from, Walk, Walk-step, Walk-last, Walk-to}
 
 -- a state between two characters, with no mark that waits
 abbrev pub at_mode : State → Mode → Bool → State
@@ -239,16 +239,16 @@ pub record Far (at : ℕ) (s : State) (m : Mode) (r : Bool) (c : ℕ) : Type 0 w
   pub p : Partial
   pub place : ℕ
   pub begins : p.lead ≡ at
-  pub walk : Walk at (at_mode s m r) (encode c) (told (complete (behind_whole s m r p place c))) (cleared (behind_whole s m r p place c))
+  pub walk : Walk at (at_mode s m r) (encode c) (all_by (at + length (encode c)) (complete (behind_whole s m r p place c))) (cleared (behind_whole s m r p place c))
 
-far_two : (at : ℕ) (s : State) (m : Mode) (r : Bool) (c : ℕ) → IsPlain m → utf8.scalar c ≡ true → 128 ≤ c → c < 2048 → Walk at (at_mode s m r) ((192 + c / 64) ∷ (128 + c % 64) ∷ []) (told (complete (behind_whole s m r (partial_of at 0x80 0xbf (rest.One (c / 64))) (at + 1) c))) (cleared (behind_whole s m r (partial_of at 0x80 0xbf (rest.One (c / 64))) (at + 1) c))
+far_two : (at : ℕ) (s : State) (m : Mode) (r : Bool) (c : ℕ) → IsPlain m → utf8.scalar c ≡ true → 128 ≤ c → c < 2048 → Walk at (at_mode s m r) ((192 + c / 64) ∷ (128 + c % 64) ∷ []) (all_by (at + 1 + 1) (complete (behind_whole s m r (partial_of at 0x80 0xbf (rest.One (c / 64))) (at + 1) c))) (cleared (behind_whole s m r (partial_of at 0x80 0xbf (rest.One (c / 64))) (at + 1) c))
 far_two at s m r c plain ok l h =
     let p : Partial = partial_of at 0x80 0xbf (rest.One (c / 64)) in
     Walk-step at (at_mode s m r) (within_character s m r p) _ (192 + c / 64) _ _ (first s m r at (192 + c / 64) p plain (omega arith) (omega arith) (from_two at c l h))
     (Walk-last (at + 1) (within_character s m r p) (behind_whole s m r p (at + 1) c) (128 + c % 64)
     (last s m r (at + 1) (128 + c % 64) c p plain (last_byte p c refl refl refl (omega arith) ok)))
 
-far_three : (at : ℕ) (s : State) (m : Mode) (r : Bool) (c : ℕ) (f : Lead at (224 + c / 4096) (128 + c / 64 % 64) (rest.Two (c / 4096))) → IsPlain m → utf8.scalar c ≡ true → 2048 ≤ c → c < 65536 → Walk at (at_mode s m r) ((224 + c / 4096) ∷ (128 + c / 64 % 64) ∷ (128 + c % 64) ∷ []) (told (complete (behind_whole s m r (partial_of f.p.lead 0x80 0xbf (rest.One (c / 64))) (at + 1 + 1) c))) (cleared (behind_whole s m r (partial_of f.p.lead 0x80 0xbf (rest.One (c / 64))) (at + 1 + 1) c))
+far_three : (at : ℕ) (s : State) (m : Mode) (r : Bool) (c : ℕ) (f : Lead at (224 + c / 4096) (128 + c / 64 % 64) (rest.Two (c / 4096))) → IsPlain m → utf8.scalar c ≡ true → 2048 ≤ c → c < 65536 → Walk at (at_mode s m r) ((224 + c / 4096) ∷ (128 + c / 64 % 64) ∷ (128 + c % 64) ∷ []) (all_by (at + 1 + 1 + 1) (complete (behind_whole s m r (partial_of f.p.lead 0x80 0xbf (rest.One (c / 64))) (at + 1 + 1) c))) (cleared (behind_whole s m r (partial_of f.p.lead 0x80 0xbf (rest.One (c / 64))) (at + 1 + 1) c))
 far_three at s m r c f plain ok l h =
     let q : Partial = partial_of f.p.lead 0x80 0xbf (rest.One (c / 64)) in
     Walk-step at (at_mode s m r) (within_character s m r f.p) _ (224 + c / 4096) _ _ (first s m r at (224 + c / 4096) f.p plain (omega arith) (omega arith) f.begun)
@@ -257,7 +257,7 @@ far_three at s m r c f plain ok l h =
     (Walk-last (at + 1 + 1) (within_character s m r q) (behind_whole s m r q (at + 1 + 1) c) (128 + c % 64)
     (last s m r (at + 1 + 1) (128 + c % 64) c q plain (last_byte q c refl refl refl (omega arith) ok))))
 
-far_four : (at : ℕ) (s : State) (m : Mode) (r : Bool) (c : ℕ) (f : Lead at (240 + c / 262144) (128 + c / 4096 % 64) (rest.Three (c / 262144))) → IsPlain m → utf8.scalar c ≡ true → 65536 ≤ c → c < 1114112 → Walk at (at_mode s m r) ((240 + c / 262144) ∷ (128 + c / 4096 % 64) ∷ (128 + c / 64 % 64) ∷ (128 + c % 64) ∷ []) (told (complete (behind_whole s m r (partial_of f.p.lead 0x80 0xbf (rest.One (c / 64))) (at + 1 + 1 + 1) c))) (cleared (behind_whole s m r (partial_of f.p.lead 0x80 0xbf (rest.One (c / 64))) (at + 1 + 1 + 1) c))
+far_four : (at : ℕ) (s : State) (m : Mode) (r : Bool) (c : ℕ) (f : Lead at (240 + c / 262144) (128 + c / 4096 % 64) (rest.Three (c / 262144))) → IsPlain m → utf8.scalar c ≡ true → 65536 ≤ c → c < 1114112 → Walk at (at_mode s m r) ((240 + c / 262144) ∷ (128 + c / 4096 % 64) ∷ (128 + c / 64 % 64) ∷ (128 + c % 64) ∷ []) (all_by (at + 1 + 1 + 1 + 1) (complete (behind_whole s m r (partial_of f.p.lead 0x80 0xbf (rest.One (c / 64))) (at + 1 + 1 + 1) c))) (cleared (behind_whole s m r (partial_of f.p.lead 0x80 0xbf (rest.One (c / 64))) (at + 1 + 1 + 1) c))
 far_four at s m r c f plain ok l h =
     let p : Partial = partial_of f.p.lead 0x80 0xbf (rest.Two (c / 4096)) in
     let q : Partial = partial_of f.p.lead 0x80 0xbf (rest.One (c / 64)) in
@@ -282,8 +282,13 @@ pub encode_four : (c : ℕ) → 65536 ≤ c → encode c ≡ (240 + c / 262144) 
 unfolding encode
 encode_four c l = rw (le-ltb c 128 (omega arith), le-ltb c 2048 (omega arith), le-ltb c 65536 l) refl
 
-pub Walk-over : (at : ℕ) (s t : State) (xs ys : List ℕ) (es : List Event) → ys ≡ xs → Walk at s xs es t → Walk at s ys es t
-Walk-over at s t xs ys es e w = record { state = ap (state_from at s) e ∙ w.state; events = ap (λ x. told (marks_from at s x)) e ∙ w.events }
+pub Walk-over : (at : ℕ) (s t : State) (xs ys : List ℕ) (ms : List Timed) → ys ≡ xs → Walk at s xs ms t → Walk at s ys ms t
+Walk-over at s t xs ys ms e w = record { state = ap (state_from at s) e ∙ w.state; marks = ap (timed_from at s) e ∙ w.marks }
+
+-- the same character, so written
+pub over_character : (at n : ℕ) (s t : State) (c : ℕ) (bytes : List ℕ) → encode c ≡ bytes → n ≡ at + length bytes → Walk at s bytes (all_by n (complete t)) (cleared t) → Walk at s (encode c) (all_by (at + length (encode c)) (complete t)) (cleared t)
+over_character at n s t c bytes e f w =
+    Walk-to at _ _ _ _ _ _ refl (ap (λ (k : ℕ). all_by k (complete t)) (f ∙ ap (λ (xs : List ℕ). at + length xs) (sym e))) (Walk-over at _ _ _ _ _ e w)
 
 -- a character from U+0080 on
 pub far : (at : ℕ) (s : State) (m : Mode) (r : Bool) (c : ℕ) → IsPlain m → utf8.scalar c ≡ true → 128 ≤ c → Far at s m r c
@@ -294,7 +299,7 @@ far at s m r c plain ok l =
         p = partial_of at 0x80 0xbf (rest.One (c / 64));
         place = at + 1;
         begins = refl;
-        walk = Walk-over at _ _ _ _ _ (encode_two c l h) (far_two at s m r c plain ok l h);
+        walk = over_character at _ _ _ c _ (encode_two c l h) (omega arith) (far_two at s m r c plain ok l h);
       }
       | inr h ↦ elim (cases_lt c 65536) [
         | inl k ↦
@@ -303,7 +308,7 @@ far at s m r c plain ok l =
               p = partial_of f.p.lead 0x80 0xbf (rest.One (c / 64));
               place = at + 1 + 1;
               begins = f.lead;
-              walk = Walk-over at _ _ _ _ _ (encode_three c h k) (far_three at s m r c f plain ok h k);
+              walk = over_character at _ _ _ c _ (encode_three c h k) (omega arith) (far_three at s m r c f plain ok h k);
             }
         | inr k ↦
             let f = from_four at c k small in
@@ -311,7 +316,7 @@ far at s m r c plain ok l =
               p = partial_of f.p.lead 0x80 0xbf (rest.One (c / 64));
               place = at + 1 + 1 + 1;
               begins = f.lead;
-              walk = Walk-over at _ _ _ _ _ (encode_four c k) (far_four at s m r c f plain ok k small);
+              walk = over_character at _ _ _ c _ (encode_four c k) (omega arith) (far_four at s m r c f plain ok k small);
             }
       ]
     ]

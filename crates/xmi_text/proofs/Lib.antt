@@ -3,6 +3,7 @@ pub mod Reached
 pub mod Literals
 pub mod Staying
 pub mod Walks
+pub mod Placed
 pub mod Encoded
 pub mod Stepping
 pub mod NameSteps
@@ -10,6 +11,10 @@ pub mod Asides
 pub mod ValueSteps
 pub mod TagSteps
 pub mod Spelled
+pub mod Timing
+pub mod Silent
+pub mod Stopping
+pub mod Deepest
 pub mod EventTrees
 pub mod Written
 pub mod Sound

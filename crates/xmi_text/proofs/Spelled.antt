@@ -1,5 +1,5 @@
 -- The bytes of a document are read as its tree.
-use Rattle.std.proofs.Common.{◌≡◌, ℕ, ◌+◌, ◌-◌, ◌<◌, Bool, true, false, List, [], ◌∷◌, ◌++◌, length, map, take, refl, sym, ◌∙◌, ap, subst, arith, None, Some, inl, inr, append_assoc, append-nil, length-append}
+use Rattle.std.proofs.Common.{◌≡◌, ℕ, ◌+◌, ◌-◌, ◌<◌, Bool, true, false, List, [], ◌∷◌, ◌++◌, length, take, refl, sym, ◌∙◌, ap, ap₂, subst, arith, None, Some, inl, inr, append_assoc, append-nil, length-append}
 use Rattle.std.specs.Prelude.{◌&&◌, not, nat_lt, codes, slice_get}
 use Rattle.std.specs.List.{list_all}
 use Rattle.std.proofs.Math.Seq.{take-append_seam}
@@ -10,19 +10,24 @@ use Rattle.mof_metamodel.specs.Characters.{is_blank}
 use Rattle.xmi_text.specs.States.{start, complete, cleared, around, front}
 use Rattle.xmi_text.specs.Automaton.{step, innermost, end_fault}
 use Rattle.xmi_text.specs.Reading.{state_from, marks_from, state_of, marks_of, end_fault_of}
-use Rattle.xmi_text.specs.Trees.{Event, Opens, Says, Closes, Tree, pair_of, told, Spells}
-use Rattle.xmi_text.specs.Markup.{Piece, Characters, Referred, Cdata, Comment, Instruction, StartTag, EmptyTag, EndTag, Reference, reference_text, referred, IsPiece, IsUpTo, IsInstruction, IsAround, AllAround, is_characters, are_apart, starts, open_behind, Fits, Closing, IsRoot, Tag, IsTag, tag_text, opening, pair, piece_text, texts, said, all_said, say, joined, line_ends, is_reference, is_content_character, Document, IsDocument, order_mark, document_text, Markup}
+use Rattle.xmi_text.specs.Trees.{Tree, told, Spells}
+use Rattle.xmi_text.specs.Places.{Timed, timed, behind, size, attrs_at, open_at, tag_marks, run_end, data_at, run_marks, marks_at, timed_marks, document_marks, marks_only}
+use Rattle.xmi_text.specs.Places as placed
+use Rattle.xmi_text.specs.Markup.{Piece, Characters, Referred, Cdata, Comment, Instruction, StartTag, EmptyTag, EndTag, Reference, reference_text, referred, IsPiece, IsUpTo, IsInstruction, IsAround, AllAround, is_characters, are_apart, starts, open_behind, Fits, Closing, IsRoot, Tag, IsTag, tag_text, piece_text, texts, said, all_said, say, joined, line_ends, is_reference, is_content_character, Document, IsDocument, order_mark, document_text, Markup}
 use Rattle.xmi_text.specs.Markup as markup
+use Rattle.xmi_text.specs.declared.mark.Attr.{Attr}
+use Rattle.xmi_text.specs.declared.mark.Mark.TheVariants as marks
 use Rattle.xmi_text.specs.declared.state.State.{State}
 use Rattle.xmi_text.specs.declared.state.Mode.TheVariants as modes
 use Rattle.xmi_text.specs.declared.state.Within.TheVariants.{Content}
-use Rattle.xmi_text.proofs.Walks.{Walk, Walk-none, Walk-append, Walk-to}
+use Rattle.xmi_text.proofs.Placed.{ahead, root_first_mark, told_document}
+use Rattle.xmi_text.proofs.Walks.{all_by, timed_from, timed_from-only, Walk, Walk-none, Walk-append, Walk-to}
 use Rattle.xmi_text.proofs.Encoded.{at_mode, if_true, Walk-over}
 use Rattle.xmi_text.proofs.Stepping.{quiet, content_run, scalars-parts, blank_cases}
 use Rattle.xmi_text.proofs.NameSteps.{blank_step, blank_run}
 use Rattle.xmi_text.proofs.Asides.{level, comment_walk, instruction_walk, section_walk}
 use Rattle.xmi_text.proofs.ValueSteps.{reference_walk}
-use Rattle.xmi_text.proofs.TagSteps.{get_seam, Admits, tag_walk, opened, open_end, emptied_tag, slash_walk, empty_end, closed, end_walk}
+use Rattle.xmi_text.proofs.TagSteps.{size-append, size-cons, end_text, end_marks, get_seam, Admits, tag_walk, opened, open_end, emptied_tag, slash_walk, empty_end, closed, end_walk}
 
 -- ## open elements
 
@@ -65,34 +70,6 @@ front_by elements names name e =
 around_by : (s : State) (names : List (List ℕ)) → s.elements ≡ stacked names → around s ≡ level (some names)
 around_by s names e = ap level (inside_by s.elements names e)
 
--- ## characters that join
-
-pub say_none : (es : List Event) → say [] es ≡ es
-say_none [] = refl
-say_none (Says cs ∷ es) = refl
-say_none (Opens name attrs ∷ es) = refl
-say_none (Closes ∷ es) = refl
-
-pub say_say : (xs ys : List ℕ) (es : List Event) → say xs (say ys es) ≡ say (xs ++ ys) es
-say_say xs ys (Says ds ∷ es) = ap (λ z. Says z ∷ es) (sym (append_assoc xs ys ds))
-say_say xs [] [] = ap (λ z. say z []) (sym (append-nil xs))
-say_say [] (y ∷ ys) [] = refl
-say_say (x ∷ xs) (y ∷ ys) [] = refl
-say_say xs [] (Opens name attrs ∷ es) = ap (λ z. say z (Opens name attrs ∷ es)) (sym (append-nil xs))
-say_say [] (y ∷ ys) (Opens name attrs ∷ es) = refl
-say_say (x ∷ xs) (y ∷ ys) (Opens name attrs ∷ es) = refl
-say_say xs [] (Closes ∷ es) = ap (λ z. say z (Closes ∷ es)) (sym (append-nil xs))
-say_say [] (y ∷ ys) (Closes ∷ es) = refl
-say_say (x ∷ xs) (y ∷ ys) (Closes ∷ es) = refl
-
-say_opens : (run : List ℕ) (name : List ℕ) (attrs : List (List ℕ × List ℕ)) (es : List Event) → say run (Opens name attrs ∷ es) ≡ say run [] ++ Opens name attrs ∷ es
-say_opens [] name attrs es = refl
-say_opens (x ∷ run) name attrs es = refl
-
-say_closes : (run : List ℕ) (es : List Event) → say run (Closes ∷ es) ≡ say run [] ++ Closes ∷ es
-say_closes [] es = refl
-say_closes (x ∷ run) es = refl
-
 -- ## one piece
 
 -- a piece was stepped over, behind characters of a run
@@ -100,10 +77,10 @@ record Passed (at : ℕ) (s : State) (names : List (List ℕ)) (run : List ℕ) 
   next : State
   left : List ℕ
   returned : Bool
-  told : List Event
+  told : List Timed
   stands : Stands next (open_behind names p)
   walk : Walk at (at_mode (record s { run = run }) (level (some names)) r) (encodes (piece_text p)) told (at_mode (record next { run = left }) (level (some (open_behind names p))) returned)
-  means : (es : List Event) → say run (joined (said p ++ es)) ≡ told ++ say left (joined es)
+  means : (ps : List Piece) → ahead s.run_at run at (p ∷ ps) ≡ told ++ ahead next.run_at left (behind at p) ps
   fresh : is_characters p ≡ false → returned ≡ false
   out : open_behind names p ≡ [] → left ≡ []
 
@@ -112,8 +89,12 @@ no_names name names xs e = cc
 
 less_walk : (at : ℕ) (s : State) (inside r : Bool) → Walk at (at_mode s (level inside) r) (encode 60) [] (at_mode s (modes.Less at) false)
 unfolding encode
-less_walk at s true r = record { state = refl; events = refl }
-less_walk at s false r = record { state = refl; events = refl }
+less_walk at s true r = record { state = refl; marks = refl }
+less_walk at s false r = record { state = refl; marks = refl }
+
+-- characters that a piece adds to the run
+joins : (s : State) (run more : List ℕ) (at : ℕ) (ps : List Piece) → data_at s.run_at (run ++ (more ++ placed.run ps)) (run_end at ps) ++ marks_at at ps ≡ ahead s.run_at (run ++ more) at ps
+joins s run more at ps = ap (λ (cs : List ℕ). data_at s.run_at cs (run_end at ps) ++ marks_at at ps) (sym (append_assoc run more (placed.run ps)))
 
 characters_piece : (at : ℕ) (s : State) (name : List ℕ) (names : List (List ℕ)) (run : List ℕ) (text : List ℕ) → Stands s (name ∷ names) → scalars text ≡ true → list_all is_content_character text ≡ true → Passed at s (name ∷ names) run false (Characters text)
 characters_piece at s name names run text st ok e =
@@ -125,7 +106,7 @@ characters_piece at s name names run text st ok e =
       told = [];
       stands = st;
       walk = c.1;
-      means = λ es. say_say run (line_ends false text) (joined es);
+      means = λ ps. joins s run (line_ends false text) (behind at (Characters text)) ps;
       fresh = λ f. absurd (true≢false f);
       out = no_names name names (run ++ line_ends false text);
     }
@@ -138,7 +119,7 @@ reference_piece at s name names run r reference st e = record {
   told = [];
   stands = st;
   walk = reference_walk at (record s { run = run }) Content r reference e;
-  means = λ es. say_say run (referred reference ∷ []) (joined es);
+  means = λ ps. joins s run (referred reference ∷ []) (behind at (Referred reference)) ps;
   fresh = λ f. refl;
   out = no_names name names (run ++ referred reference ∷ []);
 }
@@ -151,7 +132,7 @@ section_piece at s name names run r text st ok e = record {
   told = [];
   stands = st;
   walk = section_walk at (record s { run = run }) r text (inside_by s.elements (name ∷ names) st.elements) ok e;
-  means = λ es. say_say run (line_ends false text) (joined es);
+  means = λ ps. joins s run (line_ends false text) (behind at (Cdata text)) ps;
   fresh = λ f. refl;
   out = no_names name names (run ++ line_ends false text);
 }
@@ -164,7 +145,7 @@ comment_piece at s name names run r text st ok e = record {
   told = [];
   stands = st;
   walk = Walk-to at _ _ _ _ _ _ (ap (λ m. at_mode (record s { run = run }) m false) (around_by s (name ∷ names) st.elements)) refl (comment_walk at (record s { run = run }) true r text ok e);
-  means = λ es. refl;
+  means = λ ps. refl;
   fresh = λ f. refl;
   out = no_names name names run;
 }
@@ -177,32 +158,58 @@ instruction_piece at s name names run r target text st ok_target ok e = record {
   told = [];
   stands = st;
   walk = Walk-to at _ _ _ _ _ _ (ap (λ m. at_mode (record s { run = run }) m false) (around_by s (name ∷ names) st.elements)) refl (instruction_walk at (record s { run = run }) true r target text ok_target ok e);
-  means = λ es. refl;
+  means = λ ps. refl;
   fresh = λ f. refl;
   out = no_names name names run;
 }
+
+-- ## tags
+
+-- a tag ends the run before it
+ended : (from : ℕ) (run : List ℕ) (by : ℕ) (ms rest : List Timed) → data_at from (run ++ []) by ++ (ms ++ rest) ≡ (data_at from run by ++ ms) ++ rest
+ended from run by ms rest = ap (λ (cs : List ℕ). data_at from cs by ++ (ms ++ rest)) (append-nil run) ∙ sym (append_assoc (data_at from run by) ms rest)
+
+open_placed : (at : ℕ) (tag : Tag) → attrs_at (at + length (encode 60) + length (encodes tag.name)) tag.attributes ≡ attrs_at (at + size (60 ∷ tag.name)) tag.attributes
+open_placed at tag = ap (λ (n : ℕ). attrs_at n tag.attributes) (omega (arith, size-cons 60 tag.name))
+
+name_shown : (at : ℕ) (name : List ℕ) → at + length (encode 60) + length (encodes (take 1 name)) ≡ at + size (60 ∷ take 1 name)
+name_shown at name = omega (arith, size-cons 60 (take 1 name))
+
+start_behind : (at : ℕ) (tag : Tag) → at + length (encode 60) + length (encodes (tag_text tag)) + length (encode 62) ≡ behind at (StartTag tag)
+start_behind at tag = omega (arith, size-cons 60 (tag_text tag ++ 62 ∷ []), size-append (tag_text tag) (62 ∷ []), size-cons 62 [])
+
+empty_behind : (at : ℕ) (tag : Tag) → at + length (encode 60) + length (encodes (tag_text tag)) + length (encode 47) + length (encode 62) ≡ behind at (EmptyTag tag)
+empty_behind at tag = omega (arith, size-cons 60 (tag_text tag ++ 47 ∷ 62 ∷ []), size-append (tag_text tag) (47 ∷ 62 ∷ []), size-cons 47 (62 ∷ []), size-cons 62 [])
+
+one_byte : length (encode 62) ≡ 1
+unfolding encode
+one_byte = refl
 
 start_piece : (at : ℕ) (s : State) (names : List (List ℕ)) (run : List ℕ) (r : Bool) (tag : Tag) → s.elements ≡ stacked names → Admits s → scalars (tag_text tag) ≡ true → IsTag tag → Passed at s names run r (StartTag tag)
 unfolding stacked
 start_piece at s names run r tag e a ok i =
     let l : ℕ = at + length (encode 60) in
     let t = tag_walk l at s run tag ok i a in
-    let s1 : State = record s { run = []; tag = tag.name; tag_at = at; attrs = t.attrs; attr = t.last; rooted = true } in
+    let attrs : List Attr = attrs_at (l + length (encodes tag.name)) tag.attributes in
+    let s1 : State = record s { run = []; tag = tag.name; tag_at = at; attrs = attrs; attr = t.last; rooted = true } in
     let m : ℕ = l + length (encodes (tag_text tag)) in
+    let ran : List Timed = data_at s.run_at run (l + length (encodes (take 1 tag.name))) in
+    let opens : List Timed = timed (m + length (encode 62)) (marks.Open tag.name attrs at) ∷ [] in
+    let by : m + 1 ≡ behind at (StartTag tag) = omega (arith, start_behind at tag, one_byte) in
     record {
-      next = opened s1 m;
+      next = record (opened s1 m) { run_at = behind at (StartTag tag) };
       left = [];
       returned = false;
-      told = say run [] ++ Opens tag.name (map pair_of t.attrs) ∷ [];
+      told = data_at s.run_at run (run_end at (StartTag tag ∷ [])) ++ tag_marks at (StartTag tag);
       stands = record { elements = ap (λ x. x ++ tag.name ∷ []) e; rooted = refl };
-      walk = Walk-append at _ _ _ (encode 60) (encodes (tag_text tag ++ 62 ∷ [])) [] (say run [] ++ Opens tag.name (map pair_of t.attrs) ∷ []) (less_walk at (record s { run = run }) (some names) r)
+      walk = Walk-to at _ _ _ _ _ _ (ap (λ (n : ℕ). at_mode (record (opened s1 m) { run_at = n }) modes.Inside false) by)
+          (ap₂ (λ (n : ℕ) (x : Timed). data_at s.run_at run n ++ x ∷ []) (name_shown at tag.name)
+          (ap₂ (λ (n : ℕ) (x : List Attr). timed n (marks.Open tag.name x at)) (start_behind at tag) (open_placed at tag)))
+          (Walk-append at _ _ _ (encode 60) (encodes (tag_text tag ++ 62 ∷ [])) [] (ran ++ opens) (less_walk at (record s { run = run }) (some names) r)
           (Walk-over l _ _ _ _ _ (encodes-append (tag_text tag) (62 ∷ []))
-          (Walk-append l _ _ _ (encodes (tag_text tag)) (encodes (62 ∷ [])) (say run []) (Opens tag.name (map pair_of t.attrs) ∷ []) t.walk
-          (Walk-append m _ _ _ (encode 62) [] (Opens tag.name (map pair_of t.attrs) ∷ []) [] (open_end m s1 t.behind) (Walk-none (m + length (encode 62)) (at_mode (opened s1 m) modes.Inside false)))));
-      means = λ es. say_opens run tag.name (map pair tag.attributes) (joined es)
-          ∙ ap (λ x. say run [] ++ Opens tag.name x ∷ joined es) (sym t.pairs)
-          ∙ ap (λ x. say run [] ++ Opens tag.name (map pair_of t.attrs) ∷ x) (sym (say_none (joined es)))
-          ∙ sym (append_assoc (say run []) (Opens tag.name (map pair_of t.attrs) ∷ []) (say [] (joined es)));
+          (Walk-append l _ _ _ (encodes (tag_text tag)) (encodes (62 ∷ [])) ran opens t.walk
+          (Walk-append m _ _ _ (encode 62) [] opens [] (open_end m s1 t.behind) (Walk-none (m + length (encode 62)) (at_mode (opened s1 m) modes.Inside false))))));
+      means = λ ps. ended s.run_at run (run_end at (StartTag tag ∷ [])) (tag_marks at (StartTag tag)) (run_marks (behind at (StartTag tag)) ps ++ marks_at (behind at (StartTag tag)) ps);
       fresh = λ f. refl;
       out = λ f. refl;
     }
@@ -211,26 +218,29 @@ empty_piece : (at : ℕ) (s : State) (names : List (List ℕ)) (run : List ℕ) 
 empty_piece at s names run r tag e a ok i =
     let l : ℕ = at + length (encode 60) in
     let t = tag_walk l at s run tag ok i a in
-    let s1 : State = record s { run = []; tag = tag.name; tag_at = at; attrs = t.attrs; attr = t.last; rooted = true } in
+    let attrs : List Attr = attrs_at (l + length (encodes tag.name)) tag.attributes in
+    let s1 : State = record s { run = []; tag = tag.name; tag_at = at; attrs = attrs; attr = t.last; rooted = true } in
     let m : ℕ = l + length (encodes (tag_text tag)) in
     let n : ℕ = m + length (encode 47) in
-    let both : List Event = Opens tag.name (map pair_of t.attrs) ∷ Closes ∷ [] in
+    let ran : List Timed = data_at s.run_at run (l + length (encodes (take 1 tag.name))) in
+    let both : List Timed = timed (n + length (encode 62)) (marks.Open tag.name attrs at) ∷ timed (n + length (encode 62)) (marks.Close at) ∷ [] in
+    let by : n + 1 ≡ behind at (EmptyTag tag) = omega (arith, empty_behind at tag, one_byte) in
     record {
-      next = emptied_tag s1 n;
+      next = record (emptied_tag s1 n) { run_at = behind at (EmptyTag tag) };
       left = [];
       returned = false;
-      told = say run [] ++ both;
+      told = data_at s.run_at run (run_end at (EmptyTag tag ∷ [])) ++ tag_marks at (EmptyTag tag);
       stands = record { elements = e; rooted = refl };
-      walk = Walk-append at _ _ _ (encode 60) (encodes (tag_text tag ++ 47 ∷ 62 ∷ [])) [] (say run [] ++ both) (less_walk at (record s { run = run }) (some names) r)
+      walk = Walk-to at _ _ _ _ _ _ (ap (λ (k : ℕ). at_mode (record (emptied_tag s1 n) { run_at = k }) (level (some names)) false) by)
+          (ap₂ (λ (k : ℕ) (x : List Timed). data_at s.run_at run k ++ x) (name_shown at tag.name)
+          (ap₂ (λ (k : ℕ) (x : List Attr). timed k (marks.Open tag.name x at) ∷ timed k (marks.Close at) ∷ []) (empty_behind at tag) (open_placed at tag)))
+          (Walk-append at _ _ _ (encode 60) (encodes (tag_text tag ++ 47 ∷ 62 ∷ [])) [] (ran ++ both) (less_walk at (record s { run = run }) (some names) r)
           (Walk-over l _ _ _ _ _ (encodes-append (tag_text tag) (47 ∷ 62 ∷ []))
-          (Walk-append l _ _ _ (encodes (tag_text tag)) (encodes (47 ∷ 62 ∷ [])) (say run []) both t.walk
+          (Walk-append l _ _ _ (encodes (tag_text tag)) (encodes (47 ∷ 62 ∷ [])) ran both t.walk
           (Walk-append m _ _ _ (encode 47) (encodes (62 ∷ [])) [] both (slash_walk m s1 t.behind)
           (Walk-to n _ _ _ _ _ _ (ap (λ q. at_mode (emptied_tag s1 n) q false) (around_by s1 names e)) refl
-          (Walk-append n _ _ _ (encode 62) [] both [] (empty_end n s1) (Walk-none (n + length (encode 62)) (at_mode (emptied_tag s1 n) (around s1) false)))))));
-      means = λ es. say_opens run tag.name (map pair tag.attributes) (Closes ∷ joined es)
-          ∙ ap (λ x. say run [] ++ Opens tag.name x ∷ Closes ∷ joined es) (sym t.pairs)
-          ∙ ap (λ x. say run [] ++ Opens tag.name (map pair_of t.attrs) ∷ Closes ∷ x) (sym (say_none (joined es)))
-          ∙ sym (append_assoc (say run []) both (say [] (joined es)));
+          (Walk-append n _ _ _ (encode 62) [] both [] (empty_end n s1) (Walk-none (n + length (encode 62)) (at_mode (emptied_tag s1 n) (around s1) false))))))));
+      means = λ ps. ended s.run_at run (run_end at (EmptyTag tag ∷ [])) (tag_marks at (EmptyTag tag)) (run_marks (behind at (EmptyTag tag)) ps ++ marks_at (behind at (EmptyTag tag)) ps);
       fresh = λ f. refl;
       out = λ f. refl;
     }
@@ -245,17 +255,20 @@ end_piece at s n names run r name blanks st i b =
     let t = end_walk l at s run name blanks (inside_by s.elements (n ∷ names) st.elements) inner b in
     let left_by : front s.elements ≡ stacked names = front_by s.elements names n st.elements in
     let s1 : State = closed (record s { run = [] }) t.end_at in
+    let piece : Piece = EndTag name blanks in
+    let ends : t.end_at + length (encode 62) ≡ behind at piece = omega (arith, t.ends, size-cons 60 (end_text name blanks)) in
+    let by : t.end_at + 1 ≡ behind at piece = omega (arith, ends, one_byte) in
     record {
-      next = s1;
+      next = record s1 { run_at = behind at piece };
       left = [];
       returned = false;
-      told = say run [] ++ Closes ∷ [];
+      told = data_at s.run_at run (run_end at (piece ∷ [])) ++ tag_marks at piece;
       stands = record { elements = left_by; rooted = st.rooted };
-      walk = Walk-append at _ _ _ (encode 60) (encodes (47 ∷ (name ++ (blanks ++ 62 ∷ [])))) [] (say run [] ++ Closes ∷ []) (less_walk at (record s { run = run }) true r)
-          (Walk-to l _ _ _ _ _ _ (ap (λ q. at_mode s1 q false) (around_by s1 names left_by)) refl t.walk);
-      means = λ es. say_closes run (joined es)
-          ∙ ap (λ x. say run [] ++ Closes ∷ x) (sym (say_none (joined es)))
-          ∙ sym (append_assoc (say run []) (Closes ∷ []) (say [] (joined es)));
+      walk = Walk-to at _ _ _ _ _ _ (ap (λ (k : ℕ). at_mode (record s1 { run_at = k }) (level (some names)) false) by)
+          (ap₂ (λ (k n : ℕ). data_at s.run_at run k ++ timed n (marks.Close at) ∷ []) (omega (arith, size-cons 60 (47 ∷ []), size-cons 47 [])) ends)
+          (Walk-append at _ _ _ (encode 60) (encodes (end_text name blanks)) [] (end_marks l at s.run_at run (t.end_at + length (encode 62))) (less_walk at (record s { run = run }) true r)
+          (Walk-to l _ _ _ _ _ _ (ap (λ q. at_mode s1 q false) (around_by s1 names left_by)) refl t.walk));
+      means = λ ps. ended s.run_at run (run_end at (piece ∷ [])) (tag_marks at piece) (run_marks (behind at piece) ps ++ marks_at (behind at piece) ps);
       fresh = λ f. refl;
       out = λ f. refl;
     }
@@ -288,14 +301,14 @@ record Through (at : ℕ) (s : State) (names : List (List ℕ)) (run : List ℕ)
   next : State
   returned : Bool
   stands : Stands next []
-  walk : Walk at (at_mode (record s { run = run }) (level (some names)) r) (encodes (texts pieces)) (say run (joined (all_said pieces))) (at_mode next modes.Outside returned)
+  walk : Walk at (at_mode (record s { run = run }) (level (some names)) r) (encodes (texts pieces)) (ahead s.run_at run at pieces) (at_mode next modes.Outside returned)
 
 through : (at : ℕ) (s : State) (names : List (List ℕ)) (run : List ℕ) (r : Bool) (pieces : List Piece) → Stands s names → (names ≡ [] → run ≡ []) → Closing names pieces → scalars (texts pieces) ≡ true → are_apart is_characters pieces ≡ true → (starts is_characters pieces ≡ true → r ≡ false) → Through at s names run r pieces
 through at s [] run r [] st out e ok a new = record {
   next = record s { run = run };
   returned = r;
   stands = record { elements = st.elements; rooted = st.rooted };
-  walk = Walk-to at _ _ _ _ _ _ refl (sym (ap (λ x. say x []) (out refl))) (Walk-none at (at_mode (record s { run = run }) modes.Outside r));
+  walk = Walk-to at _ _ _ _ _ _ refl (sym (ap (λ (x : List ℕ). ahead s.run_at x at []) (out refl))) (Walk-none at (at_mode (record s { run = run }) modes.Outside r));
 }
 through at s [] run r (p ∷ pieces) st out e ok a new = absurd e
 through at s (n ∷ names) run r [] st out e ok a new = absurd e
@@ -311,8 +324,8 @@ through at s (n ∷ names) run r (p ∷ pieces) st out e ok a new =
       returned = more.returned;
       stands = more.stands;
       walk = Walk-over at _ _ _ _ _ (encodes-append (piece_text p) (texts pieces))
-          (Walk-to at _ _ _ _ _ _ refl (sym (one.means (all_said pieces)))
-          (Walk-append at _ _ _ (encodes (piece_text p)) (encodes (texts pieces)) one.told (say one.left (joined (all_said pieces))) one.walk more.walk));
+          (Walk-to at _ _ _ _ _ _ refl (sym (one.means pieces))
+          (Walk-append at _ _ _ (encodes (piece_text p)) (encodes (texts pieces)) one.told (ahead one.next.run_at one.left l pieces) one.walk more.walk));
     }
   where
     not_both : (x y : Bool) → (x && y) ≡ false → y ≡ true → x ≡ false
@@ -372,7 +385,7 @@ record Rooted (at : ℕ) (s : State) (r : Bool) (root : Piece) (inner : List Pie
   next : State
   returned : Bool
   stands : Stands next []
-  walk : Walk at (at_mode (record s { run = [] }) modes.Outside r) (encodes (texts (root ∷ inner))) (joined (all_said (root ∷ inner))) (at_mode next modes.Outside returned)
+  walk : Walk at (at_mode (record s { run = [] }) modes.Outside r) (encodes (texts (root ∷ inner))) (marks_at at (root ∷ inner)) (at_mode next modes.Outside returned)
 
 rooted : (at : ℕ) (s : State) (r : Bool) (root : Piece) (inner : List Piece) → s.elements ≡ [] → s.rooted ≡ false → IsRoot root → Closing (open_behind [] root) inner → scalars (texts (root ∷ inner)) ≡ true → are_apart is_characters inner ≡ true → Rooted at s r root inner
 rooted at s r root inner e f i c ok a =
@@ -385,8 +398,8 @@ rooted at s r root inner e f i c ok a =
       returned = more.returned;
       stands = more.stands;
       walk = Walk-over at _ _ _ _ _ (encodes-append (piece_text root) (texts inner))
-          (Walk-to at _ _ _ _ _ _ refl (sym (one.means (all_said inner)) ∙ say_none (joined (all_said (root ∷ inner))))
-          (Walk-append at _ _ _ (encodes (piece_text root)) (encodes (texts inner)) one.told (say one.left (joined (all_said inner))) one.walk more.walk));
+          (Walk-to at _ _ _ _ _ _ refl (sym (one.means inner) ∙ root_first_mark s.run_at at root inner i)
+          (Walk-append at _ _ _ (encodes (piece_text root)) (encodes (texts inner)) one.told (ahead one.next.run_at one.left l inner) one.walk more.walk));
     }
 
 -- what follows the byte order mark, or begins the document
@@ -394,16 +407,16 @@ record Whole (at : ℕ) (d : Document) : Type 0 where
   next : State
   returned : Bool
   stands : Stands next []
-  walk : Walk at (at_mode start modes.Outside false) (encodes (texts d.before ++ (texts (d.root ∷ d.inner) ++ texts d.after))) (joined (all_said (d.root ∷ d.inner))) (at_mode next modes.Outside returned)
+  walk : Walk at (at_mode start modes.Outside false) (encodes (texts d.before ++ (texts (d.root ∷ d.inner) ++ texts d.after))) (marks_at (at + size (texts d.before)) (d.root ∷ d.inner)) (at_mode next modes.Outside returned)
 
 whole : (at : ℕ) (d : Document) → IsDocument d → scalars (texts d.before ++ (texts (d.root ∷ d.inner) ++ texts d.after)) ≡ true → Whole at d
 unfolding stacked
 whole at d i ok =
     let o = scalars-parts (texts d.before) (texts (d.root ∷ d.inner) ++ texts d.after) ok in
     let q = scalars-parts (texts (d.root ∷ d.inner)) (texts d.after) o.1 in
-    let es : List Event = joined (all_said (d.root ∷ d.inner)) in
     let before = all_around at start false d.before refl i.before o.0 in
     let l : ℕ = at + length (encodes (texts d.before)) in
+    let ms : List Timed = marks_at l (d.root ∷ d.inner) in
     let root = rooted l start before.0 d.root d.inner refl refl i.root i.inner q.0 i.runs in
     let m : ℕ = l + length (encodes (texts (d.root ∷ d.inner))) in
     let after = all_around m root.next root.returned d.after root.stands.elements i.after q.1 in
@@ -412,10 +425,10 @@ whole at d i ok =
       returned = after.0;
       stands = root.stands;
       walk = Walk-over at _ _ _ _ _ (encodes-append (texts d.before) (texts (d.root ∷ d.inner) ++ texts d.after))
-          (Walk-append at _ _ _ (encodes (texts d.before)) (encodes (texts (d.root ∷ d.inner) ++ texts d.after)) [] es before.1
+          (Walk-append at _ _ _ (encodes (texts d.before)) (encodes (texts (d.root ∷ d.inner) ++ texts d.after)) [] ms before.1
           (Walk-over l _ _ _ _ _ (encodes-append (texts (d.root ∷ d.inner)) (texts d.after))
-          (Walk-to l _ _ _ _ _ _ refl (append-nil es)
-          (Walk-append l _ _ _ (encodes (texts (d.root ∷ d.inner))) (encodes (texts d.after)) es [] root.walk after.1))));
+          (Walk-to l _ _ _ _ _ _ refl (append-nil ms)
+          (Walk-append l _ _ _ (encodes (texts (d.root ∷ d.inner))) (encodes (texts d.after)) ms [] root.walk after.1))));
     }
 
 -- the first character of a document without a mark is ASCII
@@ -457,14 +470,14 @@ root_first _ rest i = absurd i
 start_step : (b : ℕ) → b < 128 → step start 0 b ≡ step (at_mode start modes.Outside false) 0 b
 start_step b h = if_true (nat_lt b 128) _ _ (lt-ltb b 128 h) ∙ sym (if_true (nat_lt b 128) _ _ (lt-ltb b 128 h))
 
-start_walk : (cs : List ℕ) (es : List Event) (t : State) → First cs → Walk 0 (at_mode start modes.Outside false) (encodes cs) es t → Walk 0 start (encodes cs) es t
-start_walk cs es t f w =
+start_walk : (cs : List ℕ) (ms : List Timed) (t : State) → First cs → Walk 0 (at_mode start modes.Outside false) (encodes cs) ms t → Walk 0 start (encodes cs) ms t
+start_walk cs ms t f w =
     let bytes : encodes cs ≡ f.head ∷ encodes f.tail = ap encodes f.same ∙ ap (λ x. x ++ encodes f.tail) (encode_ascii f.head f.low) in
-    let outside : Walk 0 (at_mode start modes.Outside false) (f.head ∷ encodes f.tail) es t = Walk-over 0 _ _ _ _ _ (sym bytes) w in
+    let outside : Walk 0 (at_mode start modes.Outside false) (f.head ∷ encodes f.tail) ms t = Walk-over 0 _ _ _ _ _ (sym bytes) w in
     Walk-over 0 _ _ _ _ _ bytes
     (record {
       state = ap (λ q. state_from 1 (cleared q) (encodes f.tail)) (start_step f.head f.low) ∙ outside.state;
-      events = ap (λ q. told (complete q ++ marks_from 1 (cleared q) (encodes f.tail))) (start_step f.head f.low) ∙ outside.events;
+      marks = ap (λ q. all_by 1 (complete q) ++ timed_from 1 (cleared q) (encodes f.tail)) (start_step f.head f.low) ∙ outside.marks;
     })
 
 mark_walk : Walk 0 start (encode 0xfeff) [] (at_mode start modes.Outside false)
@@ -474,34 +487,41 @@ record Read (d : Document) : Type 0 where
   next : State
   returned : Bool
   stands : Stands next []
-  walk : Walk 0 start (encodes (document_text d)) (joined (all_said (d.root ∷ d.inner))) (at_mode next modes.Outside returned)
+  walk : Walk 0 start (encodes (document_text d)) (timed_marks d) (at_mode next modes.Outside returned)
 
 read_by : (d : Document) (marked : Bool) → d.marked ≡ marked → IsDocument d → scalars (order_mark marked ++ (texts d.before ++ (texts (d.root ∷ d.inner) ++ texts d.after))) ≡ true → Read d
 read_by d true e i ok =
     let l : ℕ = 0 + length (encode 0xfeff) in
     let w = whole l d i ok in
-    let es : List Event = joined (all_said (d.root ∷ d.inner)) in
     let body : List ℕ = texts d.before ++ (texts (d.root ∷ d.inner) ++ texts d.after) in
+    let ms : List Timed = marks_at (l + size (texts d.before)) (d.root ∷ d.inner) in
     record {
       next = w.next;
       returned = w.returned;
       stands = w.stands;
-      walk = Walk-over 0 _ _ _ _ _ (ap (λ x. encodes (order_mark x ++ body)) e) (Walk-append 0 _ _ _ (encode 0xfeff) (encodes body) [] es mark_walk w.walk);
+      walk = Walk-to 0 _ _ _ _ _ _ refl
+          (ap (λ (n : ℕ). marks_at n (d.root ∷ d.inner)) (omega (arith, size-cons 0xfeff (texts d.before))) ∙ ap (λ (x : Bool). marks_at (size (order_mark x ++ texts d.before)) (d.root ∷ d.inner)) (sym e))
+          (Walk-over 0 _ _ _ _ _ (ap (λ x. encodes (order_mark x ++ body)) e) (Walk-append 0 _ _ _ (encode 0xfeff) (encodes body) [] ms mark_walk w.walk));
     }
 read_by d false e i ok =
     let w = whole 0 d i ok in
-    let es : List Event = joined (all_said (d.root ∷ d.inner)) in
+    let ms : List Timed = marks_at (0 + size (texts d.before)) (d.root ∷ d.inner) in
     let body : List ℕ = texts d.before ++ (texts (d.root ∷ d.inner) ++ texts d.after) in
     let f = root_first d.root (texts d.inner) i.root in
     record {
       next = w.next;
       returned = w.returned;
       stands = w.stands;
-      walk = Walk-over 0 _ _ _ _ _ (ap (λ x. encodes (order_mark x ++ body)) e)
-          (start_walk body es _ (first_of d.before (texts (d.root ∷ d.inner) ++ texts d.after) (f.0 ++ texts d.after) i.before (ap (λ x. x ++ texts d.after) f.1)) w.walk);
+      walk = Walk-to 0 _ _ _ _ _ _ refl
+          (ap (λ (n : ℕ). marks_at n (d.root ∷ d.inner)) (omega arith) ∙ ap (λ (x : Bool). marks_at (size (order_mark x ++ texts d.before)) (d.root ∷ d.inner)) (sym e))
+          (Walk-over 0 _ _ _ _ _ (ap (λ x. encodes (order_mark x ++ body)) e)
+          (start_walk body ms _ (first_of d.before (texts (d.root ∷ d.inner) ++ texts d.after) (f.0 ++ texts d.after) i.before (ap (λ x. x ++ texts d.after) f.1)) w.walk));
     }
 
--- ## the law
+-- ## the laws
+
+pub document_timed : (d : Document) → IsDocument d → scalars (document_text d) ≡ true → timed_from 0 start (encodes (document_text d)) ≡ timed_marks d
+document_timed d i ok = (read_by d d.marked refl i ok).walk.marks
 
 pub markup_spelled : (bytes : List ℕ) (tree : Tree) → Markup bytes tree → Spells bytes tree
 unfolding state_of marks_of end_fault_of
@@ -510,5 +530,8 @@ markup_spelled bytes tree m =
     let last : end_fault (at_mode w.next modes.Outside w.returned) (length bytes) ≡ None = if_true w.next.rooted _ _ w.stands.rooted in
     record {
       whole = ap (λ q. end_fault q (length bytes)) (ap (state_from 0 start) m.written ∙ w.walk.state) ∙ last;
-      read = ap (λ x. told (marks_from 0 start x)) m.written ∙ w.walk.events ∙ m.means;
+      read = ap (λ x. told (marks_from 0 start x)) m.written
+          ∙ ap told (sym (timed_from-only 0 start (encodes (document_text m.document))) ∙ ap marks_only w.walk.marks)
+          ∙ told_document m.document m.whole.root
+          ∙ m.means;
     }

@@ -52,7 +52,7 @@ stuck_state at s f (b ∷ bytes) e idle =
     ∙ ap (λ t. state_from (at + 1) t bytes) (cleared_same s idle)
     ∙ stuck_state (at + 1) s f bytes e idle
 
-stuck_marks : (at : ℕ) (s : State) (f : TextFault) (bytes : List ℕ) → s.mode ≡ Failed f → s.ready ≡ Nothing → marks_from at s bytes ≡ []
+pub stuck_marks : (at : ℕ) (s : State) (f : TextFault) (bytes : List ℕ) → s.mode ≡ Failed f → s.ready ≡ Nothing → marks_from at s bytes ≡ []
 stuck_marks at s f [] e idle = refl
 stuck_marks at s f (b ∷ bytes) e idle =
     ap (λ t. complete t ++ marks_from (at + 1) (cleared t) bytes) (stuck s f at b e)

@@ -10,14 +10,14 @@ use Rattle.mof_metamodel.specs.Characters.{is_storable_character, is_blank}
 use Rattle.xmi_text.specs.ByteClass.{within, is_storable_byte}
 use Rattle.xmi_text.specs.States.{complete, cleared}
 use Rattle.xmi_text.specs.Automaton.{ascii, lead, admitted, unstorable, is_unstorable}
-use Rattle.xmi_text.specs.Trees.{Event, told}
+use Rattle.xmi_text.specs.Places.{Timed}
 use Rattle.xmi_text.specs.Markup.{is_content_character, line_ends}
 use Rattle.xmi_text.specs.declared.utf_eight.Partial.{Partial}
 use Rattle.xmi_text.specs.declared.state.State.{State}
 use Rattle.xmi_text.specs.declared.state.Mode.{Mode}
 use Rattle.xmi_text.specs.declared.state.Mode.TheVariants as modes
-use Rattle.xmi_text.proofs.Walks.{Walk, Walk-none, Walk-last, Walk-append, Walk-to}
-use Rattle.xmi_text.proofs.Encoded.{at_mode, within_character, IsPlain, plain_step, behind_whole, far, if_true, if_false, Walk-over, within_from}
+use Rattle.xmi_text.proofs.Walks.{all_by, Walk, Walk-none, Walk-last, Walk-append, Walk-to}
+use Rattle.xmi_text.proofs.Encoded.{at_mode, within_character, IsPlain, plain_step, behind_whole, far, if_true, if_false, Walk-over, over_character, within_from}
 
 -- ## tests
 
@@ -68,9 +68,9 @@ blank_cases c e = elim (or_cases ((c == 32) || (c == 9) || (c == 10)) (c == 13) 
 
 -- ## one character
 
-pub one_character : (at : ℕ) (s : State) (m : Mode) (r : Bool) (c : ℕ) (t : State) → IsPlain m → utf8.scalar c ≡ true → (c < 128 → ascii (at_mode s m r) m at c ≡ t) → (128 ≤ c → (p : Partial) (last : ℕ) → p.lead ≡ at → behind_whole s m r p last c ≡ t) → Walk at (at_mode s m r) (encode c) (told (complete t)) (cleared t)
+pub one_character : (at : ℕ) (s : State) (m : Mode) (r : Bool) (c : ℕ) (t : State) → IsPlain m → utf8.scalar c ≡ true → (c < 128 → ascii (at_mode s m r) m at c ≡ t) → (128 ≤ c → (p : Partial) (last : ℕ) → p.lead ≡ at → behind_whole s m r p last c ≡ t) → Walk at (at_mode s m r) (encode c) (all_by (at + length (encode c)) (complete t)) (cleared t)
 one_character at s m r c t plain ok low high = elim (cases_lt c 128) [
-  | inl h ↦ Walk-over at _ _ _ _ _ (encode_ascii c h)
+  | inl h ↦ over_character at _ _ t c _ (encode_ascii c h) (omega arith)
       (Walk-last at (at_mode s m r) t c
       (plain_step (at_mode s m r) at c m plain
       ∙ if_true (nat_lt c 128) (ascii (at_mode s m r) m at c) (lead (at_mode s m r) m at c) (lt-ltb c 128 h)
@@ -78,7 +78,7 @@ one_character at s m r c t plain ok low high = elim (cases_lt c 128) [
   | inr h ↦
       let f = far at s m r c plain ok h in
       let e : behind_whole s m r f.p f.place c ≡ t = high h f.p f.place f.begins in
-      Walk-to at _ _ _ _ _ _ (ap cleared e) (ap (λ q. told (complete q)) e) f.walk
+      Walk-to at _ _ _ _ _ _ (ap cleared e) (ap (λ q. all_by (at + length (encode c)) (complete q)) e) f.walk
 ]
 
 -- a character is stepped over with no mark
@@ -86,8 +86,8 @@ pub quiet : (at : ℕ) (s : State) (m : Mode) (r : Bool) (c : ℕ) (t : State) (
 quiet at s m r c t n k plain ok low high = one_character at s m r c (at_mode t n k) plain ok low high
 
 -- one walk over characters after another
-pub Walk-characters : (at : ℕ) (s t u : State) (cs ds : List ℕ) (es fs : List Event) → Walk at s (encodes cs) es t → ((place : ℕ) → Walk place t (encodes ds) fs u) → Walk at s (encodes (cs ++ ds)) (es ++ fs) u
-Walk-characters at s t u cs ds es fs v w = Walk-over at s u _ _ (es ++ fs) (encodes-append cs ds) (Walk-append at s t u (encodes cs) (encodes ds) es fs v (w (at + length (encodes cs))))
+pub Walk-characters : (at : ℕ) (s t u : State) (cs ds : List ℕ) (ms ns : List Timed) → Walk at s (encodes cs) ms t → ((place : ℕ) → Walk place t (encodes ds) ns u) → Walk at s (encodes (cs ++ ds)) (ms ++ ns) u
+Walk-characters at s t u cs ds ms ns v w = Walk-over at s u _ _ (ms ++ ns) (encodes-append cs ds) (Walk-append at s t u (encodes cs) (encodes ds) ms ns v (w (at + length (encodes cs))))
 
 pub scalars-parts : (cs ds : List ℕ) → scalars (cs ++ ds) ≡ true → (scalars cs ≡ true) × (scalars ds ≡ true)
 scalars-parts [] ds e = (refl, e)

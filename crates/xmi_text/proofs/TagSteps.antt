@@ -1,5 +1,5 @@
 -- Attributes and tags are stepped over.
-use Rattle.std.proofs.Common.{◌≡◌, ℕ, ◌+◌, ◌<◌, ◌⊎◌, Bool, true, false, List, [], ◌∷◌, ◌++◌, length, map, refl, sym, ◌∙◌, ap, subst, arith, Option, None, Some, inl, inr, append_assoc, append-nil, length-append}
+use Rattle.std.proofs.Common.{◌≡◌, ℕ, ◌+◌, ◌<◌, ◌⊎◌, Bool, true, false, List, [], ◌∷◌, ◌++◌, length, take, refl, sym, ◌∙◌, ap, subst, arith, Option, None, Some, inl, inr, append_assoc, append-nil, length-append}
 use Rattle.std.specs.Prelude.{◌==◌, ◌||◌, nat_lt, nat_eq, slice_get, if◌then◌else◌}
 use Rattle.std.specs.List.{list_all}
 use Rattle.std.specs.Cmp.Lexicographic.{pointwise}
@@ -17,10 +17,11 @@ use Rattle.xmi_text.specs.States as states
 use Rattle.xmi_text.specs.Steps.{quote_byte}
 use Rattle.xmi_text.specs.Steps as steps
 use Rattle.xmi_text.specs.Automaton.{step, innermost, byte_of, wanted, end_name_by, name_behind, ascii, unstorable, is_unstorable}
-use Rattle.xmi_text.specs.Trees.{Opens, Closes, pair_of}
+use Rattle.xmi_text.specs.Places.{Timed, timed, attrs_at, data_at}
 use Rattle.xmi_text.specs.Writing.{has}
-use Rattle.xmi_text.specs.Markup.{Attribute, IsAttribute, AreAttributes, attribute_text, attributes_text, value_text, value_of, pair, Part, is_literal, is_part, starts, are_apart, Tag, IsTag, tag_text, say}
+use Rattle.xmi_text.specs.Markup.{Attribute, IsAttribute, AreAttributes, attribute_text, attributes_text, value_text, value_of, Part, is_literal, is_part, starts, are_apart, Tag, IsTag, tag_text}
 use Rattle.xmi_text.specs.declared.mark.Attr.{Attr}
+use Rattle.xmi_text.specs.declared.mark.Mark.TheVariants as marks
 use Rattle.xmi_text.specs.declared.utf_eight.Partial.{Partial}
 use Rattle.xmi_text.specs.declared.state.State.{State}
 use Rattle.xmi_text.specs.declared.state.Mode.{Mode}
@@ -28,11 +29,19 @@ use Rattle.xmi_text.specs.declared.state.Mode.TheVariants as modes
 use Rattle.xmi_text.specs.declared.state.Quote.{Quote}
 use Rattle.xmi_text.specs.declared.state.Quote.TheVariants.{Double, Single}
 use Rattle.xmi_text.proofs.Walks.{Walk, Walk-none, Walk-append, Walk-last, Walk-to}
-use Rattle.xmi_text.proofs.Encoded.{at_mode, within_character, behind_whole, if_true, if_false, Walk-over}
+use Rattle.xmi_text.proofs.Encoded.{at_mode, within_character, behind_whole, if_true, if_false, Walk-over, over_character}
 use Rattle.xmi_text.proofs.Stepping.{quiet, other, one_character, Walk-characters, scalars-parts, blank_cases}
 use Rattle.xmi_text.proofs.NameSteps.{high_admitted, name_run, with_tag, tag_naming, with_name, attr_naming, blank_step, blank_run, blanks_run}
 use Rattle.xmi_text.proofs.Asides.{begins_low, begins_high}
 use Rattle.xmi_text.proofs.ValueSteps.{with_value, value_run}
+
+-- ## sizes
+
+pub size-append : (cs ds : List ℕ) → length (encodes (cs ++ ds)) ≡ length (encodes cs) + length (encodes ds)
+size-append cs ds = ap length (encodes-append cs ds) ∙ length-append (encodes cs) (encodes ds)
+
+pub size-cons : (c : ℕ) (cs : List ℕ) → length (encodes (c ∷ cs)) ≡ length (encode c) + length (encodes cs)
+size-cons c cs = length-append (encode c) (encodes cs)
 
 -- ## names of attributes
 
@@ -169,11 +178,7 @@ attribute_scalars a e =
     let u = scalars-parts (value_text a.value) (a.quote ∷ []) t.1 in
     record { before = p.0; name = q.0; value = u.0 }
 
-pub record Attributed (at : ℕ) (s : State) (place : Place) (a : Attribute) : Type 0 where
-  pub name_at : ℕ
-  pub walk : Walk at (at_mode s (mode_at place) false) (encodes (attribute_text a)) [] (at_mode (with_attr s (kept_attr a name_at)) modes.AfterValue false)
-
-attribute_walk : (at : ℕ) (s : State) (place : Place) (a : Attribute) → scalars (attribute_text a) ≡ true → IsAttribute a → has_name s.attrs a.name ≡ false → Attributed at s place a
+attribute_walk : (at : ℕ) (s : State) (place : Place) (a : Attribute) → scalars (attribute_text a) ≡ true → IsAttribute a → has_name s.attrs a.name ≡ false → Walk at (at_mode s (mode_at place) false) (encodes (attribute_text a)) [] (at_mode (with_attr s (kept_attr a (at + length (encodes a.before)))) modes.AfterValue false)
 attribute_walk at s place a ok e new =
     let o = attribute_scalars a ok in
     let name_at : ℕ = at + length (encodes a.before) in
@@ -181,50 +186,42 @@ attribute_walk at s place a ok e new =
     let s1 : State = begun s name_at a.name in
     let q = quote_of a.quote e.quote in
     let parts : list_all (is_part (quote_byte q.0)) a.value ≡ true = subst (λ c. list_all (is_part c) a.value ≡ true) q.1 e.value in
-    record {
-      name_at = name_at;
-      walk = Walk-over at _ _ _ _ [] (encodes-append a.before (a.name ++ (a.behind_name ++ (61 ∷ (a.before_value ++ (a.quote ∷ (value_text a.value ++ a.quote ∷ [])))))))
-          (Walk-append at _ _ _ (encodes a.before) _ [] [] (before_walk at s place a.before e.parted e.before)
-          (Walk-characters name_at _ _ _ a.name (a.behind_name ++ (61 ∷ (a.before_value ++ (a.quote ∷ (value_text a.value ++ a.quote ∷ []))))) [] [] n.1
-          (λ k.
-          let b = blanks_named k s1 n.0 a.behind_name new e.behind_name in
-          Walk-characters k _ _ _ a.behind_name (61 ∷ (a.before_value ++ (a.quote ∷ (value_text a.value ++ a.quote ∷ [])))) [] [] b.1
-          (λ l. Walk-append l _ _ _ (encode 61) (encodes (a.before_value ++ (a.quote ∷ (value_text a.value ++ a.quote ∷ [])))) [] [] (equals_walk l s1 b.0 new)
-          (Walk-over (l + length (encode 61)) _ _ _ _ [] (ap (λ c. encodes (a.before_value ++ (c ∷ (value_text a.value ++ c ∷ [])))) q.1)
-          (value_walk (l + length (encode 61)) s1 q.0 a.before_value a.value refl o.value e.before_value parts e.runs))))));
-    }
+    Walk-over at _ _ _ _ [] (encodes-append a.before (a.name ++ (a.behind_name ++ (61 ∷ (a.before_value ++ (a.quote ∷ (value_text a.value ++ a.quote ∷ [])))))))
+    (Walk-append at _ _ _ (encodes a.before) _ [] [] (before_walk at s place a.before e.parted e.before)
+    (Walk-characters name_at _ _ _ a.name (a.behind_name ++ (61 ∷ (a.before_value ++ (a.quote ∷ (value_text a.value ++ a.quote ∷ []))))) [] [] n.1
+    (λ k.
+    let b = blanks_named k s1 n.0 a.behind_name new e.behind_name in
+    Walk-characters k _ _ _ a.behind_name (61 ∷ (a.before_value ++ (a.quote ∷ (value_text a.value ++ a.quote ∷ [])))) [] [] b.1
+    (λ l. Walk-append l _ _ _ (encode 61) (encodes (a.before_value ++ (a.quote ∷ (value_text a.value ++ a.quote ∷ [])))) [] [] (equals_walk l s1 b.0 new)
+    (Walk-over (l + length (encode 61)) _ _ _ _ [] (ap (λ c. encodes (a.before_value ++ (c ∷ (value_text a.value ++ c ∷ [])))) q.1)
+    (value_walk (l + length (encode 61)) s1 q.0 a.before_value a.value refl o.value e.before_value parts e.runs))))))
 
 -- ## all attributes
 
 pub record Attributes (at : ℕ) (s : State) (place : Place) (attributes : List Attribute) : Type 0 where
-  pub more : List Attr
   pub last : Attr
   pub behind : Place
-  pub pairs : map pair_of more ≡ map pair attributes
-  pub walk : Walk at (at_mode s (mode_at place) false) (encodes (attributes_text attributes)) [] (at_mode (record s { attrs = s.attrs ++ more; attr = last }) (mode_at behind) false)
+  pub walk : Walk at (at_mode s (mode_at place) false) (encodes (attributes_text attributes)) [] (at_mode (record s { attrs = s.attrs ++ attrs_at at attributes; attr = last }) (mode_at behind) false)
 
 pub attributes_walk : (at : ℕ) (s : State) (place : Place) (names : List (List ℕ)) (attributes : List Attribute) → names_of s.attrs ≡ names → scalars (attributes_text attributes) ≡ true → AreAttributes names attributes → Attributes at s place attributes
 attributes_walk at s place names [] n ok e = record {
-  more = [];
   last = s.attr;
   behind = place;
-  pairs = refl;
   walk = Walk-to at _ _ _ _ _ _ (ap (λ x. at_mode (record s { attrs = x }) (mode_at place) false) (sym (append-nil s.attrs))) refl (Walk-none at (at_mode s (mode_at place) false));
 }
 attributes_walk at s place names (a ∷ attributes) n ok e =
     let o = scalars-parts (attribute_text a) (attributes_text attributes) ok in
     let new : has_name s.attrs a.name ≡ false = has_name-has s.attrs a.name ∙ ap (λ ns. has ns a.name) n ∙ e.1 in
     let one = attribute_walk at s place a o.0 e.0 new in
-    let b : Attr = kept_attr a one.name_at in
-    let rest = attributes_walk (at + length (encodes (attribute_text a))) (with_attr s b) Quoted (names ++ a.name ∷ []) attributes (names_of-push s.attrs b ∙ ap (λ ns. ns ++ a.name ∷ []) n) o.1 e.2 in
+    let b : Attr = kept_attr a (at + length (encodes a.before)) in
+    let l : ℕ = at + length (encodes (attribute_text a)) in
+    let rest = attributes_walk l (with_attr s b) Quoted (names ++ a.name ∷ []) attributes (names_of-push s.attrs b ∙ ap (λ ns. ns ++ a.name ∷ []) n) o.1 e.2 in
     record {
-      more = b ∷ rest.more;
       last = rest.last;
       behind = rest.behind;
-      pairs = ap (λ x. pair a ∷ x) rest.pairs;
       walk = Walk-over at _ _ _ _ [] (encodes-append (attribute_text a) (attributes_text attributes))
-          (Walk-to at _ _ _ _ _ _ (ap (λ x. at_mode (record s { attrs = x; attr = rest.last }) (mode_at rest.behind) false) (append_assoc s.attrs (b ∷ []) rest.more)) refl
-          (Walk-append at _ _ _ (encodes (attribute_text a)) (encodes (attributes_text attributes)) [] [] one.walk rest.walk));
+          (Walk-to at _ _ _ _ _ _ (ap (λ x. at_mode (record s { attrs = x; attr = rest.last }) (mode_at rest.behind) false) (append_assoc s.attrs (b ∷ []) (attrs_at l attributes))) refl
+          (Walk-append at _ _ _ (encodes (attribute_text a)) (encodes (attributes_text attributes)) [] [] one rest.walk));
     }
 
 -- ## start tags
@@ -242,54 +239,55 @@ admitted_element s place at c a = elim a [
 abbrev tag_begun : State → ℕ → List ℕ → State
 tag_begun s place cs = record s { run = []; tag = cs; tag_at = place; attrs = []; rooted = true }
 
-abbrev whole_of : State → State
+abbrev pub whole_of : State → State
 whole_of s = record s { partial = None }
 
 begins_other : (c d : ℕ) → begins_name c ≡ true → begins_name d ≡ false → (c == d) ≡ false
 begins_other c d e f = other c d (λ x. true≢false (sym (subst (λ q. begins_name q ≡ true) x e) ∙ f))
 
-less_low : (s : State) (place at c : ℕ) → Admits s → begins_name c ≡ true → ascii (at_mode s (modes.Less place) false) (modes.Less place) at c ≡ states.begin_tag (at_mode s (modes.Less place) false) place c
-less_low s place at c a e =
-    if_false (c == 33) _ _ (begins_other c 33 e refl)
-    ∙ if_false (c == 63) _ _ (begins_other c 63 e refl)
-    ∙ if_false (c == 47) _ _ (begins_other c 47 e refl)
-    ∙ if_true (begins_name c) _ _ e
-    ∙ admitted_element (at_mode s (modes.Less place) false) place at c a
+pub less_low : (s : State) (place at c : ℕ) → begins_name c ≡ true → ascii (at_mode s (modes.Less place) false) (modes.Less place) at c ≡ steps.begin_element (at_mode s (modes.Less place) false) place at c
+less_low s place at c e =
+    if_false (c == 33) _ _ (begins_other c 33 e refl) ∙ if_false (c == 63) _ _ (begins_other c 63 e refl) ∙ if_false (c == 47) _ _ (begins_other c 47 e refl) ∙ if_true (begins_name c) _ _ e
 
-less_high : (s : State) (place : ℕ) (p : Partial) (last c : ℕ) → Admits s → is_unstorable c ≡ false → behind_whole s (modes.Less place) false p last c ≡ states.begin_tag (at_mode s (modes.Less place) false) place c
-less_high s place p last c a f =
+pub less_high : (s : State) (place : ℕ) (p : Partial) (last c : ℕ) → is_unstorable c ≡ false → behind_whole s (modes.Less place) false p last c ≡ whole_of (steps.begin_element (within_character s (modes.Less place) false p) place p.lead c)
+less_high s place p last c f =
     let t : State = within_character s (modes.Less place) false p in
     ap whole_of (if_false (is_unstorable c) (unstorable t (modes.Less place) p.lead last) (steps.begin_element t place p.lead c) f)
-    ∙ ap whole_of (admitted_element t place p.lead c a)
 
-first_of_tag : (at place : ℕ) (s : State) (run : List ℕ) (c : ℕ) → utf8.scalar c ≡ true → (begins_name c || is_far c) ≡ true → Admits s → Walk at (at_mode (record s { run = run }) (modes.Less place) false) (encode c) (say run []) (at_mode (tag_begun s place (c ∷ [])) (modes.TagName false) false)
+-- the first character of a name behind `<`, where an element may begin
+admitted_low : (s : State) (place at c : ℕ) → Admits s → begins_name c ≡ true → ascii (at_mode s (modes.Less place) false) (modes.Less place) at c ≡ states.begin_tag (at_mode s (modes.Less place) false) place c
+admitted_low s place at c a e = less_low s place at c e ∙ admitted_element (at_mode s (modes.Less place) false) place at c a
+
+admitted_high : (s : State) (place : ℕ) (p : Partial) (last c : ℕ) → Admits s → is_unstorable c ≡ false → behind_whole s (modes.Less place) false p last c ≡ states.begin_tag (at_mode s (modes.Less place) false) place c
+admitted_high s place p last c a f = less_high s place p last c f ∙ ap whole_of (admitted_element (within_character s (modes.Less place) false p) place p.lead c a)
+
+first_of_tag : (at place : ℕ) (s : State) (run : List ℕ) (c : ℕ) → utf8.scalar c ≡ true → (begins_name c || is_far c) ≡ true → Admits s → Walk at (at_mode (record s { run = run }) (modes.Less place) false) (encode c) (data_at s.run_at run (at + length (encode c))) (at_mode (tag_begun s place (c ∷ [])) (modes.TagName false) false)
 first_of_tag at place s [] c ok e a =
     let s1 : State = record s { run = [] } in
     one_character at s1 (modes.Less place) false c (states.begin_tag (at_mode s1 (modes.Less place) false) place c) tt ok
-    (λ l. less_low s1 place at c a (begins_low c e l)) (λ l p last b. less_high s1 place p last c a (begins_high c e l))
+    (λ l. admitted_low s1 place at c a (begins_low c e l)) (λ l p last b. admitted_high s1 place p last c a (begins_high c e l))
 first_of_tag at place s (x ∷ run) c ok e a =
     let s1 : State = record s { run = x ∷ run } in
     one_character at s1 (modes.Less place) false c (states.begin_tag (at_mode s1 (modes.Less place) false) place c) tt ok
-    (λ l. less_low s1 place at c a (begins_low c e l)) (λ l p last b. less_high s1 place p last c a (begins_high c e l))
+    (λ l. admitted_low s1 place at c a (begins_low c e l)) (λ l p last b. admitted_high s1 place p last c a (begins_high c e l))
 
-tag_name_walk : (at place : ℕ) (s : State) (run name : List ℕ) → scalars name ≡ true → is_name name ≡ true → Admits s → (k : Bool) × Walk at (at_mode (record s { run = run }) (modes.Less place) false) (encodes name) (say run []) (at_mode (tag_begun s place name) (modes.TagName k) false)
+tag_name_walk : (at place : ℕ) (s : State) (run name : List ℕ) → scalars name ≡ true → is_name name ≡ true → Admits s → (k : Bool) × Walk at (at_mode (record s { run = run }) (modes.Less place) false) (encodes name) (data_at s.run_at run (at + length (encodes (take 1 name)))) (at_mode (tag_begun s place name) (modes.TagName k) false)
 tag_name_walk at place s run [] ok e a = absurd (true≢false (sym e))
 tag_name_walk at place s run (c ∷ cs) ok e a =
     let o = and_parts (utf8.scalar c) (scalars cs) ok in
     let p = and_parts (begins_name c || is_far c) (goes_on false cs) e in
     let more = name_run (λ k. modes.TagName k) with_tag tag_naming (at + length (encode c)) (tag_begun s place (c ∷ [])) false cs o.1 p.1 in (
       more.0,
-      Walk-to at _ _ _ _ _ _ refl (append-nil (say run []))
-          (Walk-append at _ _ _ (encode c) (encodes cs) (say run []) [] (first_of_tag at place s run c o.0 p.0 a) more.1),
+      Walk-to at _ _ _ _ _ _ refl
+          (append-nil (data_at s.run_at run (at + length (encode c))) ∙ ap (λ (bytes : List ℕ). data_at s.run_at run (at + length bytes)) (sym (append-nil (encode c))))
+          (Walk-append at _ _ _ (encode c) (encodes cs) (data_at s.run_at run (at + length (encode c))) [] (first_of_tag at place s run c o.0 p.0 a) more.1),
     )
 
 -- a tag up to its end
 pub record Tagged (at place : ℕ) (s : State) (run : List ℕ) (tag : Tag) : Type 0 where
-  pub attrs : List Attr
   pub last : Attr
   pub behind : Place
-  pub pairs : map pair_of attrs ≡ map pair tag.attributes
-  pub walk : Walk at (at_mode (record s { run = run }) (modes.Less place) false) (encodes (tag_text tag)) (say run []) (at_mode (record s { run = []; tag = tag.name; tag_at = place; attrs = attrs; attr = last; rooted = true }) (mode_at behind) false)
+  pub walk : Walk at (at_mode (record s { run = run }) (modes.Less place) false) (encodes (tag_text tag)) (data_at s.run_at run (at + length (encodes (take 1 tag.name)))) (at_mode (record s { run = []; tag = tag.name; tag_at = place; attrs = attrs_at (at + length (encodes tag.name)) tag.attributes; attr = last; rooted = true }) (mode_at behind) false)
 
 pub tag_walk : (at place : ℕ) (s : State) (run : List ℕ) (tag : Tag) → scalars (tag_text tag) ≡ true → IsTag tag → Admits s → Tagged at place s run tag
 tag_walk at place s run tag ok e a =
@@ -299,15 +297,14 @@ tag_walk at place s run tag ok e a =
     let l : ℕ = at + length (encodes tag.name) in
     let all = attributes_walk l (tag_begun s place tag.name) (Name n.0) [] tag.attributes names_of-none q.0 e.attributes in
     let m : ℕ = l + length (encodes (attributes_text tag.attributes)) in
-    let b = behind_walk m (record s { run = []; tag = tag.name; tag_at = place; attrs = all.more; attr = all.last; rooted = true }) all.behind tag.blanks e.blanks in
+    let b = behind_walk m (record s { run = []; tag = tag.name; tag_at = place; attrs = attrs_at l tag.attributes; attr = all.last; rooted = true }) all.behind tag.blanks e.blanks in
+    let ended : List Timed = data_at s.run_at run (at + length (encodes (take 1 tag.name))) in
     record {
-      attrs = all.more;
       last = all.last;
       behind = b.0;
-      pairs = all.pairs;
       walk = Walk-over at _ _ _ _ _ (encodes-append tag.name (attributes_text tag.attributes ++ tag.blanks))
-          (Walk-to at _ _ _ _ _ _ refl (append-nil (say run []))
-          (Walk-append at _ _ _ (encodes tag.name) _ (say run []) [] n.1
+          (Walk-to at _ _ _ _ _ _ refl (append-nil ended)
+          (Walk-append at _ _ _ (encodes tag.name) _ ended [] n.1
           (Walk-over l _ _ _ _ [] (encodes-append (attributes_text tag.attributes) tag.blanks)
           (Walk-append l _ _ _ (encodes (attributes_text tag.attributes)) (encodes tag.blanks) [] [] all.walk b.1))));
     }
@@ -316,7 +313,7 @@ tag_walk at place s run tag ok e a =
 abbrev pub opened : State → ℕ → State
 opened s at = record s { elements = s.elements ++ s.tag ∷ []; run_at = at + 1; tag = []; attrs = [] }
 
-pub open_end : (at : ℕ) (s : State) (place : Place) → Walk at (at_mode s (mode_at place) false) (encode 62) (Opens s.tag (map pair_of s.attrs) ∷ []) (at_mode (opened s at) modes.Inside false)
+pub open_end : (at : ℕ) (s : State) (place : Place) → Walk at (at_mode s (mode_at place) false) (encode 62) (timed (at + length (encode 62)) (marks.Open s.tag s.attrs s.tag_at) ∷ []) (at_mode (opened s at) modes.Inside false)
 open_end at s (Name k) = one_character at s (modes.TagName k) false 62 (states.open_tag (at_mode s (modes.TagName k) false) at) tt refl (λ l. refl) (λ l p last b. absurd (omega arith))
 open_end at s Quoted = one_character at s modes.AfterValue false 62 (states.open_tag (at_mode s modes.AfterValue false) at) tt refl (λ l. refl) (λ l p last b. absurd (omega arith))
 open_end at s Blank = one_character at s modes.Tag false 62 (states.open_tag (at_mode s modes.Tag false) at) tt refl (λ l. refl) (λ l p last b. absurd (omega arith))
@@ -330,13 +327,13 @@ slash_walk at s (Name k) = quiet at s (modes.TagName k) false 47 s modes.Slash f
 slash_walk at s Quoted = quiet at s modes.AfterValue false 47 s modes.Slash false tt refl (λ l. refl) (λ l p last b. absurd (omega arith))
 slash_walk at s Blank = quiet at s modes.Tag false 47 s modes.Slash false tt refl (λ l. refl) (λ l p last b. absurd (omega arith))
 
-pub empty_end : (at : ℕ) (s : State) → Walk at (at_mode s modes.Slash false) (encode 62) (Opens s.tag (map pair_of s.attrs) ∷ Closes ∷ []) (at_mode (emptied_tag s at) (around s) false)
+pub empty_end : (at : ℕ) (s : State) → Walk at (at_mode s modes.Slash false) (encode 62) (timed (at + length (encode 62)) (marks.Open s.tag s.attrs s.tag_at) ∷ timed (at + length (encode 62)) (marks.Close s.tag_at) ∷ []) (at_mode (emptied_tag s at) (around s) false)
 empty_end at s = one_character at s modes.Slash false 62 (states.empty_tag (at_mode s modes.Slash false) at) tt refl (λ l. refl) (λ l p last b. absurd (omega arith))
 
 -- ## end tags
 
 -- behind `</`
-slash_first : (at place : ℕ) (s : State) (run : List ℕ) → is_inside s ≡ true → Walk at (at_mode (record s { run = run }) (modes.Less place) false) (encode 47) (say run []) (at_mode (record s { run = [] }) (modes.EndName place 0) false)
+slash_first : (at place : ℕ) (s : State) (run : List ℕ) → is_inside s ≡ true → Walk at (at_mode (record s { run = run }) (modes.Less place) false) (encode 47) (data_at s.run_at run (at + length (encode 47))) (at_mode (record s { run = [] }) (modes.EndName place 0) false)
 slash_first at place s [] e =
     let s1 : State = record s { run = [] } in
     one_character at s1 (modes.Less place) false 47 (states.begin_end (at_mode s1 (modes.Less place) false) place) tt refl (λ l. if_true (is_inside s) _ _ e) (λ l p last b. absurd (omega arith))
@@ -405,15 +402,23 @@ tail_blanks at place s name (c ∷ cs) i e =
 abbrev pub closed : State → ℕ → State
 closed s at = record s { elements = states.front s.elements; run_at = at + 1 }
 
-tail_end : (at place : ℕ) (s : State) (name : List ℕ) (k : Bool) → IsInnermost s name → Walk at (at_mode s (tail_mode place (length (encodes name)) k) false) (encode 62) (Closes ∷ []) (at_mode (closed s at) (around (closed s at)) false)
+tail_end : (at place : ℕ) (s : State) (name : List ℕ) (k : Bool) → IsInnermost s name → Walk at (at_mode s (tail_mode place (length (encodes name)) k) false) (encode 62) (timed (at + length (encode 62)) (marks.Close place) ∷ []) (at_mode (closed s at) (around (closed s at)) false)
 tail_end at place s name true i = one_character at s (modes.EndTail place) false 62 (states.close_tag (at_mode s (modes.EndTail place) false) place at) tt refl (λ l. refl) (λ l p last b. absurd (omega arith))
 tail_end at place s name false i =
     let from : State = at_mode s (modes.EndName place (length (encodes name))) false in
-    Walk-over at _ _ _ _ _ (encode_ascii 62 (omega arith)) (Walk-last at from (states.close_tag from place at) 62 (behind_name at place 62 s name i))
+    over_character at _ _ (states.close_tag from place at) 62 _ (encode_ascii 62 (omega arith)) (omega arith) (Walk-last at from (states.close_tag from place at) 62 (behind_name at place 62 s name i))
+
+-- from behind `<` to behind `>`
+abbrev pub end_text : List ℕ → List ℕ → List ℕ
+end_text name blanks = 47 ∷ (name ++ (blanks ++ 62 ∷ []))
+
+abbrev pub end_marks : (at place from : ℕ) (run : List ℕ) (end : ℕ) → List Timed
+end_marks at place from run end = data_at from run (at + length (encode 47)) ++ timed end (marks.Close place) ∷ []
 
 pub record EndTagged (at : ℕ) (s : State) (run name blanks : List ℕ) (place : ℕ) : Type 0 where
   pub end_at : ℕ
-  pub walk : Walk at (at_mode (record s { run = run }) (modes.Less place) false) (encodes (47 ∷ (name ++ (blanks ++ 62 ∷ [])))) (say run [] ++ Closes ∷ []) (at_mode (closed (record s { run = [] }) end_at) (around (closed (record s { run = [] }) end_at)) false)
+  pub ends : end_at + length (encode 62) ≡ at + length (encodes (end_text name blanks))
+  pub walk : Walk at (at_mode (record s { run = run }) (modes.Less place) false) (encodes (end_text name blanks)) (end_marks at place s.run_at run (end_at + length (encode 62))) (at_mode (closed (record s { run = [] }) end_at) (around (closed (record s { run = [] }) end_at)) false)
 
 pub end_walk : (at place : ℕ) (s : State) (run name blanks : List ℕ) → is_inside s ≡ true → IsInnermost s name → list_all is_blank blanks ≡ true → EndTagged at s run name blanks place
 end_walk at place s run name blanks inside i e =
@@ -422,12 +427,14 @@ end_walk at place s run name blanks inside i e =
     let m : ℕ = l + length (encodes name) in
     let b = tail_blanks m place s1 name blanks i e in
     let n : ℕ = m + length (encodes blanks) in
+    let close : List Timed = timed (n + length (encode 62)) (marks.Close place) ∷ [] in
     record {
       end_at = n;
-      walk = Walk-append at _ _ _ (encode 47) (encodes (name ++ (blanks ++ 62 ∷ []))) (say run []) (Closes ∷ []) (slash_first at place s run inside)
+      ends = omega (arith, size-cons 47 (name ++ (blanks ++ 62 ∷ [])), size-append name (blanks ++ 62 ∷ []), size-append blanks (62 ∷ []), size-cons 62 []);
+      walk = Walk-append at _ _ _ (encode 47) (encodes (name ++ (blanks ++ 62 ∷ []))) (data_at s.run_at run l) close (slash_first at place s run inside)
           (Walk-over l _ _ _ _ _ (encodes-append name (blanks ++ 62 ∷ []))
-          (Walk-append l _ _ _ (encodes name) (encodes (blanks ++ 62 ∷ [])) [] (Closes ∷ []) (end_name_run l place s1 name [] (encodes name) i refl)
+          (Walk-append l _ _ _ (encodes name) (encodes (blanks ++ 62 ∷ [])) [] close (end_name_run l place s1 name [] (encodes name) i refl)
           (Walk-over m _ _ _ _ _ (encodes-append blanks (62 ∷ []))
-          (Walk-append m _ _ _ (encodes blanks) (encodes (62 ∷ [])) [] (Closes ∷ []) b.1
-          (Walk-append n _ _ _ (encode 62) [] (Closes ∷ []) [] (tail_end n place s1 name b.0 i) (Walk-none (n + length (encode 62)) (at_mode (closed s1 n) (around (closed s1 n)) false)))))));
+          (Walk-append m _ _ _ (encodes blanks) (encodes (62 ∷ [])) [] close b.1
+          (Walk-append n _ _ _ (encode 62) [] close [] (tail_end n place s1 name b.0 i) (Walk-none (n + length (encode 62)) (at_mode (closed s1 n) (around (closed s1 n)) false)))))));
     }

@@ -50,9 +50,9 @@ spoken (Value quote) s cs = with_value s cs
 
 ampersand : (at : ℕ) (s : State) (w : Within) (r : Bool) → Walk at (at_mode s (mode_of w) r) (encode 38) [] (at_mode s (modes.Reference at w ref.Begun) false)
 unfolding encode
-ampersand at s Content r = record { state = refl; events = refl }
-ampersand at s (Value Double) r = record { state = refl; events = refl }
-ampersand at s (Value Single) r = record { state = refl; events = refl }
+ampersand at s Content r = record { state = refl; marks = refl }
+ampersand at s (Value Double) r = record { state = refl; marks = refl }
+ampersand at s (Value Single) r = record { state = refl; marks = refl }
 
 semicolon_to : (at amp : ℕ) (s : State) (w : Within) (so : reading.Reference) (c : ℕ) → character so ≡ Some c → Walk at (at_mode s (modes.Reference amp w so) false) (encode 59) [] (at_mode (spoken w s (c ∷ [])) (mode_of w) false)
 unfolding encode
@@ -68,23 +68,23 @@ spelled at amp s w letters so c v e = Walk-characters at _ _ _ letters (59 ∷ [
 
 amp_walk : (at amp : ℕ) (s : State) (w : Within) → Walk at (at_mode s (modes.Reference amp w ref.Begun) false) (encodes (codes "amp")) [] (at_mode s (modes.Reference amp w ref.Amp) false)
 unfolding encode
-amp_walk at amp s w = record { state = refl; events = refl }
+amp_walk at amp s w = record { state = refl; marks = refl }
 
 lt_walk : (at amp : ℕ) (s : State) (w : Within) → Walk at (at_mode s (modes.Reference amp w ref.Begun) false) (encodes (codes "lt")) [] (at_mode s (modes.Reference amp w ref.Lt) false)
 unfolding encode
-lt_walk at amp s w = record { state = refl; events = refl }
+lt_walk at amp s w = record { state = refl; marks = refl }
 
 gt_walk : (at amp : ℕ) (s : State) (w : Within) → Walk at (at_mode s (modes.Reference amp w ref.Begun) false) (encodes (codes "gt")) [] (at_mode s (modes.Reference amp w ref.Gt) false)
 unfolding encode
-gt_walk at amp s w = record { state = refl; events = refl }
+gt_walk at amp s w = record { state = refl; marks = refl }
 
 quot_walk : (at amp : ℕ) (s : State) (w : Within) → Walk at (at_mode s (modes.Reference amp w ref.Begun) false) (encodes (codes "quot")) [] (at_mode s (modes.Reference amp w ref.Quot) false)
 unfolding encode
-quot_walk at amp s w = record { state = refl; events = refl }
+quot_walk at amp s w = record { state = refl; marks = refl }
 
 apos_walk : (at amp : ℕ) (s : State) (w : Within) → Walk at (at_mode s (modes.Reference amp w ref.Begun) false) (encodes (codes "apos")) [] (at_mode s (modes.Reference amp w ref.Apos) false)
 unfolding encode
-apos_walk at amp s w = record { state = refl; events = refl }
+apos_walk at amp s w = record { state = refl; marks = refl }
 
 -- a number that digits go on never gets smaller
 number_grows : (base : ℕ) → ((n d : ℕ) → n ≤ n * base + d) → (n : ℕ) (ds : List ℕ) → n ≤ number base n ds
@@ -218,11 +218,11 @@ numbered is_one ds c e =
 
 hash : (at amp : ℕ) (s : State) (w : Within) → Walk at (at_mode s (modes.Reference amp w ref.Begun) false) (encode 35) [] (at_mode s (modes.Reference amp w ref.Hash) false)
 unfolding encode
-hash at amp s w = record { state = refl; events = refl }
+hash at amp s w = record { state = refl; marks = refl }
 
 ex : (at amp : ℕ) (s : State) (w : Within) → Walk at (at_mode s (modes.Reference amp w ref.Hash) false) (encode 120) [] (at_mode s (modes.Reference amp w ref.Hexadecimal) false)
 unfolding encode
-ex at amp s w = record { state = refl; events = refl }
+ex at amp s w = record { state = refl; marks = refl }
 
 tail_of : (x : ℕ) (xs ys : List ℕ) → x ∷ xs ≡ x ∷ ys → xs ≡ ys
 tail_of x xs ys e = cc

@@ -14,7 +14,8 @@ use Rattle.xmi_text.specs.Markup.{Reference, Amp, Lt, Gt, Quot, Apos, Decimal, r
 use Rattle.xmi_text.proofs.Encoded.{if_true, if_false}
 use Rattle.xmi_text.proofs.Stepping.{other}
 use Rattle.xmi_text.proofs.EventTrees.{has_tree}
-use Rattle.xmi_text.proofs.Spelled.{stacked, some, length-stacked, inside_by, innermost_by, front_by, say_none, say_say, root_tag}
+use Rattle.xmi_text.proofs.Spelled.{stacked, some, length-stacked, inside_by, innermost_by, front_by, root_tag}
+use Rattle.xmi_text.proofs.Placed.{say_none, say_say}
 
 -- ## characters
 

@@ -11,6 +11,7 @@ pub mod Names
 pub mod Writing
 pub mod Trees
 pub mod Markup
+pub mod Places
 pub mod Calls
 pub mod Completion
 pub mod Faults

@@ -19,9 +19,11 @@ mod steps;
 mod utf_eight;
 mod writer;
 
-pub use document_laws::one_document_tree;
+pub use document_laws::{
+    first_bytes_are_read, marks_have_places, marks_tell_documents, one_document_tree,
+};
 pub use error::{TextError, TextFault, TextKind};
-pub use fault_laws::faults_stand;
+pub use fault_laws::{faults_stand, marks_stop};
 pub use first_fault_laws::{documents_have_no_fault, no_fault_is_missed, told_fault_is_first};
 pub use fixed_laws::{given_answers_are_fixed, not_yet_is_open};
 pub use laws::{

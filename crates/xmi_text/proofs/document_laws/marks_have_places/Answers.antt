@@ -1,0 +1,5 @@
+use Rattle.xmi_text.proofs.Timing.{marks_read}
+use Rattle.xmi_text.proofs.document_laws.marks_have_places.Goals as goal
+
+pub returns : goal.returns
+returns c = marks_read
