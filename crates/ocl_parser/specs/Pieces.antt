@@ -5,6 +5,7 @@ use Rattle.std.specs.List.{list_all}
 use Rattle.std.specs.Char.{is_ascii_digit}
 use Rattle.std.specs.Str.{bytes_eq, chars}
 use Rattle.std.specs.Ordering.{int_eq}
+use Rattle.mof_metamodel.specs.Characters.{is_storable_text}
 use Rattle.mof_metamodel.specs.declared.span.Span.{Span}
 use Rattle.ql_lex.specs.declared.token.TokenKind.{TokenKind}
 use Rattle.ql_lex.specs.declared.token.TokenKind.TheVariants as kinds
@@ -54,9 +55,9 @@ integer_of text = if list_all is_ascii_digit text && nat_le (decimal 0 text) gre
 abbrev pub is_name : Name → Lexeme → Bool
 is_name name l = option_map_or (bytes_eq name.text) (name_text l.token.kind l.text) false && is_same_span l.token.span name.span
 
--- a string that stands for this text
+-- a string that stands for this text, of storable characters
 abbrev pub is_string : List ℕ → Lexeme → Bool
-is_string text l = elim l.token.kind [ kinds.Name ↦ false | kinds.Quoted ↦ false | kinds.Reserved ↦ false | kinds.Number ↦ false | kinds.Str ↦ bytes_eq text (unquoted (chars l.text)) | kinds.Sign ↦ false ]
+is_string text l = elim l.token.kind [ kinds.Name ↦ false | kinds.Quoted ↦ false | kinds.Reserved ↦ false | kinds.Number ↦ false | kinds.Str ↦ bytes_eq text (unquoted (chars l.text)) && is_storable_text text | kinds.Sign ↦ false ]
 
 abbrev pub is_number : ℤ → Lexeme → Bool
 is_number value l = elim l.token.kind [ kinds.Name ↦ false | kinds.Quoted ↦ false | kinds.Reserved ↦ false | kinds.Number ↦ option_map_or (int_eq value) (integer_of l.text) false | kinds.Str ↦ false | kinds.Sign ↦ false ]

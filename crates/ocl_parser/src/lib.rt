@@ -2,14 +2,19 @@
 //! which tree, one clause for each form.
 #![tactic(auto)]
 
-mod atoms;
-mod chains;
+mod complete_laws;
+mod completion_laws;
 mod error;
-mod forms;
-mod heads;
+mod frame;
+mod laws;
+mod local_laws;
 mod look;
 mod names;
+mod place;
+mod symbol;
 mod texts;
-mod types;
 
+pub use complete_laws::{beginnings_are_read, expressions_are_read, one_expression};
+pub use completion_laws::{answers_are_exact, open_constructs_end, readings_begin, readings_end};
 pub use error::ParseError;
+pub use local_laws::{one_tree_between, own_tokens_spell};

@@ -1,0 +1,151 @@
+-- How tokens that begin an expression go on to a whole one: what ends all that is open.
+use Rattle.std.specs.Prelude.{◌≡◌, ℕ, ◌+◌, Bool, true, false, ◌&&◌, nat_lt, if◌then◌else◌, List, [], ◌∷◌, ◌++◌, length, drop, take, Option, Some, None, codes}
+use Rattle.ql_lex.specs.declared.token.TokenKind.{TokenKind}
+use Rattle.ql_lex.specs.declared.token.TokenKind.TheVariants as kinds
+use Rattle.ql_lex.specs.Lexed.{Lexeme}
+use Rattle.qv_syntax.specs.declared.expr.Expr.{Expr}
+use Rattle.ocl_parser.specs.Symbols.{symbol_of}
+use Rattle.ocl_parser.specs.Moves.{move, open_levels, place_levels}
+use Rattle.ocl_parser.specs.Runs.{Tree, run, nowhere}
+use Rattle.ocl_parser.specs.declared.frame.Frame.{Frame}
+use Rattle.ocl_parser.specs.declared.frame.Frame.TheVariants as frames
+use Rattle.ocl_parser.specs.declared.place.Place.{Place}
+use Rattle.ocl_parser.specs.declared.place.Place.TheVariants as places
+use Rattle.ocl_parser.specs.declared.place.Outcome.TheVariants as outcomes
+
+-- ---- what was read
+
+-- the open constructs, and what may come next
+pub record Reading : Type 0 where
+  pub stack : List Frame
+  pub place : Place
+
+-- what all these tokens, behind what was read before them, make of it, if all are read
+unfoldable pub reads : ℕ → List Lexeme → List Frame → Place → Option Reading
+reads levels [] stack place = Some (record { stack = stack; place = place })
+reads levels (l ∷ ls) stack place = elim (move stack place (symbol_of l) l.token.span).outcome [
+  | outcomes.Read next ↦ if nat_lt levels (open_levels (move stack place (symbol_of l) l.token.span).stack + place_levels next) then None
+      else reads levels ls (move stack place (symbol_of l) l.token.span).stack next
+  | outcomes.Whole tree ↦ None
+  | outcomes.Refused ↦ None
+]
+
+-- the tokens before number k are read from the one of number `from` on
+abbrev pub Reaches : List Lexeme → ℕ → ℕ → ℕ → Reading → Type 0
+Reaches ts levels from k reading = reads levels (drop from (take k ts)) [] places.Operand ≡ Some reading
+
+-- ---- which constructs stand below which place
+
+-- a construct in which expressions are read
+abbrev pub holds_expressions : Frame → Bool
+holds_expressions (frames.LetType start name) = false
+holds_expressions (frames.VariableType it) = false
+holds_expressions (frames.OfKind start kind) = false
+holds_expressions frame = true
+
+abbrev pub are_expressions : List Frame → Bool
+are_expressions [] = true
+are_expressions (frame ∷ stack) = holds_expressions frame && are_expressions stack
+
+-- a type is read, of a variable and inside so many collections
+abbrev pub is_type : List Frame → Bool
+is_type [] = false
+is_type (frames.LetType start name ∷ stack) = are_expressions stack
+is_type (frames.VariableType it ∷ stack) = are_expressions stack
+is_type (frames.OfKind start kind ∷ stack) = is_type stack
+is_type (frame ∷ stack) = false
+
+abbrev pub is_open : List Frame → Place → Bool
+is_open stack places.Type = is_type stack
+is_open stack (places.TypeParenthesis start kind) = is_type stack
+is_open stack (places.TypePath path) = is_type stack
+is_open stack (places.TypeName path) = is_type stack
+is_open stack (places.TypeEnd ty) = is_type stack
+is_open stack place = are_expressions stack
+
+-- ---- what ends it
+
+abbrev pub lexeme : TokenKind → List ℕ → Lexeme
+lexeme kind text = record { token = record { kind = kind; span = nowhere }; text = text }
+
+abbrev pub reserved : List ℕ → Lexeme
+reserved text = lexeme kinds.Reserved text
+
+abbrev pub mark : List ℕ → Lexeme
+mark text = lexeme kinds.Sign text
+
+abbrev pub null : Lexeme
+null = reserved (codes "null")
+
+abbrev pub some_name : Lexeme
+some_name = lexeme kinds.Name (codes "a")
+
+abbrev pub closes : Lexeme
+closes = mark (codes ")")
+
+-- what ends the open constructs behind an operand, or behind a type
+unfoldable pub closing : List Frame → List Lexeme
+closing [] = []
+closing (frames.LetType start name ∷ stack) = mark (codes "=") ∷ null ∷ reserved (codes "in") ∷ null ∷ closing stack
+closing (frames.Let start name ty ∷ stack) = reserved (codes "in") ∷ null ∷ closing stack
+closing (frames.In start name ty value ∷ stack) = closing stack
+closing (frames.Not start ∷ stack) = closing stack
+closing (frames.Negated start ∷ stack) = closing stack
+closing (frames.Row first rest operator ∷ stack) = closing stack
+closing (frames.Parens start ∷ stack) = closes ∷ closing stack
+closing (frames.If start ∷ stack) = reserved (codes "then") ∷ null ∷ reserved (codes "else") ∷ null ∷ reserved (codes "endif") ∷ closing stack
+closing (frames.Then start condition ∷ stack) = reserved (codes "else") ∷ null ∷ reserved (codes "endif") ∷ closing stack
+closing (frames.Else start condition one ∷ stack) = reserved (codes "endif") ∷ closing stack
+closing (frames.Elements start kind elements ∷ stack) = mark (codes "}") ∷ closing stack
+closing (frames.Arguments called values ∷ stack) = closes ∷ closing stack
+closing (frames.VariableType it ∷ stack) = mark (codes "|") ∷ null ∷ closes ∷ closing stack
+closing (frames.Body it ty ∷ stack) = closes ∷ closing stack
+closing (frames.OfKind start kind ∷ stack) = closes ∷ closing stack
+
+-- what ends the type and the head of a `let`
+abbrev pub let_head : List Lexeme
+let_head = mark (codes ":") ∷ reserved (codes "String") ∷ mark (codes "=") ∷ null ∷ reserved (codes "in") ∷ null ∷ []
+
+-- what ends an operand or a type at this place
+abbrev pub ending : Place → List Lexeme
+ending places.Operand = null ∷ []
+ending (places.After base) = []
+ending (places.Path path) = []
+ending (places.PathName path) = some_name ∷ []
+ending (places.LetName start) = some_name ∷ let_head
+ending (places.LetColon start name) = let_head
+ending places.Type = reserved (codes "String") ∷ []
+ending (places.TypeParenthesis start kind) = mark (codes "(") ∷ reserved (codes "String") ∷ closes ∷ []
+ending (places.TypePath path) = []
+ending (places.TypeName path) = some_name ∷ []
+ending (places.TypeEnd ty) = []
+ending (places.Brace start kind) = mark (codes "{") ∷ mark (codes "}") ∷ []
+ending (places.DotName base start) = some_name ∷ []
+ending (places.Dotted base start name) = []
+ending (places.ArrowName base start) = some_name ∷ mark (codes "(") ∷ some_name ∷ closes ∷ []
+ending (places.ArrowParenthesis base start name) = mark (codes "(") ∷ some_name ∷ closes ∷ []
+ending (places.ArrowFirst base start name) = some_name ∷ closes ∷ []
+ending (places.ArrowSecond it) = closes ∷ []
+ending (places.ClassName called) = some_name ∷ closes ∷ []
+ending (places.ClassPath called path) = closes ∷ []
+ending (places.ClassNext called path) = some_name ∷ closes ∷ []
+
+abbrev pub completion : List Frame → Place → List Lexeme
+completion stack place = ending place ++ closing stack
+
+-- the places behind which a level has to be opened
+abbrev pub opening_levels : Place → ℕ
+opening_levels (places.TypeParenthesis start kind) = 1
+opening_levels (places.Brace start kind) = 1
+opening_levels (places.ArrowName base start) = 1
+opening_levels (places.ArrowParenthesis base start name) = 1
+opening_levels place = 0
+
+-- the levels that the whole takes at least
+abbrev pub needed_levels : List Frame → Place → ℕ
+needed_levels stack place = open_levels stack + place_levels place + opening_levels place
+
+-- these tokens, behind what was read before them, end an expression
+pub record Ends (levels : ℕ) (more : List Lexeme) (stack : List Frame) (place : Place) (at : ℕ) : Type 0 where
+  pub tree : Expr
+  pub ends : run levels more stack place at ≡ Tree tree (at + length more)

@@ -1,0 +1,122 @@
+use mof_metamodel::{Seq, Span};
+use qv_syntax::{Expr, Kind, Link, Name, Operator, Path, Step, TypeTree};
+
+/// An expression and where it stands.
+#[derive(Debug, Drop)]
+pub(crate) struct Part {
+    pub(crate) tree: Expr,
+    pub(crate) span: Span,
+}
+
+/// A part that binds tightest, and what is called on it so far.
+#[derive(Debug, Drop)]
+pub(crate) struct Base {
+    pub(crate) of: Expr,
+    pub(crate) steps: Seq<Step>,
+    pub(crate) span: Span,
+}
+
+/// What stands before the name of a call, with the start of its sign.
+#[derive(Debug, Drop)]
+pub(crate) enum Before {
+    Nothing,
+    Dot { base: Base, start: usize },
+    Arrow { base: Base, start: usize },
+}
+
+/// A call up to its `(`.
+#[derive(Debug, Drop)]
+pub(crate) struct Called {
+    pub(crate) before: Before,
+    pub(crate) name: Name,
+}
+
+/// An iterator up to its variable.
+#[derive(Debug, Drop)]
+pub(crate) struct Iterated {
+    pub(crate) base: Base,
+    pub(crate) start: usize,
+    pub(crate) name: Name,
+    pub(crate) variable: Name,
+}
+
+/// A construct that is open, with what has been read of it.
+#[derive(Debug, Drop)]
+pub(crate) enum Frame {
+    /// `let name :`, and a type is read.
+    LetType {
+        start: usize,
+        name: Name,
+    },
+    /// `let name : type =`, and the value is read.
+    Let {
+        start: usize,
+        name: Name,
+        ty: TypeTree,
+    },
+    /// `let name : type = value in`, and the body is read.
+    In {
+        start: usize,
+        name: Name,
+        ty: TypeTree,
+        value: Expr,
+    },
+    /// `not`
+    Not {
+        start: usize,
+    },
+    /// `-`
+    Negated {
+        start: usize,
+    },
+    /// Parts with operators of one level between them, and behind them one more operator of the level.
+    Row {
+        first: Part,
+        rest: Seq<Link>,
+        operator: Operator,
+    },
+    /// `(`
+    Parens {
+        start: usize,
+    },
+    /// `if`
+    If {
+        start: usize,
+    },
+    /// `if condition then`
+    Then {
+        start: usize,
+        condition: Expr,
+    },
+    /// `if condition then one else`
+    Else {
+        start: usize,
+        condition: Expr,
+        one: Expr,
+    },
+    /// `Set {`, and elements so far, each with a `,`.
+    Elements {
+        start: usize,
+        kind: Kind,
+        elements: Seq<Expr>,
+    },
+    /// `name (`, and arguments so far, each with a `,`.
+    Arguments {
+        called: Called,
+        values: Seq<Expr>,
+    },
+    /// `->name ( variable :`, and a type is read.
+    VariableType {
+        iterated: Iterated,
+    },
+    /// `->name ( variable : type |`, and the body is read.
+    Body {
+        iterated: Iterated,
+        ty: Option<TypeTree>,
+    },
+    /// `Set (` in a type.
+    OfKind {
+        start: usize,
+        kind: Kind,
+    },
+}
