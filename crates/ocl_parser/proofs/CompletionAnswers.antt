@@ -1,5 +1,5 @@
 -- Each answer is exactly what it stands for.
-use Rattle.std.proofs.Common.{◌≡◌, ◌↔◌, ℕ, ◌+◌, ◌<◌, ◌≤◌, inl, inr, Bool, true, false, nat_lt, if◌then◌else◌, List, [], ◌∷◌, ◌++◌, length, take, drop, None, Some, ap, sym, ◌∙◌, refl, subst, arith, append_assoc}
+use Rattle.std.proofs.Common.{◌≡◌, ◌↔◌, ℕ, ◌+◌, ◌<◌, ◌≤◌, inl, inr, Bool, true, false, nat_lt, if◌then◌else◌, List, [], ◌∷◌, ◌++◌, length, take, drop, Some, ap, sym, ◌∙◌, refl, subst, arith, append_assoc}
 use Rattle.std.proofs.lemmas.Bool.Decides.{nat_tests}
 use Rattle.std.proofs.lemmas.List.{take-append-drop}
 use Rattle.std.proofs.lemmas.Option.{slice_get_past}
@@ -14,7 +14,6 @@ use Rattle.ocl_parser.specs.Beginnings.{BeginsWithin, Begins, IsLongest, IsShall
 use Rattle.ocl_parser.specs.declared.symbol.Symbol.TheVariants as symbols
 use Rattle.ocl_parser.specs.declared.frame.Frame.{Frame}
 use Rattle.ocl_parser.specs.declared.place.Place.{Place}
-use Rattle.ocl_parser.specs.declared.place.Place.TheVariants as places
 use Rattle.ocl_parser.specs.declared.place.Outcome.{Outcome}
 use Rattle.ocl_parser.specs.declared.place.Outcome.TheVariants as outcomes
 use Rattle.ocl_parser.proofs.TokenLaws.{stands_none}

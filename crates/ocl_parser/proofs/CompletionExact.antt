@@ -1,16 +1,15 @@
 -- What an answer says of the tokens: which of them begin an expression, and which one opens a level past the last.
-use Rattle.std.proofs.Common.{◌≡◌, ℕ, suc, ◌+◌, ◌-◌, ◌<◌, ◌≤◌, ◌⊎◌, inl, inr, Bool, true, false, nat_lt, nat_le, if◌then◌else◌, List, [], ◌∷◌, ◌++◌, length, take, drop, get_or, slice_get, Option, None, Some, ap, sym, ◌∙◌, refl, subst, arith, length-append, length-drop, append_assoc}
+use Rattle.std.proofs.Common.{◌≡◌, ℕ, ◌+◌, ◌<◌, ◌≤◌, ◌⊎◌, inl, inr, Bool, true, false, nat_lt, if◌then◌else◌, List, [], ◌∷◌, ◌++◌, length, take, drop, get_or, slice_get, None, Some, ap, sym, ◌∙◌, refl, subst, arith, length-append, length-drop, append_assoc}
 use Rattle.std.proofs.lemmas.Bool.Decides.{nat_tests}
-use Rattle.std.proofs.lemmas.List.{drop-append-le, length-take-le, take_more, drop_all, drop_more, drop-drop, drop-take, append-nil, take-append-le, take-append-drop}
+use Rattle.std.proofs.lemmas.List.{drop-append-le, length-take-le, take_more, drop_all, drop_more, drop-drop, drop-take, take-append-le, take-append-drop}
 use Rattle.std.proofs.lemmas.Option.{slice_get-get_or}
 use Rattle.ql_lex.specs.Lexed.{Lexeme}
 use Rattle.qv_syntax.specs.declared.expr.Expr.{Expr}
-use Rattle.ocl_parser.specs.Pieces.{stands}
 use Rattle.ocl_parser.specs.Grammar.{spelled}
 use Rattle.ocl_parser.specs.Symbols.{symbol_of}
 use Rattle.ocl_parser.specs.Moves.{Move, move, open_levels, place_levels}
-use Rattle.ocl_parser.specs.Runs.{Answer, Tree, Stuck, Deep, run, go_on, ended_by, nowhere, answer}
-use Rattle.ocl_parser.specs.Beginnings.{BeginsWithin, Begins, IsLongest, IsShallow, IsTree, IsStuck, IsDeep, opens}
+use Rattle.ocl_parser.specs.Runs.{Answer, Tree, Stuck, Deep, run, ended_by, nowhere, answer}
+use Rattle.ocl_parser.specs.Beginnings.{BeginsWithin, Begins, IsLongest, IsShallow, IsTree, IsDeep, opens}
 use Rattle.ocl_parser.specs.Completion.{Reading, Reaches, reads, completion, opening_levels}
 use Rattle.ocl_parser.specs.declared.symbol.Symbol.TheVariants as symbols
 use Rattle.ocl_parser.specs.declared.frame.Frame.{Frame}

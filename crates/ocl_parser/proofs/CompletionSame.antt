@@ -1,24 +1,22 @@
 -- Where an expression ends it is the same, whatever symbol follows.
-use Rattle.std.proofs.Common.{◌≡◌, ℕ, ◌+◌, ◌++◌, ◌==◌, nat_lt, Bool, true, false, if◌then◌else◌, List, [], ◌∷◌, length, refl}
+use Rattle.std.proofs.Common.{◌≡◌, ℕ, ◌+◌, ◌++◌, ◌==◌, nat_lt, Bool, true, false, if◌then◌else◌, List, [], ◌∷◌, length}
 use Rattle.mof_metamodel.specs.declared.span.Span.{Span}
 use Rattle.qv_syntax.specs.declared.name.Name.{Name}
 use Rattle.qv_syntax.specs.declared.name.Path.{Path}
 use Rattle.qv_syntax.specs.declared.operator.Operator.{Operator}
-use Rattle.qv_syntax.specs.declared.type_tree.TypeTree.{TypeTree}
 use Rattle.qv_syntax.specs.declared.type_tree.TypeTree.TheVariants as types
 use Rattle.qv_syntax.specs.declared.expr.Expr.{Expr}
 use Rattle.qv_syntax.specs.declared.expr.Expr.TheVariants as exprs
 use Rattle.qv_syntax.specs.declared.expr.Step.TheVariants as steps
 use Rattle.qv_syntax.specs.Operators.{level_of}
 use Rattle.ocl_parser.specs.Grammar.{takes_class}
-use Rattle.ocl_parser.specs.Moves.{Move, Settled, move, to, refused, base_of, part_of, with_step, path_of, settled, operator_on, close_by, behind, operand, after, arguments, call_of, link, after_path, path_by, on_path, dotted, arrow_call, arrow_first, arrow_second, class_path, type_end}
+use Rattle.ocl_parser.specs.Moves.{Move, Settled, move, to, base_of, part_of, with_step, settled, operator_on, close_by, behind, after, arguments, call_of, link, after_path, path_by, dotted, arrow_first, arrow_second, type_end}
 use Rattle.ocl_parser.specs.declared.symbol.Symbol.{Symbol}
 use Rattle.ocl_parser.specs.declared.symbol.Symbol.TheVariants as symbols
 use Rattle.ocl_parser.specs.declared.frame.Part.{Part}
 use Rattle.ocl_parser.specs.declared.frame.Base.{Base}
 use Rattle.ocl_parser.specs.declared.frame.Before.TheVariants as before
 use Rattle.ocl_parser.specs.declared.frame.Called.{Called}
-use Rattle.ocl_parser.specs.declared.frame.Iterated.{Iterated}
 use Rattle.ocl_parser.specs.declared.frame.Frame.{Frame}
 use Rattle.ocl_parser.specs.declared.frame.Frame.TheVariants as frames
 use Rattle.ocl_parser.specs.declared.place.Place.{Place}

@@ -1,5 +1,5 @@
 -- Laws about decimal digits.
-use Rattle.std.proofs.Common.{◌≡◌, ℕ, ◌+◌, ◌-◌, ◌*◌, ◌<◌, ◌≤◌, Bool, true, ◌&&◌, nat_le, List, length, drop, get_or, Some, pos, ap, sym, ◌∙◌, refl, arith}
+use Rattle.std.proofs.Common.{◌≡◌, ℕ, ◌+◌, ◌-◌, ◌*◌, ◌<◌, ◌≤◌, Bool, true, ◌&&◌, false, nat_le, nat_lt, if◌then◌else◌, List, length, drop, get_or, Some, None, pos, ap, sym, ◌∙◌, refl, arith}
 use Rattle.std.specs.List.{list_all}
 use Rattle.std.specs.Char.{is_ascii_digit}
 use Rattle.std.proofs.lemmas.Bool.Decides.{nat_tests}
@@ -28,3 +28,18 @@ digits-none ds i h = ap (list_all is_ascii_digit) (drop_all i ds h)
 pub value-none : (ds : List ℕ) (i before : ℕ) → length ds ≤ i → decimal before (drop i ds) ≡ before
 unfolding decimal
 value-none ds i before h = ap (decimal before) (drop_all i ds h)
+
+-- what is no Integer
+pub no_digits : (text : List ℕ) → list_all is_ascii_digit text ≡ false → integer_of text ≡ None
+unfolding integer_of
+no_digits text e = rw e refl
+
+pub too_great : (text : List ℕ) → nat_lt greatest (decimal 0 text) ≡ true → integer_of text ≡ None
+unfolding integer_of
+too_great text e =
+    let over : nat_le (decimal 0 text) greatest ≡ false = grind (arith, nat_tests) in
+    rw over (by (list_all is_ascii_digit text))
+  where
+    by : (b : Bool) → (if b && false then Some (pos (decimal 0 text)) else None) ≡ None
+    by true = refl
+    by false = refl

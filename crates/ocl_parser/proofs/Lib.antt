@@ -1,4 +1,12 @@
 pub mod TokenLaws
+pub mod TableLaws
+pub mod StackLaws
+pub mod PartLaws
+pub mod SettleLaws
+pub mod ClosingLaws
+pub mod PathLaws
+pub mod MoveLaws
+pub mod RunLaws
 pub mod DigitLaws
 pub mod PieceLaws
 pub mod TypeLaws
@@ -44,3 +52,4 @@ pub mod Complete
 pub mod CompleteBeginnings
 pub mod LocalPieces
 pub mod Local
+pub mod AnswerLaws

@@ -5,4 +5,5 @@ pub mod Symbols
 pub mod Moves
 pub mod Runs
 pub mod Beginnings
+pub mod Answers
 pub mod Completion

@@ -1,17 +1,17 @@
-use mof_metamodel::{Seq, Span};
+use mof_metamodel::{Boxed, Seq, Span};
 use qv_syntax::{Expr, Kind, Link, Name, Operator, Path, Step, TypeTree};
 
 /// An expression and where it stands.
 #[derive(Debug, Drop)]
 pub(crate) struct Part {
-    pub(crate) tree: Expr,
+    pub(crate) tree: Boxed<Expr>,
     pub(crate) span: Span,
 }
 
 /// A part that binds tightest, and what is called on it so far.
 #[derive(Debug, Drop)]
 pub(crate) struct Base {
-    pub(crate) of: Expr,
+    pub(crate) of: Boxed<Expr>,
     pub(crate) steps: Seq<Step>,
     pub(crate) span: Span,
 }
@@ -59,7 +59,7 @@ pub(crate) enum Frame {
         start: usize,
         name: Name,
         ty: TypeTree,
-        value: Expr,
+        value: Boxed<Expr>,
     },
     /// `not`
     Not {
@@ -86,13 +86,13 @@ pub(crate) enum Frame {
     /// `if condition then`
     Then {
         start: usize,
-        condition: Expr,
+        condition: Boxed<Expr>,
     },
     /// `if condition then one else`
     Else {
         start: usize,
-        condition: Expr,
-        one: Expr,
+        condition: Boxed<Expr>,
+        one: Boxed<Expr>,
     },
     /// `Set {`, and elements so far, each with a `,`.
     Elements {

@@ -1,20 +1,35 @@
 //! The expressions of scripts, from tokens to trees (OCL 2.4, chapter 9). `specs/Grammar.antt` says which tokens spell
-//! which tree, one clause for each form.
+//! which tree, one clause for each form, and `specs/Beginnings.antt` where an expression ends and where faults stand.
+//! `specs/Moves.antt` says how they are read, symbol by symbol, with the open constructs on a stack, and `specs/Runs.antt`
+//! what the reading answers. That this is the same are the laws of the functions that do nothing.
 #![tactic(auto)]
 
-mod complete_laws;
+mod answer_laws;
+mod closing;
 mod completion_laws;
 mod error;
 mod frame;
-mod laws;
 mod local_laws;
 mod look;
+mod moves;
 mod names;
+mod operands;
+mod parsing;
+mod parts;
+mod paths;
 mod place;
+mod settling;
+mod stack;
+mod steps;
 mod symbol;
+mod terminals;
+#[cfg(test)]
+mod tests;
 mod texts;
+mod types;
 
-pub use complete_laws::{beginnings_are_read, expressions_are_read, one_expression};
+pub use answer_laws::answers_tell;
 pub use completion_laws::{answers_are_exact, open_constructs_end, readings_begin, readings_end};
 pub use error::ParseError;
 pub use local_laws::{one_tree_between, own_tokens_spell};
+pub use parsing::parse_expr;

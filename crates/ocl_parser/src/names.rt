@@ -6,6 +6,9 @@ use mof_metamodel::{NoMemory, Text};
 use ql_lex::TokenKind;
 use std::alloc::Global;
 
+/// The most names of a path to a class, as `M::C`.
+pub(crate) const CLASS_NAMES: usize = 2;
+
 /// The text of a name, in quotes or not.
 #[tactic(auto, unfolding(crate::specs::Pieces::name_text))]
 pub(crate) fn name_text(

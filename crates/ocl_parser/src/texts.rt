@@ -1,8 +1,6 @@
-ghost use Rattle.std.specs.Prelude.{◌≡◌, ◌≤◌, true, IfOk, OnOk, IfSome};
-ghost use Rattle.std.specs.List.{list_all};
-ghost use Rattle.std.specs.Char.{is_ascii_digit};
+ghost use Rattle.std.specs.Prelude.{◌≡◌, ◌≤◌, true, None, Some, pos, IfOk, OnOk, MatchOption};
 ghost use Rattle.std.specs.Str.{chars};
-ghost use Rattle.ql_lex.specs.Forms.{decimal, greatest};
+ghost use Rattle.ql_lex.specs.Forms.{greatest};
 ghost use Rattle.ocl_parser.specs.Pieces.{integer_of};
 ghost use Rattle.ocl_parser.specs.Unquoting.{meaning as meaning_of, passed, unquoted};
 
@@ -70,7 +68,7 @@ const GREATEST: u64 = 9_223_372_036_854_775_807;
 
 /// The number that digits write, if all are digits and it is an Integer.
 fn decimal_value(digits: &[u8]) -> Option<u64>
-    ensures { IfSome result (λ v. (list_all is_ascii_digit digits.now ≡ true) × (decimal 0 digits.now ≡ v) × (v ≤ greatest)) }
+    ensures { MatchOption result (integer_of digits.now ≡ None) (λ v. (integer_of digits.now ≡ Some (pos v)) × (v ≤ greatest)) }
 {
     let mut value = 0;
     for d in digits {
@@ -86,10 +84,9 @@ fn decimal_value(digits: &[u8]) -> Option<u64>
     Some(value)
 }
 
-/// The Integer that digits write.
-#[tactic(auto, unfolding(crate::specs::Pieces::integer_of), using(crate::proofs::DigitLaws::integer))]
+/// The Integer that digits write, if it is one.
 pub(crate) fn integer_value(digits: &str) -> Option<i64>
-    ensures { IfSome result (λ v. integer_of digits.now ≡ Some v) }
+    ensures { result ≡ integer_of digits.now }
 {
     match decimal_value(digits.as_bytes()) {
         Some(value) => Some(value as i64),

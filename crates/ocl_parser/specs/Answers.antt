@@ -1,0 +1,85 @@
+-- What the parser answers, and its steps, as they are stated of the code.
+use Rattle.std.specs.Prelude.{◌≡◌, ℕ, ◌+◌, ◌==◌, nat_le, Bool, true, false, List, drop, slice_get, Option, Some, None, Result, Ok, Err}
+use Rattle.std.specs.Option.{option_map_or}
+use Rattle.ql_lex.specs.Lexed.{Lexeme, LexedText}
+use Rattle.qv_syntax.specs.declared.expr.Expr.{Expr}
+use Rattle.qv_syntax.specs.declared.expr.Expr.TheVariants as exprs
+use Rattle.qv_syntax.specs.Operators.{level_of}
+use Rattle.ocl_parser.specs.Symbols.{symbol_of}
+use Rattle.ocl_parser.specs.Moves.{Move, Settled, chained, from_to}
+use Rattle.ocl_parser.specs.Beginnings.{IsTree, IsStuck, IsDeep}
+use Rattle.ocl_parser.specs.Runs.{Answer, go_on, run, Tree, Stuck, Deep, nowhere}
+use Rattle.ocl_parser.specs.declared.error.ParseError.{ParseError}
+use Rattle.ocl_parser.specs.declared.error.ParseError.TheVariants as errors
+use Rattle.ocl_parser.specs.declared.symbol.Symbol.TheVariants as symbols
+use Rattle.ocl_parser.specs.declared.symbol.Terminal.{Terminal}
+use Rattle.ocl_parser.specs.declared.frame.Part.{Part}
+use Rattle.ocl_parser.specs.declared.frame.Frame.{Frame}
+use Rattle.ocl_parser.specs.declared.frame.Frame.TheVariants as frames
+use Rattle.ocl_parser.specs.declared.place.Place.{Place}
+use Rattle.ocl_parser.specs.declared.place.Outcome.{Outcome}
+use Rattle.ocl_parser.specs.declared.place.Outcome.TheVariants as outcomes
+
+-- the stack and the outcome that a step left
+abbrev pub made : List Frame → Outcome → Move
+made stack outcome = record { stack = stack; outcome = outcome }
+
+-- the stack and the part that are left
+abbrev pub left : List Frame → Part → Settled
+left stack part = record { stack = stack; part = part }
+
+-- the symbol that a token is, and where it stands; nothing stands behind the last one
+abbrev pub terminal_of : Option Lexeme → Terminal
+terminal_of (Some l) = record { symbol = symbol_of l; span = l.token.span }
+terminal_of None = record { symbol = symbols.Other; span = nowhere }
+
+-- whether a construct ends before an operator of the level below this one
+abbrev pub ends : ℕ → Frame → Bool
+ends level (frames.Not start) = true
+ends level (frames.Negated start) = true
+ends level (frames.Row first rest operator) = nat_le level (level_of operator)
+ends level (frames.In start name ty value) = level == 0
+ends level frame = false
+
+-- the construct with its last part
+abbrev pub wrapped : Frame → Part → Part
+wrapped (frames.Not start) part = record { tree = exprs.Not part.tree (from_to start part.span.end); span = from_to start part.span.end }
+wrapped (frames.Negated start) part = record { tree = exprs.Negated part.tree (from_to start part.span.end); span = from_to start part.span.end }
+wrapped (frames.Row first rest operator) part = chained first rest operator part
+wrapped (frames.In start name ty value) part = record { tree = exprs.Let name ty value part.tree (from_to start part.span.end); span = from_to start part.span.end }
+wrapped frame part = part
+
+-- where the token of this number begins, or the text ends
+abbrev pub place_of : LexedText → ℕ → ℕ
+place_of text at = option_map_or (λ l. l.token.span.start) (slice_get text.lexemes at) text.end
+
+abbrev pub result_of : LexedText → Answer → Result (Expr × ℕ) ParseError
+result_of text (Tree tree end) = Ok (tree, end)
+result_of text (Stuck at) = Err (errors.Parse (place_of text at))
+result_of text (Deep at) = Err (errors.Limit (place_of text at))
+
+-- what was answered is this, unless memory could not be had
+abbrev pub Answers : LexedText → Answer → Result (Expr × ℕ) ParseError → Type 0
+Answers text expected (Err errors.NoMemory) = Unit {0}
+Answers text expected result = result_of text expected ≡ result
+
+-- the answer by what the token of this number made
+abbrev pub step_answer : ℕ → List Lexeme → ℕ → Move → Answer
+step_answer levels behind at m = elim m.outcome [
+  | outcomes.Read next ↦ go_on levels m.stack next at (run levels behind m.stack next (at + 1))
+  | outcomes.Whole tree ↦ Tree tree at
+  | outcomes.Refused ↦ Stuck at
+]
+
+-- the token before this number was read, and what stands from there on has the answer, or this is the answer
+abbrev pub Passed : LexedText → ℕ → List Frame → Place → Answer → Option (Result (Expr × ℕ) ParseError) → Type 0
+Passed text at stack place expected None = run 128 (drop at text.lexemes) stack place at ≡ expected
+Passed text at stack place expected (Some result) = Answers text expected result
+
+-- What is answered is what stands: the longest list of tokens with which an expression begins is one, or is none, or nests
+-- too deep; unless memory could not be had.
+abbrev pub Tells : LexedText → ℕ → ℕ → Result (Expr × ℕ) ParseError → Type 0
+Tells text from levels (Ok found) = IsTree text.lexemes from levels found.0 found.1
+Tells text from levels (Err (errors.Parse at)) = (k : ℕ) × IsStuck text.lexemes from levels k × (at ≡ place_of text k)
+Tells text from levels (Err (errors.Limit at)) = (k : ℕ) × IsDeep text.lexemes from levels k × (at ≡ place_of text k)
+Tells text from levels (Err errors.NoMemory) = Unit {0}

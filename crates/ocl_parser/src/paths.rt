@@ -1,0 +1,251 @@
+ghost use Rattle.std.specs.Prelude.{◌≡◌, [], ◌∷◌, List, if◌then◌else◌, IfOk};
+ghost use Rattle.ocl_parser.specs.Grammar.{takes_class as class_taken};
+ghost use Rattle.ocl_parser.specs.Moves.{after_path as after_path_move, arguments as arguments_move, arrow_first as first_move, arrow_second as second_move, class_path as class_move, dotted as dotted_move, on_path as path_move, operand as operand_move, refused};
+ghost use Rattle.ocl_parser.specs.Answers.{made};
+ghost use Rattle.ocl_parser.specs.declared.frame.Frame.{Frame as AnyFrame};
+ghost use Rattle.ocl_parser.specs.declared.frame.Frame.TheVariants as frames;
+ghost use Rattle.ocl_parser.specs.declared.symbol.Symbol.TheVariants as symbols;
+
+use crate::closing::after;
+use crate::frame::{Base, Before, Called, Frame, Iterated};
+use crate::names::CLASS_NAMES;
+use crate::operands::operand;
+use crate::parts::{base_of, behind_call, only_name, path_of, with_step};
+use crate::place::{Outcome, Place};
+use crate::stack::Stack;
+use crate::steps::{open, open_type};
+use crate::symbol::Symbol;
+use mof_metamodel::{NoMemory, Seq, Span, Text};
+use qv_syntax::{Args, Expr, Name, Path, Step};
+use std::alloc::Global;
+
+/// The greatest number of names of a variable, a class or a literal.
+const PATH_NAMES: usize = 3;
+
+/// Whether the argument of what is called so is a class.
+#[tactic(auto, unfolding(crate::specs::Grammar::takes_class))]
+fn takes_class(name: &Text) -> bool
+    ensures { result ≡ class_taken name.now }
+{
+    let text = name.as_str();
+    text == "oclIsKindOf" || text == "oclIsTypeOf" || text == "oclAsType"
+}
+
+/// The `(` of a call.
+fn arguments(alloc: Global, stack: &mut Stack, called: Called) -> Result<Outcome, NoMemory>
+    ensures { IfOk result (λ o. made stack.new o ≡ arguments_move stack.old called) }
+{
+    if takes_class(&called.name.text) {
+        Ok(Outcome::Read(Place::ClassName { called }))
+    } else {
+        let values = Seq::new(alloc);
+        open(stack, Frame::Arguments { called, values })
+    }
+}
+
+/// A symbol behind a whole path.
+fn after_path(
+    alloc: Global,
+    stack: &mut Stack,
+    path: Path,
+    symbol: Symbol,
+    span: Span,
+) -> Result<Outcome, NoMemory>
+    ensures { IfOk result (λ o. made stack.new o ≡ after_path_move stack.old path symbol span) }
+{
+    let place = path.span;
+    let base = base_of(alloc, Expr::Named { path }, place)?;
+    after(alloc, stack, base, symbol, span)
+}
+
+/// `(` behind a path: one name is a call.
+#[tactic(auto, using(crate::proofs::PathLaws::more_names))]
+fn call_path(alloc: Global, stack: &mut Stack, path: Path, span: Span) -> Result<Outcome, NoMemory>
+    ensures { IfOk result (λ o. made stack.new o ≡ path_move stack.old path symbols.OpenParenthesis span) }
+{
+    let place = path.span;
+    match only_name(path.names) {
+        Ok(name) => arguments(
+            alloc,
+            stack,
+            Called {
+                before: Before::Nothing,
+                name,
+            },
+        ),
+        Err(names) => {
+            let path = Path { names, span: place };
+            after_path(alloc, stack, path, Symbol::OpenParenthesis, span)
+        }
+    }
+}
+
+/// A symbol behind a name of a path.
+#[tactic(auto, using(crate::proofs::PathLaws::next_name, crate::proofs::PathLaws::path_ends))]
+pub(crate) fn on_path(
+    alloc: Global,
+    stack: &mut Stack,
+    path: Path,
+    symbol: Symbol,
+    span: Span,
+) -> Result<Outcome, NoMemory>
+    ensures { IfOk result (λ o. made stack.new o ≡ path_move stack.old path symbol span) }
+{
+    match symbol {
+        Symbol::OpenParenthesis => call_path(alloc, stack, path, span),
+        Symbol::DoubleColon => {
+            if path.names.len() < PATH_NAMES {
+                Ok(Outcome::Read(Place::PathName { path }))
+            } else {
+                after_path(alloc, stack, path, Symbol::DoubleColon, span)
+            }
+        }
+        other => after_path(alloc, stack, path, other, span),
+    }
+}
+
+/// A symbol behind `.name`.
+pub(crate) fn dotted(
+    alloc: Global,
+    stack: &mut Stack,
+    base: Base,
+    start: usize,
+    name: Name,
+    symbol: Symbol,
+    span: Span,
+) -> Result<Outcome, NoMemory>
+    ensures { IfOk result (λ o. made stack.new o ≡ dotted_move stack.old base start name symbol span) }
+{
+    match symbol {
+        Symbol::OpenParenthesis => {
+            let before = Before::Dot { base, start };
+            arguments(alloc, stack, Called { before, name })
+        }
+        other => {
+            let end = name.span.end;
+            let base = with_step(base, Step::Property { name }, end)?;
+            after(alloc, stack, base, other, span)
+        }
+    }
+}
+
+/// A symbol behind a name of the class of a call.
+pub(crate) fn class_path(
+    alloc: Global,
+    called: Called,
+    path: Path,
+    symbol: Symbol,
+    span: Span,
+) -> Result<Outcome, NoMemory>
+    ensures { IfOk result (λ o. (stack : List AnyFrame) → made stack o ≡ class_move stack called path symbol span) }
+{
+    match symbol {
+        Symbol::DoubleColon => {
+            if path.names.len() < CLASS_NAMES {
+                Ok(Outcome::Read(Place::ClassNext { called, path }))
+            } else {
+                Ok(Outcome::Refused)
+            }
+        }
+        Symbol::CloseParenthesis => behind_call(alloc, called, Args::Class { path }, span.end),
+        _ => Ok(Outcome::Refused),
+    }
+}
+
+/// A symbol behind `->name(`: a name may be a variable.
+pub(crate) fn arrow_first(
+    alloc: Global,
+    stack: &mut Stack,
+    base: Base,
+    start: usize,
+    name: Name,
+    symbol: Symbol,
+    span: Span,
+) -> Result<Outcome, NoMemory>
+    ensures { IfOk result (λ o. made stack.new o ≡ first_move stack.old base start name symbol span) }
+{
+    match symbol {
+        Symbol::Name(variable) => {
+            let iterated = Iterated {
+                base,
+                start,
+                name,
+                variable,
+            };
+            Ok(Outcome::Read(Place::ArrowSecond { iterated }))
+        }
+        other => {
+            let called = Called {
+                before: Before::Arrow { base, start },
+                name,
+            };
+            first_argument(alloc, stack, called, other, span)
+        }
+    }
+}
+
+/// The first symbol of arguments.
+fn first_argument(
+    alloc: Global,
+    stack: &mut Stack,
+    called: Called,
+    symbol: Symbol,
+    span: Span,
+) -> Result<Outcome, NoMemory>
+    ensures { IfOk result (λ o. made stack.new o ≡ (if class_taken called.name.text then refused stack.old else operand_move (frames.Arguments called [] ∷ stack.old) symbol span)) }
+{
+    if takes_class(&called.name.text) {
+        Ok(Outcome::Refused)
+    } else {
+        let values = Seq::new(alloc);
+        stack.push(Frame::Arguments { called, values })?;
+        operand(alloc, stack, symbol, span)
+    }
+}
+
+/// A symbol behind the first name of arguments.
+fn first_path(
+    alloc: Global,
+    stack: &mut Stack,
+    called: Called,
+    path: Path,
+    symbol: Symbol,
+    span: Span,
+) -> Result<Outcome, NoMemory>
+    ensures { IfOk result (λ o. made stack.new o ≡ (if class_taken called.name.text then class_move stack.old called path symbol span else path_move (frames.Arguments called [] ∷ stack.old) path symbol span)) }
+{
+    if takes_class(&called.name.text) {
+        class_path(alloc, called, path, symbol, span)
+    } else {
+        let values = Seq::new(alloc);
+        stack.push(Frame::Arguments { called, values })?;
+        on_path(alloc, stack, path, symbol, span)
+    }
+}
+
+/// A symbol behind `->name(variable`: it is one where `:` or `|` follows.
+pub(crate) fn arrow_second(
+    alloc: Global,
+    stack: &mut Stack,
+    iterated: Iterated,
+    symbol: Symbol,
+    span: Span,
+) -> Result<Outcome, NoMemory>
+    ensures { IfOk result (λ o. made stack.new o ≡ second_move stack.old iterated symbol span) }
+{
+    match symbol {
+        Symbol::Colon => open_type(stack, Frame::VariableType { iterated }),
+        Symbol::Bar => open(stack, Frame::Body { iterated, ty: None }),
+        other => {
+            let Iterated {
+                base,
+                start,
+                name,
+                variable,
+            } = iterated;
+            let before = Before::Arrow { base, start };
+            let path = path_of(alloc, variable)?;
+            first_path(alloc, stack, Called { before, name }, path, other, span)
+        }
+    }
+}
