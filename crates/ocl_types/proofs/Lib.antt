@@ -2,3 +2,10 @@ pub mod FindLaws
 pub mod NamingLaws
 pub mod LiteralLaws
 pub mod OperationLaws
+pub mod ScopeLaws
+pub mod AgreementLaws
+pub mod ReachLaws
+pub mod ModelLaws
+pub mod IterationLaws
+pub mod TypeLaws
+pub mod UpperLaws

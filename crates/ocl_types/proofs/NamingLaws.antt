@@ -1,8 +1,12 @@
 -- The characters of words, and texts put together.
-use Rattle.std.proofs.Common.{◌≡◌, ℕ, ◌+◌, ◌<◌, List, [], ◌∷◌, ◌++◌, codes, length, drop, get_or, refl, sym, ◌∙◌, ap, append_assoc, Result, Ok, Err, arith}
+use Rattle.std.proofs.Common.{◌≡◌, ℕ, ◌+◌, ◌<◌, ◌≤◌, List, [], ◌∷◌, ◌++◌, codes, length, drop, get_or, refl, sym, ◌∙◌, ap, append_assoc, Result, Ok, Err, arith}
 use Rattle.std.specs.Prelude.{IfOk}
 use Rattle.std.specs.Str.{chars}
-use Rattle.std.proofs.lemmas.List.{drop_more}
+use Rattle.std.proofs.lemmas.List.{drop_more, get_or_past}
+use Rattle.mof_metamodel.specs.declared.desc.ClassDesc.{ClassDesc}
+use Rattle.mof_metamodel.specs.declared.desc.EnumDesc.{EnumDesc}
+use Rattle.mof_metamodel.specs.Metamodels.{class_count, enum_count, class_at, enum_at, no_class, no_enum}
+use Rattle.ocl_types.specs.Environments.{meta_at, no_meta}
 use Rattle.qv_syntax.specs.declared.name.Name.{Name}
 use Rattle.mof_metamodel.specs.declared.desc.MetaDesc.{MetaDesc}
 use Rattle.qv_syntax.specs.declared.ty.Ty.{fold-roll-Ty}
@@ -41,6 +45,10 @@ sequence_characters = refl
 pub ordered_set_characters : chars (codes "OrderedSet") ≡ codes "OrderedSet"
 unfolding chars
 ordered_set_characters = refl
+
+pub if_characters : chars (codes "if") ≡ codes "if"
+unfolding chars
+if_characters = refl
 
 pub colons_characters : chars (codes "::") ≡ codes "::"
 unfolding chars
@@ -83,3 +91,16 @@ no_names (n ∷ ns) few = absurd (omega arith)
 pub colons_more : (names : List Name) (i : ℕ) (n : Name) → i < length names
     → behind_colons (texts_of (drop i names)) ≡ (codes "::" ++ (get_or names i n).text) ++ behind_colons (texts_of (drop (i + 1) names))
 colons_more names i n within = ap (λ xs. behind_colons (texts_of xs)) (drop_more names i n within)
+
+-- a class or an enumeration that isn't there has no name
+pub no_class_name : (desc : MetaDesc) (c : ℕ) → class_count desc ≤ c → [] ≡ (class_at desc c).name
+no_class_name desc c past = sym (ap (λ (k : ClassDesc). k.name) (get_or_past desc.classes c no_class past))
+
+pub no_enum_name : (desc : MetaDesc) (e : ℕ) → enum_count desc ≤ e → [] ≡ (enum_at desc e).name
+no_enum_name desc e past = sym (ap (λ (k : EnumDesc). k.name) (get_or_past desc.enums e no_enum past))
+
+pub no_meta_class_name : (metas : List MetaDesc) (m c : ℕ) → length metas ≤ m → [] ≡ (class_at (meta_at metas m) c).name
+no_meta_class_name metas m c past = sym (ap (λ desc. (class_at desc c).name) (get_or_past metas m no_meta past) ∙ ap (λ (k : ClassDesc). k.name) (get_or_past [] c no_class (omega arith)))
+
+pub no_meta_enum_name : (metas : List MetaDesc) (m e : ℕ) → length metas ≤ m → [] ≡ (enum_at (meta_at metas m) e).name
+no_meta_enum_name metas m e past = sym (ap (λ desc. (enum_at desc e).name) (get_or_past metas m no_meta past) ∙ ap (λ (k : EnumDesc). k.name) (get_or_past [] e no_enum (omega arith)))

@@ -7,3 +7,12 @@ pub mod Conformance
 pub mod Navigation
 pub mod Operations
 pub mod Signatures
+pub mod Outcomes
+pub mod Agreement
+pub mod Parts
+pub mod Scopes
+pub mod TypingScopes
+pub mod TypingOperators
+pub mod TypingSteps
+pub mod TypingCollections
+pub mod Typing

@@ -1,4 +1,4 @@
-ghost use Rattle.std.specs.Prelude.{◌≡◌, ◌<◌, [], length, false, IfSome, IsTrue, None, Some, OnOk, OnErr};
+ghost use Rattle.std.specs.Prelude.{◌≡◌, ◌<◌, ◌≤◌, [], length, false, IfSome, IsTrue, None, Some, OnOk, OnErr};
 ghost use Rattle.std.specs.Option.{option_map};
 
 use crate::classifier::{Classifier, Wanted};
@@ -44,7 +44,7 @@ impl<'a> Model for Env<'a> {
 impl<'a> Env<'a> {
     ghost use Rattle.ocl_types.specs.Naming.{names_of};
     ghost use Rattle.ocl_types.specs.Classifiers.{named_type as type_named, named_class as class_named, named_literal as literal_named};
-    ghost use Rattle.ocl_types.specs.Environments.{nothing_in_reach, have_metas, is_type as typed, is_object_type as object_typed, are_types as all_typed, is_variable, is_bound as bound, is_query_bound as query_bound, with_variable, with_query, number_of, value_of};
+    ghost use Rattle.ocl_types.specs.Environments.{nothing_in_reach, have_metas, is_type as typed, is_object_type as object_typed, are_types as all_typed, is_variable, is_bound as bound, is_query_bound as query_bound, with_variable, with_query, number_of, value_of, most};
 
     /// Nothing in reach, and no metamodels.
     pub fn new(alloc: Global) -> Env<'a>
@@ -100,6 +100,28 @@ impl<'a> Env<'a> {
     {
         let (number, variable) = self.variables.find(name)?;
         Some((number as u32, variable))
+    }
+
+    /// How many variables are bound.
+    pub fn variable_count(&self) -> u32
+        ensures count { result ≡ length self.now.variables }
+        ensures few { length self.now.variables ≤ most }
+    {
+        self.variables.len() as u32
+    }
+
+    /// The metamodels in their order.
+    pub(crate) fn metas(&self) -> &[MetaModel]
+        ensures { result.now ≡ self.now.metas }
+    {
+        self.metas
+    }
+
+    /// The models in their order.
+    pub(crate) fn models(&self) -> &[ModelSlot]
+        ensures { result.now ≡ self.now.models }
+    {
+        self.models.as_slice()
     }
 
     /// The number of a query, and its types.

@@ -2,10 +2,12 @@
 //! give to the expressions that use them.
 #![tactic(auto)]
 
+mod agreement;
 mod classifier;
 mod conformance;
 mod env;
 mod fault;
+mod laws;
 mod literals;
 mod look_up;
 mod metas;
@@ -14,15 +16,26 @@ mod naming;
 mod navigation;
 mod of_types;
 mod operation_names;
+mod outcomes;
+mod part;
+mod parts;
+mod scope;
 mod signatures;
 #[cfg(test)]
 mod tests;
+mod trees;
+mod typing_collections;
+mod typing_literals;
+mod typing_operators;
+mod typing_scopes;
+mod typing_steps;
 mod variable;
 mod written;
 
 pub use classifier::Classifier;
 pub use env::Env;
 pub use fault::{TypeError, TypeFault};
+pub use laws::{conformance_is_told, types_agree_on_a_top, types_are_told_apart};
 pub use metas::Metas;
 pub use naming::{path_text, type_text};
 pub use navigation::navigated;

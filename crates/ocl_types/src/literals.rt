@@ -11,7 +11,7 @@ use mof_metamodel::{EnumId, MetaModel, Text};
 use qv_syntax::Name;
 
 /// Whether two names have the same characters.
-fn is_named(a: &Text, b: &Text) -> bool
+pub(crate) fn is_named(a: &Text, b: &Text) -> bool
     ensures { result ≡ same_name a.now b.now }
 {
     *a == *b

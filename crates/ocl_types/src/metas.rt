@@ -4,7 +4,8 @@ ghost use Rattle.mof_metamodel.specs.Metamodels.{prop_count, prop_at, type_of};
 ghost use Rattle.ocl_types.specs.Conformance.{TypeConforms, IsUpper, AreUnrelated};
 ghost use Rattle.ocl_types.specs.Navigation.{value_type as type_of_value, values_of};
 
-use crate::conformance::{type_conforms, upper_type};
+use crate::agreement::fits;
+use crate::conformance::upper_type;
 use crate::navigation::{prop_type, values};
 use crate::of_types::is_over;
 use mof_metamodel::{MetaModel, NoMemory, PropId, Seq};
@@ -85,7 +86,7 @@ impl Metas {
     pub fn conforms(&self, a: &Ty, b: &Ty) -> bool
         ensures { IsTrue result ↔ TypeConforms self.now a.now b.now }
     {
-        type_conforms(self.metas.as_slice(), a, b)
+        fits(self.metas.as_slice(), a, b)
     }
 
     /// That of two types to which both conform, if there is one.

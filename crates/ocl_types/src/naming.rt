@@ -1,9 +1,10 @@
-ghost use Rattle.std.specs.Prelude.{◌≡◌, ◌++◌, chars, codes, IsTrue, IfOk, OnOk};
-ghost use Rattle.ocl_types.specs.Environments.{is_over};
+ghost use Rattle.std.specs.Prelude.{◌≡◌, ◌++◌, chars, codes, IfOk, OnOk};
+ghost use Rattle.mof_metamodel.specs.Metamodels.{class_at, enum_at};
+ghost use Rattle.ocl_types.specs.Environments.{meta_at};
 ghost use Rattle.ocl_types.specs.Naming.{kind_text, type_text as type_text_of, behind_colons, texts_of, path_text as path_text_of};
 
 use crate::metas::Metas;
-use mof_metamodel::{MetaModel, NoMemory, Text};
+use mof_metamodel::{ClassId, EnumId, MetaModel, NoMemory, Text};
 use qv_syntax::{Kind, Name, Path, Ty};
 use std::alloc::Global;
 
@@ -42,7 +43,7 @@ pub fn path_text(alloc: Global, path: &Path) -> Result<Text, NoMemory>
 
 /// The name of a kind of collection.
 #[tactic(auto, using(crate::proofs::NamingLaws::set_characters, crate::proofs::NamingLaws::bag_characters, crate::proofs::NamingLaws::sequence_characters, crate::proofs::NamingLaws::ordered_set_characters))]
-fn kind_name(kind: Kind) -> &'static str
+pub(crate) fn kind_name(kind: Kind) -> &'static str
     ensures { chars result.now ≡ kind_text kind }
 {
     match kind {
@@ -53,25 +54,70 @@ fn kind_name(kind: Kind) -> &'static str
     }
 }
 
-/// The text of a type: as it is written, classes and enumerations by their names, and `Null` for the type of null.
+/// The text of a type: as it is written, classes and enumerations by their names, and `Null` for the type of null. A
+/// class or an enumeration that isn't there has no name.
 pub fn type_text(alloc: Global, metas: &Metas, ty: &Ty) -> Result<Text, NoMemory>
-    requires { IsTrue (is_over metas.now ty.now) }
     ensures { IfOk result (λ t. t ≡ type_text_of metas.now ty.now) }
 {
     text_of(alloc, metas.as_slice(), ty)
 }
 
+/// The name of a class of a metamodel, if it is there.
+#[tactic(auto, using(crate::proofs::NamingLaws::empty_characters, crate::proofs::NamingLaws::no_class_name))]
+fn class_name(alloc: Global, meta: &MetaModel, c: ClassId) -> Result<Text, NoMemory>
+    ensures { IfOk result (λ t. t ≡ (class_at meta.now c.0).name) }
+{
+    if c.0 >= meta.class_count() {
+        return Text::new(alloc, "");
+    }
+    Text::new(alloc, meta.class_name(c))
+}
+
+/// The name of a class, if its metamodel is there.
+#[tactic(auto, using(crate::proofs::NamingLaws::empty_characters, crate::proofs::NamingLaws::no_meta_class_name))]
+fn class_text(alloc: Global, metas: &[MetaModel], m: u32, c: ClassId) -> Result<Text, NoMemory>
+    ensures { IfOk result (λ t. t ≡ (class_at (meta_at metas.now m) c.0).name) }
+{
+    let m = m as usize;
+    if m >= metas.len() {
+        return Text::new(alloc, "");
+    }
+    class_name(alloc, &metas[m], c)
+}
+
+/// The name of an enumeration of a metamodel, if it is there.
+#[tactic(auto, using(crate::proofs::NamingLaws::empty_characters, crate::proofs::NamingLaws::no_enum_name))]
+fn enum_name(alloc: Global, meta: &MetaModel, e: EnumId) -> Result<Text, NoMemory>
+    ensures { IfOk result (λ t. t ≡ (enum_at meta.now e.0).name) }
+{
+    if e.0 >= meta.enum_count() {
+        return Text::new(alloc, "");
+    }
+    Text::new(alloc, meta.enum_name(e))
+}
+
+/// The name of an enumeration, if its metamodel is there.
+#[tactic(auto, using(crate::proofs::NamingLaws::empty_characters, crate::proofs::NamingLaws::no_meta_enum_name))]
+fn enum_text(alloc: Global, metas: &[MetaModel], m: u32, e: EnumId) -> Result<Text, NoMemory>
+    ensures { IfOk result (λ t. t ≡ (enum_at (meta_at metas.now m) e.0).name) }
+{
+    let m = m as usize;
+    if m >= metas.len() {
+        return Text::new(alloc, "");
+    }
+    enum_name(alloc, &metas[m], e)
+}
+
 /// The same, over a slice of metamodels.
 pub(crate) fn text_of(alloc: Global, metas: &[MetaModel], ty: &Ty) -> Result<Text, NoMemory>
-    requires { IsTrue (is_over metas.now ty.now) }
     ensures { IfOk result (λ t. t ≡ type_text_of metas.now ty.now) }
 {
     match ty {
         Ty::Str => Text::new(alloc, "String"),
         Ty::Int => Text::new(alloc, "Integer"),
         Ty::Bool => Text::new(alloc, "Boolean"),
-        Ty::Enum(m, e) => Text::new(alloc, metas[*m as usize].enum_name(*e)),
-        Ty::Class(m, c) => Text::new(alloc, metas[*m as usize].class_name(*c)),
+        Ty::Enum(m, e) => enum_text(alloc, metas, *m, *e),
+        Ty::Class(m, c) => class_text(alloc, metas, *m, *c),
         Ty::Coll(kind, of) => {
             let inner = text_of(alloc, metas, of.get())?;
             collection_text(alloc, *kind, &inner)

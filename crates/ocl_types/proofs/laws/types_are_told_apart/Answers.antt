@@ -1,0 +1,5 @@
+use Rattle.ocl_types.proofs.TypeLaws.{same_is_one}
+use Rattle.ocl_types.proofs.laws.types_are_told_apart.Goals as goal
+
+pub returns : goal.returns
+returns c = same_is_one

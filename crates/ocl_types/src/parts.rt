@@ -1,0 +1,81 @@
+ghost use Rattle.std.specs.Prelude.{◌≡◌, chars, IfOk};
+ghost use Rattle.ocl_types.specs.Written.{Gives};
+ghost use Rattle.ocl_types.specs.Parts.{tree_of, trees_of as all_trees, with_models as joined_with, one_model as model_alone, uncalled as started, and_called as stepped};
+
+use crate::agreement::joined_models;
+use crate::fault::TypeError;
+use crate::outcomes::model_mix;
+use crate::part::{Called, Part};
+use mof_metamodel::{NoMemory, Seq};
+use qv_syntax::{StepCall, Ty, Typed, TypedStep};
+use std::alloc::Global;
+
+impl Part {
+    /// The tree.
+    pub(crate) fn into_tree(self) -> Typed
+        ensures { result ≡ tree_of self }
+    {
+        Typed {
+            ty: self.ty,
+            node: self.node,
+        }
+    }
+}
+
+/// The trees of parts.
+pub(crate) fn trees_of(alloc: Global, parts: Seq<Part>) -> Result<Seq<Typed>, NoMemory>
+    ensures { IfOk result (λ trees. trees ≡ all_trees parts) }
+{
+    let mut trees = Seq::new(alloc);
+    for part in parts.into_vec() {
+        trees.push(part.into_tree())?;
+    }
+    Ok(trees)
+}
+
+/// The model of objects from these places as well, if there are not two.
+pub(crate) fn with_models(model: Option<u32>, parts: &[Part]) -> Option<Option<u32>>
+    ensures { result ≡ joined_with model parts.now }
+{
+    let mut joined = model;
+    for part in parts {
+        joined = joined_models(joined, part.model)?;
+    }
+    Some(joined)
+}
+
+/// The model, or the fault that there are two.
+pub(crate) fn one_model(
+    alloc: Global,
+    name: &str,
+    joined: Option<Option<u32>>,
+) -> Result<Option<u32>, TypeError>
+    ensures { Gives result (model_alone (chars name.now) joined) }
+{
+    match joined {
+        Some(model) => Ok(model),
+        None => Err(TypeError::Fault(model_mix(alloc, name)?)),
+    }
+}
+
+impl Called {
+    /// What was called on a part, with one more step.
+    pub(crate) fn and_called(
+        self,
+        alloc: Global,
+        call: StepCall,
+        ty: Ty,
+        model: Option<u32>,
+    ) -> Result<Called, NoMemory>
+        ensures { IfOk result (λ c. c ≡ stepped self call ty model) }
+    {
+        let mut steps = self.steps;
+        let reached = ty.duplicate(alloc)?;
+        steps.push(TypedStep { call, ty })?;
+        Ok(Called {
+            steps,
+            ty: reached,
+            model,
+        })
+    }
+}

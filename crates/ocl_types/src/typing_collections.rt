@@ -1,0 +1,387 @@
+ghost use Rattle.std.specs.Prelude.{◌≡◌, false, IfOk, OnOk, Some, is_some};
+ghost use Rattle.ocl_types.specs.Environments.{is_bound};
+ghost use Rattle.ocl_types.specs.Scopes.{in_reach};
+ghost use Rattle.ocl_types.specs.Written.{Gives};
+ghost use Rattle.ocl_types.specs.Agreement.{collection_parts as parts_meant};
+ghost use Rattle.ocl_types.specs.TypingCollections.{kind_of as kind_meant, element_of as element_meant, gathered as gathered_from, argument_count as arguments_of, given_elements as elements_given, given_type as type_given, given_types as types_given, summed as sum_asks, result_model as model_left, operated_on as operated, collection_operation_by, collection_operation_rule as operation_meaning, variable_type as type_of_variable, iterator_variable as variable_of_iterator, iterated_type as iteration_gives, iterated_model as model_iterated, iterated as iteration, condition as asks_condition, iterator_by, iterator_rule as iterator_meaning};
+
+use crate::agreement::{collection_parts, fits, model_for, same_kind, same_type, upper};
+use crate::env::Env;
+use crate::fault::TypeError;
+use crate::operation_names::{collection_operation_named, iterator_named};
+use crate::outcomes::{exactly, unknown_name, wrong_type};
+use crate::part::{Called, Part};
+use crate::parts::{one_model, trees_of, with_models};
+use crate::scope::Scope;
+use crate::signatures::{
+    Argument, argument_of, collected_kind, collection_result, has_condition, is_of_kind,
+};
+use crate::typing_scopes::{declared_type, free_name};
+use crate::typing_steps::counted;
+use crate::variable::Variable;
+use mof_metamodel::{Boxed, MetaModel, NoMemory, Seq, Text};
+use qv_syntax::{CollectionOperation, IteratorKind, Kind, Operation, StepCall, Ty, TypeTree};
+use std::alloc::Global;
+
+/// The kind of a collection; a single value is taken as a Set.
+fn kind_of(ty: &Ty) -> Kind
+    ensures { result ≡ kind_meant ty.now }
+{
+    match collection_parts(ty) {
+        Some((kind, _)) => kind,
+        None => Kind::Set,
+    }
+}
+
+/// The type of the elements.
+pub(crate) fn element_of(alloc: Global, ty: &Ty) -> Result<Ty, NoMemory>
+    ensures { IfOk result (λ t. t ≡ element_meant ty.now) }
+{
+    match collection_parts(ty) {
+        Some((_, inner)) => inner.duplicate(alloc),
+        None => ty.duplicate(alloc),
+    }
+}
+
+/// Whether a type is one of collections.
+fn is_collection(ty: &Ty) -> bool
+    ensures { result ≡ is_some (parts_meant ty.now) }
+{
+    collection_parts(ty).is_some()
+}
+
+/// A collection type.
+fn collection(alloc: Global, kind: Kind, of: &Ty) -> Result<Ty, NoMemory>
+    ensures { IfOk result (λ t. t ≡ Ty.Coll kind of.now) }
+{
+    let of = of.duplicate(alloc)?;
+    Ok(Ty::Coll(kind, Boxed::new(alloc, of)?))
+}
+
+/// The value as a collection.
+fn gathered(alloc: Global, called: Called) -> Result<Called, NoMemory>
+    ensures { IfOk result (λ c. c ≡ gathered_from called) }
+{
+    if is_collection(&called.ty) {
+        return Ok(called);
+    }
+    let ty = collection(alloc, Kind::Set, &called.ty)?;
+    let model = called.model;
+    let call = StepCall::Operation {
+        operation: Operation::AsSingletonSet,
+        args: Seq::new(alloc),
+    };
+    called.and_called(alloc, call, ty, model)
+}
+
+/// How many arguments there are.
+fn argument_count(argument: Argument) -> usize
+    ensures { result ≡ arguments_of argument }
+{
+    match argument {
+        Argument::Nothing => 0,
+        Argument::Element | Argument::Collection | Argument::SameKind | Argument::Index => 1,
+    }
+}
+
+/// The type to which the elements and those of a given collection conform.
+fn given_elements(
+    alloc: Global,
+    metas: &[MetaModel],
+    same: bool,
+    kind: Kind,
+    of: &Ty,
+    ty: &Ty,
+) -> Result<Ty, TypeError>
+    ensures { Gives result (elements_given metas.now same kind of.now ty.now (parts_meant ty.now)) }
+{
+    match collection_parts(ty) {
+        Some((other, inner)) => {
+            if same && !same_kind(kind, other) {
+                let wanted = collection(alloc, kind, of)?;
+                return Err(TypeError::Fault(wrong_type(alloc, metas, &wanted, ty)?));
+            }
+            upper(alloc, metas, of, inner)
+        }
+        None => {
+            let wanted = collection(alloc, kind, of)?;
+            Err(TypeError::Fault(wrong_type(alloc, metas, &wanted, ty)?))
+        }
+    }
+}
+
+/// The type to which the elements of a collection and what is given of this type conform.
+fn given_type(
+    alloc: Global,
+    metas: &[MetaModel],
+    argument: Argument,
+    kind: Kind,
+    of: &Ty,
+    ty: &Ty,
+) -> Result<Ty, TypeError>
+    ensures { Gives result (type_given metas.now argument kind of.now ty.now) }
+{
+    match argument {
+        Argument::Nothing => Ok(of.duplicate(alloc)?),
+        Argument::Element => upper(alloc, metas, of, ty),
+        Argument::Collection => given_elements(alloc, metas, false, kind, of, ty),
+        Argument::SameKind => given_elements(alloc, metas, true, kind, of, ty),
+        Argument::Index => {
+            exactly(alloc, metas, &Ty::Int, ty)?;
+            Ok(of.duplicate(alloc)?)
+        }
+    }
+}
+
+/// The same of a list of arguments, of which the first counts.
+fn given_types(
+    alloc: Global,
+    metas: &[MetaModel],
+    argument: Argument,
+    kind: Kind,
+    of: &Ty,
+    args: &[Part],
+) -> Result<Ty, TypeError>
+    ensures { Gives result (types_given metas.now argument kind of.now args.now) }
+{
+    match args {
+        [] => Ok(of.duplicate(alloc)?),
+        [arg, ..] => given_type(alloc, metas, argument, kind, of, &arg.ty),
+    }
+}
+
+/// `sum` asks for Integers.
+fn summed(
+    alloc: Global,
+    metas: &[MetaModel],
+    operation: CollectionOperation,
+    of: &Ty,
+) -> Result<(), TypeError>
+    ensures { Gives result (sum_asks metas.now operation of.now) }
+{
+    match operation {
+        CollectionOperation::Sum => exactly(alloc, metas, &Ty::Int, of),
+        _ => Ok(()),
+    }
+}
+
+/// The model of the result: `excluding` gives no new objects.
+fn result_model(
+    operation: CollectionOperation,
+    model: Option<u32>,
+    joined: Option<u32>,
+) -> Option<u32>
+    ensures { result ≡ model_left operation model joined }
+{
+    match operation {
+        CollectionOperation::Excluding => model,
+        _ => joined,
+    }
+}
+
+/// The step of an operation on a collection, of the type to which its elements and what is given conform.
+fn operated_on(
+    alloc: Global,
+    called: Called,
+    operation: CollectionOperation,
+    args: Seq<Part>,
+    upper: &Ty,
+    joined: Option<u32>,
+) -> Result<Called, NoMemory>
+    ensures { IfOk result (λ c. c ≡ operated called operation args (kind_meant called.ty) (element_meant called.ty) upper.now joined) }
+{
+    let of = element_of(alloc, &called.ty)?;
+    let ty = collection_result(alloc, operation, kind_of(&called.ty), &of, upper)?;
+    let model = model_for(&ty, result_model(operation, called.model, joined));
+    let args = trees_of(alloc, args)?;
+    let call = StepCall::Collection { operation, args };
+    gathered(alloc, called)?.and_called(alloc, call, ty, model)
+}
+
+/// An operation on a collection.
+fn operate(
+    alloc: Global,
+    metas: &[MetaModel],
+    name: &Text,
+    called: Called,
+    args: Seq<Part>,
+    operation: CollectionOperation,
+) -> Result<Called, TypeError>
+    ensures { Gives result (collection_operation_by metas.now name.now called args (Some operation)) }
+{
+    let kind = kind_of(&called.ty);
+    if !is_of_kind(operation, kind) {
+        return Err(TypeError::Fault(unknown_name(alloc, name.as_str())?));
+    }
+    let argument = argument_of(operation);
+    counted(alloc, name, argument_count(argument), args.as_slice())?;
+    let of = element_of(alloc, &called.ty)?;
+    summed(alloc, metas, operation, &of)?;
+    let upper = given_types(alloc, metas, argument, kind, &of, args.as_slice())?;
+    let joined = one_model(
+        alloc,
+        name.as_str(),
+        with_models(called.model, args.as_slice()),
+    )?;
+    Ok(operated_on(alloc, called, operation, args, &upper, joined)?)
+}
+
+/// `->name(args)`: an operation on the collection.
+#[tactic(auto, unfolding(crate::specs::TypingCollections::collection_operation_rule))]
+pub(crate) fn collection_operation_rule(
+    alloc: Global,
+    metas: &[MetaModel],
+    name: &Text,
+    called: Called,
+    args: Seq<Part>,
+) -> Result<Called, TypeError>
+    ensures { Gives result (operation_meaning metas.now name.now called args) }
+{
+    match collection_operation_named(name.as_str()) {
+        Some(operation) => operate(alloc, metas, name, called, args, operation),
+        None => Err(TypeError::Fault(unknown_name(alloc, name.as_str())?)),
+    }
+}
+
+/// The type of an iterator's variable: that of the elements, or a written one to which this conforms.
+fn variable_type(
+    alloc: Global,
+    env: &Env<'_>,
+    tree: &Option<TypeTree>,
+    of: Ty,
+) -> Result<Ty, TypeError>
+    ensures { Gives result (type_of_variable env.now tree.now of) }
+{
+    match tree {
+        None => Ok(of),
+        Some(tree) => {
+            let ty = declared_type(alloc, env, tree)?;
+            if !fits(env.metas(), &of, &ty) {
+                return Err(TypeError::Fault(wrong_type(alloc, env.metas(), &ty, &of)?));
+            }
+            Ok(ty)
+        }
+    }
+}
+
+/// The same, with the names in reach within an expression.
+fn variable_type_within(
+    alloc: Global,
+    scope: &Scope<'_>,
+    tree: &Option<TypeTree>,
+    of: Ty,
+) -> Result<Ty, TypeError>
+    ensures { Gives result (type_of_variable (in_reach scope.now) tree.now of) }
+{
+    variable_type(alloc, scope.env(), tree, of)
+}
+
+/// The variable of an iterator over what was called so far.
+#[tactic(auto, unfolding(crate::specs::TypingCollections::iterator_variable))]
+pub(crate) fn iterator_variable(
+    alloc: Global,
+    scope: &Scope<'_>,
+    name: &Text,
+    tree: &Option<TypeTree>,
+    called: &Called,
+) -> Result<Variable, TypeError>
+    ensures given { Gives result (variable_of_iterator (in_reach scope.now) name.now tree.now called.now) }
+    ensures unbound { OnOk result (is_bound (in_reach scope.now) name.now ≡ false) }
+{
+    free_name(alloc, scope, name)?;
+    let of = element_of(alloc, &called.ty)?;
+    let ty = variable_type_within(alloc, scope, tree, of)?;
+    Ok(Variable {
+        ty,
+        model: called.model,
+    })
+}
+
+/// The type of an iterator's result, of that of its body.
+fn iterated_type(
+    alloc: Global,
+    iterator: IteratorKind,
+    kind: Kind,
+    of: &Ty,
+    body: &Ty,
+) -> Result<Ty, NoMemory>
+    ensures { IfOk result (λ t. t ≡ iteration_gives iterator kind of.now body.now) }
+{
+    match iterator {
+        IteratorKind::Select | IteratorKind::Reject => collection(alloc, kind, of),
+        IteratorKind::Collect => {
+            let element = element_of(alloc, body)?;
+            collection(alloc, collected_kind(kind), &element)
+        }
+        IteratorKind::Exists | IteratorKind::ForAll | IteratorKind::One | IteratorKind::IsUnique =>
+            Ok(Ty::Bool),
+    }
+}
+
+/// The model of its objects, which are the collection's or the body's.
+fn iterated_model(iterator: IteratorKind, model: Option<u32>, body: Option<u32>) -> Option<u32>
+    ensures { result ≡ model_iterated iterator model body }
+{
+    match iterator {
+        IteratorKind::Collect => body,
+        _ => model,
+    }
+}
+
+/// The step of an iterator.
+fn iterated(
+    alloc: Global,
+    called: Called,
+    iterator: IteratorKind,
+    variable: u32,
+    body: Part,
+) -> Result<Called, NoMemory>
+    ensures { IfOk result (λ c. c ≡ iteration called iterator variable body) }
+{
+    let of = element_of(alloc, &called.ty)?;
+    let ty = iterated_type(alloc, iterator, kind_of(&called.ty), &of, &body.ty)?;
+    let model = model_for(&ty, iterated_model(iterator, called.model, body.model));
+    let body = Boxed::new(alloc, body.into_tree())?;
+    let call = StepCall::Iterator {
+        iterator,
+        variable,
+        body,
+    };
+    gathered(alloc, called)?.and_called(alloc, call, ty, model)
+}
+
+/// A body that is a condition is a Boolean.
+fn condition(
+    alloc: Global,
+    metas: &[MetaModel],
+    iterator: IteratorKind,
+    ty: &Ty,
+) -> Result<(), TypeError>
+    ensures { Gives result (asks_condition metas.now iterator ty.now) }
+{
+    if has_condition(iterator) && !same_type(ty, &Ty::Bool) {
+        return Err(TypeError::Fault(wrong_type(alloc, metas, &Ty::Bool, ty)?));
+    }
+    Ok(())
+}
+
+/// `->name(variable | body)`: an iterator, of its variable's number.
+#[tactic(auto, unfolding(crate::specs::TypingCollections::iterator_rule))]
+pub(crate) fn iterator_rule(
+    alloc: Global,
+    metas: &[MetaModel],
+    name: &Text,
+    variable: u32,
+    called: Called,
+    body: Part,
+) -> Result<Called, TypeError>
+    ensures { Gives result (iterator_meaning metas.now name.now variable called body) }
+{
+    match iterator_named(name.as_str()) {
+        Some(iterator) => {
+            condition(alloc, metas, iterator, &body.ty)?;
+            Ok(iterated(alloc, called, iterator, variable, body)?)
+        }
+        None => Err(TypeError::Fault(unknown_name(alloc, name.as_str())?)),
+    }
+}

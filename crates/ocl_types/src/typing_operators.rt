@@ -1,0 +1,276 @@
+ghost use Rattle.std.specs.Prelude.{◌≡◌, IfOk};
+ghost use Rattle.ocl_types.specs.TypingOperators.{both as both_of, comparable_elements as elements_comparable, are_comparable as comparable, compared as compared_by, added as added_by, operated as operated_by, branches as branches_of, unchained as started, and_linked as linked, link_rule as linked_by, chain_part as chained, not_rule as not_of, negated_rule as negated_of, if_branches as branches_of_if, if_rule as if_of};
+ghost use Rattle.ocl_types.specs.Agreement.{collection_parts as parts_of_collection};
+ghost use Rattle.qv_syntax.specs.declared.typed.Node.TheVariants as nodes;
+ghost use Rattle.ocl_types.specs.Parts.{tree_of};
+ghost use Rattle.ocl_types.specs.Written.{Gives};
+
+use crate::agreement::{
+    are_related, collection_parts, is_null, joined_models, model_for, same_kind, same_type, upper,
+};
+use crate::fault::TypeError;
+use crate::outcomes::{exactly, wrong_type};
+use crate::part::{Chained, Part};
+use crate::parts::one_model;
+use crate::trees::boxed_tree;
+use mof_metamodel::{MetaModel, NoMemory, Seq};
+use qv_syntax::{Node, Operator, Ty, Typed, TypedLink};
+use std::alloc::Global;
+
+/// Whether both types are the wanted one, and what comes then.
+fn both(
+    alloc: Global,
+    metas: &[MetaModel],
+    wanted: &Ty,
+    left: &Ty,
+    right: &Ty,
+    gives: Ty,
+) -> Result<Ty, TypeError>
+    ensures { Gives result (both_of metas.now wanted.now left.now right.now gives) }
+{
+    exactly(alloc, metas, wanted, left)?;
+    exactly(alloc, metas, wanted, right)?;
+    Ok(gives)
+}
+
+/// Whether two types are collections of one kind whose elements may stand in one collection.
+fn comparable_elements(metas: &[MetaModel], a: &Ty, b: &Ty) -> bool
+    ensures { result ≡ elements_comparable metas.now (parts_of_collection a.now) (parts_of_collection b.now) }
+{
+    match (collection_parts(a), collection_parts(b)) {
+        (Some((kind, x)), Some((other, y))) => same_kind(kind, other) && are_related(metas, x, y),
+        _ => false,
+    }
+}
+
+/// Whether values of two types may be compared.
+fn are_comparable(metas: &[MetaModel], a: &Ty, b: &Ty) -> bool
+    ensures { result ≡ comparable metas.now a.now b.now }
+{
+    is_null(a) || is_null(b) || are_related(metas, a, b) || comparable_elements(metas, a, b)
+}
+
+/// The type of `=` and `<>` between two types.
+fn compared(alloc: Global, metas: &[MetaModel], a: &Ty, b: &Ty) -> Result<Ty, TypeError>
+    ensures { Gives result (compared_by metas.now a.now b.now) }
+{
+    if are_comparable(metas, a, b) {
+        return Ok(Ty::Bool);
+    }
+    Err(TypeError::Fault(wrong_type(alloc, metas, a, b)?))
+}
+
+/// The type of `+` between two types: Strings or Integers, as the first one is.
+fn added(alloc: Global, metas: &[MetaModel], a: &Ty, b: &Ty) -> Result<Ty, TypeError>
+    ensures { Gives result (added_by metas.now a.now b.now) }
+{
+    if same_type(a, &Ty::Str) {
+        both(alloc, metas, &Ty::Str, a, b, Ty::Str)
+    } else {
+        both(alloc, metas, &Ty::Int, a, b, Ty::Int)
+    }
+}
+
+/// The type of an operator between two types.
+fn operated(
+    alloc: Global,
+    metas: &[MetaModel],
+    operator: Operator,
+    a: &Ty,
+    b: &Ty,
+) -> Result<Ty, TypeError>
+    ensures { Gives result (operated_by metas.now operator a.now b.now) }
+{
+    match operator {
+        Operator::Implies | Operator::Xor | Operator::Or | Operator::And => both(
+            alloc,
+            metas,
+            &Ty::Bool,
+            a,
+            b,
+            Ty::Bool,
+        ),
+        Operator::Equal | Operator::NotEqual => compared(alloc, metas, a, b),
+        Operator::Less | Operator::Greater | Operator::AtMost | Operator::AtLeast => both(
+            alloc,
+            metas,
+            &Ty::Int,
+            a,
+            b,
+            Ty::Bool,
+        ),
+        Operator::Plus => added(alloc, metas, a, b),
+        Operator::Minus | Operator::Times => both(alloc, metas, &Ty::Int, a, b, Ty::Int),
+    }
+}
+
+/// The type of two branches of an `if`.
+fn branches(alloc: Global, metas: &[MetaModel], one: &Ty, other: &Ty) -> Result<Ty, TypeError>
+    ensures { Gives result (branches_of metas.now one.now other.now) }
+{
+    if is_null(one) {
+        Ok(other.duplicate(alloc)?)
+    } else if is_null(other) {
+        Ok(one.duplicate(alloc)?)
+    } else {
+        upper(alloc, metas, one, other)
+    }
+}
+
+/// Nothing is joined to the first part yet.
+pub(crate) fn unchained(alloc: Global, first: &Part) -> Result<Chained, NoMemory>
+    ensures { IfOk result (λ c. c ≡ started first.now) }
+{
+    let ty = first.ty.duplicate(alloc)?;
+    Ok(Chained {
+        links: Seq::new(alloc),
+        ty,
+    })
+}
+
+/// A chain with one more operator and the part behind it.
+fn and_linked(
+    alloc: Global,
+    chain: Chained,
+    operator: Operator,
+    right: Part,
+    ty: Ty,
+) -> Result<Chained, NoMemory>
+    ensures { IfOk result (λ c. c ≡ linked chain operator right ty) }
+{
+    let mut links = chain.links;
+    let reached = ty.duplicate(alloc)?;
+    let Part {
+        ty: of_right,
+        node,
+        ..
+    } = right;
+    let right = Typed { ty: of_right, node };
+    links.push(TypedLink {
+        operator,
+        right,
+        ty: reached,
+    })?;
+    Ok(Chained { links, ty })
+}
+
+/// A chain with one more operator and the part behind it, if these go together.
+#[tactic(auto, unfolding(crate::specs::TypingOperators::link_rule))]
+pub(crate) fn link_rule(
+    alloc: Global,
+    metas: &[MetaModel],
+    chain: Chained,
+    operator: Operator,
+    right: Part,
+) -> Result<Chained, TypeError>
+    ensures { Gives result (linked_by metas.now chain operator right) }
+{
+    let ty = operated(alloc, metas, operator, &chain.ty, &right.ty)?;
+    Ok(and_linked(alloc, chain, operator, right, ty)?)
+}
+
+/// The whole chain.
+#[tactic(auto, unfolding(crate::specs::TypingOperators::chain_part))]
+pub(crate) fn chain_part(alloc: Global, first: Part, chain: Chained) -> Result<Part, NoMemory>
+    ensures { IfOk result (λ p. p ≡ chained first chain) }
+{
+    let Chained { links, ty } = chain;
+    let model = model_for(&ty, first.model);
+    let first = boxed_tree(alloc, first)?;
+    Ok(Part {
+        ty,
+        model,
+        node: Node::Chain { first, rest: links },
+    })
+}
+
+/// `not` of a part.
+#[tactic(auto, unfolding(crate::specs::TypingOperators::not_rule))]
+pub(crate) fn not_rule(alloc: Global, metas: &[MetaModel], operand: Part) -> Result<Part, TypeError>
+    ensures { Gives result (not_of metas.now operand) }
+{
+    exactly(alloc, metas, &Ty::Bool, &operand.ty)?;
+    let operand = boxed_tree(alloc, operand)?;
+    Ok(Part {
+        ty: Ty::Bool,
+        model: None,
+        node: Node::Not { operand },
+    })
+}
+
+/// `-` before a part.
+#[tactic(auto, unfolding(crate::specs::TypingOperators::negated_rule))]
+pub(crate) fn negated_rule(
+    alloc: Global,
+    metas: &[MetaModel],
+    operand: Part,
+) -> Result<Part, TypeError>
+    ensures { Gives result (negated_of metas.now operand) }
+{
+    exactly(alloc, metas, &Ty::Int, &operand.ty)?;
+    let operand = boxed_tree(alloc, operand)?;
+    Ok(Part {
+        ty: Ty::Int,
+        model: None,
+        node: Node::Negated { operand },
+    })
+}
+
+/// An `if` of this type and model.
+fn if_part(
+    alloc: Global,
+    condition: Part,
+    one: Part,
+    other: Part,
+    ty: Ty,
+    model: Option<u32>,
+) -> Result<Part, NoMemory>
+    ensures { IfOk result (λ p. p ≡ record { ty = ty; model = model; node = nodes.If (tree_of condition) (tree_of one) (tree_of other) }) }
+{
+    let condition = boxed_tree(alloc, condition)?;
+    let one = boxed_tree(alloc, one)?;
+    let other = boxed_tree(alloc, other)?;
+    Ok(Part {
+        ty,
+        model,
+        node: Node::If {
+            condition,
+            one,
+            other,
+        },
+    })
+}
+
+/// The type and the model of the branches of an `if`, if its parts go together.
+#[tactic(auto, using(crate::proofs::NamingLaws::if_characters))]
+fn if_branches(
+    alloc: Global,
+    metas: &[MetaModel],
+    condition: &Ty,
+    one: &Part,
+    other: &Part,
+) -> Result<(Ty, Option<u32>), TypeError>
+    ensures { Gives result (branches_of_if metas.now condition.now one.now other.now) }
+{
+    exactly(alloc, metas, &Ty::Bool, condition)?;
+    let ty = branches(alloc, metas, &one.ty, &other.ty)?;
+    let model = one_model(alloc, "if", joined_models(one.model, other.model))?;
+    Ok((ty, model))
+}
+
+/// The whole `if`.
+#[tactic(auto, unfolding(crate::specs::TypingOperators::if_rule))]
+pub(crate) fn if_rule(
+    alloc: Global,
+    metas: &[MetaModel],
+    condition: Part,
+    one: Part,
+    other: Part,
+) -> Result<Part, TypeError>
+    ensures { Gives result (if_of metas.now condition one other) }
+{
+    match if_branches(alloc, metas, &condition.ty, &one, &other) {
+        Ok((ty, model)) => Ok(if_part(alloc, condition, one, other, ty, model)?),
+        Err(error) => Err(error),
+    }
+}

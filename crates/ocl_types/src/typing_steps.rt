@@ -1,0 +1,425 @@
+ghost use Rattle.std.specs.Prelude.{◌≡◌, ◌<◌, ◌≤◌, ◌+◌, ◌==◌, ◌∷◌, length, Some};
+ghost use Rattle.std.specs.List.{list_any};
+ghost use Rattle.mof_metamodel.specs.Metamodels.{prop_count};
+ghost use Rattle.ocl_types.specs.Environments.{most, class_of as class_meant};
+ghost use Rattle.ocl_types.specs.Classifiers.{only};
+ghost use Rattle.ocl_types.specs.Scopes.{in_reach};
+ghost use Rattle.ocl_types.specs.Written.{Gives};
+ghost use Rattle.ocl_types.specs.TypingSteps.{described as described_prop, class_property as property_of_class, property_of as property_meant, navigated_to, collected_from, property_rule as property_meaning, is_received as received, each_exactly as all_exactly, counted as has_count, operation_by, operation_rule as operation_meaning, class_or, class_at_path as path_class, is_of_meta as meta_is, tested as test_gives, tested_with as test_meaning, class_operation_rule as class_operation_meaning, models_of, model_or, extent_part as extent_of, extent_rule as extent_meaning, each_fits as all_fits, query_by, query_rule as query_meaning};
+
+use crate::agreement::{collection_parts, fits, model_for, same_type};
+use crate::env::Env;
+use crate::fault::{TypeError, TypeFault};
+use crate::naming::path_text;
+use crate::navigation::{navigated, prop_type, values};
+use crate::of_types::class_of;
+use crate::operation_names::{class_operation_named, operation_named};
+use crate::outcomes::{exactly, unknown_name, wrong_count, wrong_type};
+use crate::part::{Called, Part};
+use crate::parts::trees_of;
+use crate::scope::Scope;
+use crate::signatures::{collected_kind, parameter_count, parameter_type, result_type};
+use crate::variable::Signature;
+use mof_metamodel::{Boxed, ClassId, MetaModel, PropId, Seq, Text};
+use qv_syntax::{ClassOperation, Kind, ModelSlot, Node, Operation, Path, StepCall, Ty, Values};
+use std::alloc::Global;
+
+/// How many models there may be.
+const MOST: usize = 4294967295;
+
+/// What navigation to a property gives, and the type of one value.
+fn described(m: u32, meta: &MetaModel, p: PropId) -> (PropId, Values, Ty)
+    requires { p.0 < prop_count meta.now }
+    ensures { described_prop m meta.now p.0 ≡ Some result }
+{
+    (p, values(meta, p), prop_type(m, meta, p))
+}
+
+/// The property of this name of a class.
+fn class_property(
+    metas: &[MetaModel],
+    m: u32,
+    c: ClassId,
+    name: &Text,
+) -> Option<(PropId, Values, Ty)>
+    ensures { result ≡ property_of_class metas.now m c name.now }
+{
+    let i = m as usize;
+    if i < metas.len() && c.0 < metas[i].class_count() {
+        match metas[i].prop_of(c, name.as_str()) {
+            Some(p) => Some(described(m, &metas[i], p)),
+            None => None,
+        }
+    } else {
+        None
+    }
+}
+
+/// The property of this name of a type, if it is a class that has it.
+fn property_of(metas: &[MetaModel], ty: &Ty, name: &Text) -> Option<(PropId, Values, Ty)>
+    ensures { result ≡ property_meant metas.now ty.now name.now }
+{
+    match class_of(ty) {
+        Some((m, c)) => class_property(metas, m, c, name),
+        None => None,
+    }
+}
+
+/// Navigation to a property of an object.
+fn navigate(
+    alloc: Global,
+    name: &Text,
+    called: Called,
+    property: Option<(PropId, Values, Ty)>,
+) -> Result<Called, TypeError>
+    ensures { Gives result (navigated_to name.now called property) }
+{
+    match property {
+        Some((prop, values, ty)) => {
+            let model = model_for(&ty, called.model);
+            let reached = navigated(alloc, values, ty)?;
+            let call = StepCall::Property { prop, values };
+            Ok(called.and_called(alloc, call, reached, model)?)
+        }
+        None => Err(TypeError::Fault(unknown_name(alloc, name.as_str())?)),
+    }
+}
+
+/// Navigation to a property of each object of a collection.
+fn collect(
+    alloc: Global,
+    name: &Text,
+    called: Called,
+    kind: Kind,
+    property: Option<(PropId, Values, Ty)>,
+) -> Result<Called, TypeError>
+    ensures { Gives result (collected_from name.now called kind property) }
+{
+    match property {
+        Some((prop, values, ty)) => {
+            let model = model_for(&ty, called.model);
+            let reached = Ty::Coll(collected_kind(kind), Boxed::new(alloc, ty)?);
+            let call = StepCall::CollectProperty { prop, values };
+            Ok(called.and_called(alloc, call, reached, model)?)
+        }
+        None => Err(TypeError::Fault(unknown_name(alloc, name.as_str())?)),
+    }
+}
+
+/// `.name` on an object, or on each object of a collection.
+#[tactic(auto, unfolding(crate::specs::TypingSteps::property_rule))]
+pub(crate) fn property_rule(
+    alloc: Global,
+    metas: &[MetaModel],
+    name: &Text,
+    called: Called,
+) -> Result<Called, TypeError>
+    ensures { Gives result (property_meaning metas.now name.now called) }
+{
+    match collection_parts(&called.ty) {
+        Some((kind, inner)) => {
+            let property = property_of(metas, inner, name);
+            collect(alloc, name, called, kind, property)
+        }
+        None => {
+            let property = property_of(metas, &called.ty, name);
+            navigate(alloc, name, called, property)
+        }
+    }
+}
+
+/// Whether an operation is one on values of this type.
+fn is_received(operation: Operation, ty: &Ty) -> bool
+    ensures { result ≡ received operation ty.now }
+{
+    match operation {
+        Operation::Absolute
+        | Operation::Divide
+        | Operation::Modulo
+        | Operation::Maximum
+        | Operation::Minimum => same_type(ty, &Ty::Int),
+        Operation::ToString => same_type(ty, &Ty::Int) || same_type(ty, &Ty::Bool),
+        Operation::Length | Operation::Concatenate | Operation::ToInteger | Operation::Substring =>
+            same_type(ty, &Ty::Str),
+        Operation::IsUndefined | Operation::IsInvalid | Operation::AsSingletonSet => true,
+    }
+}
+
+/// Each argument has this very type.
+fn each_exactly(
+    alloc: Global,
+    metas: &[MetaModel],
+    wanted: &Ty,
+    args: &[Part],
+) -> Result<(), TypeError>
+    ensures { Gives result (all_exactly metas.now wanted.now args.now) }
+{
+    for arg in args {
+        exactly(alloc, metas, wanted, &arg.ty)?;
+    }
+    Ok(())
+}
+
+/// So many arguments.
+pub(crate) fn counted(
+    alloc: Global,
+    name: &Text,
+    count: usize,
+    args: &[Part],
+) -> Result<(), TypeError>
+    ensures { Gives result (has_count name.now count args.now) }
+{
+    if args.len() == count {
+        Ok(())
+    } else {
+        Err(TypeError::Fault(wrong_count(alloc, name.as_str())?))
+    }
+}
+
+/// An operation on the value.
+fn operate(
+    alloc: Global,
+    metas: &[MetaModel],
+    name: &Text,
+    called: Called,
+    args: Seq<Part>,
+    operation: Operation,
+) -> Result<Called, TypeError>
+    ensures { Gives result (operation_by metas.now name.now called args (Some operation)) }
+{
+    if !is_received(operation, &called.ty) {
+        return Err(TypeError::Fault(unknown_name(alloc, name.as_str())?));
+    }
+    counted(alloc, name, parameter_count(operation), args.as_slice())?;
+    each_exactly(alloc, metas, &parameter_type(operation), args.as_slice())?;
+    let ty = result_type(alloc, operation, &called.ty)?;
+    let model = model_for(&ty, called.model);
+    let args = trees_of(alloc, args)?;
+    let call = StepCall::Operation { operation, args };
+    Ok(called.and_called(alloc, call, ty, model)?)
+}
+
+/// `.name(args)`: an operation on the value.
+#[tactic(auto, unfolding(crate::specs::TypingSteps::operation_rule))]
+pub(crate) fn operation_rule(
+    alloc: Global,
+    metas: &[MetaModel],
+    name: &Text,
+    called: Called,
+    args: Seq<Part>,
+) -> Result<Called, TypeError>
+    ensures { Gives result (operation_meaning metas.now name.now called args) }
+{
+    match operation_named(name.as_str()) {
+        Some(operation) => operate(alloc, metas, name, called, args, operation),
+        None => Err(TypeError::Fault(unknown_name(alloc, name.as_str())?)),
+    }
+}
+
+/// The class that a path names alone.
+fn class_at_path(alloc: Global, env: &Env<'_>, path: &Path) -> Result<(u32, ClassId), TypeError>
+    ensures { Gives result (path_class env.now path.now) }
+{
+    match env.named_class(path) {
+        Some(class) => Ok(class),
+        None => Err(TypeError::Fault(TypeFault::UnknownName(path_text(alloc, path)?))),
+    }
+}
+
+/// Whether a type is a class of this metamodel.
+fn is_of_meta(m: u32, ty: &Ty) -> bool
+    ensures { result ≡ meta_is m (class_meant ty.now) }
+{
+    match class_of(ty) {
+        Some((n, _)) => n == m,
+        None => false,
+    }
+}
+
+/// The type of a test's result, or of a cast's.
+fn tested(operation: ClassOperation, class: (u32, ClassId)) -> Ty
+    ensures { result ≡ test_gives operation class }
+{
+    match operation {
+        ClassOperation::IsTypeOf | ClassOperation::IsKindOf => Ty::Bool,
+        ClassOperation::AsType => Ty::Class(class.0, class.1),
+    }
+}
+
+/// A test or a cast with a class, which is one of the object's metamodel.
+fn tested_with(
+    alloc: Global,
+    metas: &[MetaModel],
+    called: Called,
+    operation: ClassOperation,
+    class: (u32, ClassId),
+) -> Result<Called, TypeError>
+    ensures { Gives result (test_meaning metas.now called operation class) }
+{
+    if !is_of_meta(class.0, &called.ty) {
+        let wanted = Ty::Class(class.0, class.1);
+        return Err(TypeError::Fault(wrong_type(alloc, metas, &wanted, &called.ty)?));
+    }
+    let ty = tested(operation, class);
+    let model = model_for(&ty, called.model);
+    let call = StepCall::Class {
+        operation,
+        class: class.1,
+    };
+    Ok(called.and_called(alloc, call, ty, model)?)
+}
+
+/// `.name(C)`: a type test or a cast.
+#[tactic(auto, unfolding(crate::specs::TypingSteps::class_operation_rule))]
+pub(crate) fn class_operation_rule(
+    alloc: Global,
+    scope: &Scope<'_>,
+    name: &Text,
+    path: &Path,
+    called: Called,
+) -> Result<Called, TypeError>
+    ensures { Gives result (class_operation_meaning (in_reach scope.now) name.now path.now called) }
+{
+    match class_operation_named(name.as_str()) {
+        Some(operation) => {
+            let class = class_at_path(alloc, scope.env(), path)?;
+            tested_with(alloc, scope.env().metas(), called, operation, class)
+        }
+        None => Err(TypeError::Fault(unknown_name(alloc, name.as_str())?)),
+    }
+}
+
+/// Each argument conforms to the type of its parameter.
+fn each_fits(
+    alloc: Global,
+    metas: &[MetaModel],
+    params: &[Ty],
+    args: &[Part],
+) -> Result<(), TypeError>
+    ensures { Gives result (all_fits metas.now params.now args.now) }
+{
+    match params {
+        [] => Ok(()),
+        [ty, params @ ..] => match args {
+            [] => Ok(()),
+            [arg, args @ ..] => {
+                if !fits(metas, &arg.ty, ty) {
+                    return Err(TypeError::Fault(wrong_type(alloc, metas, ty, &arg.ty)?));
+                }
+                each_fits(alloc, metas, params, args)
+            }
+        },
+    }
+}
+
+/// A call of the query of this number.
+fn call_query(
+    alloc: Global,
+    metas: &[MetaModel],
+    name: &Text,
+    args: Seq<Part>,
+    number: u32,
+    signature: &Signature,
+) -> Result<Part, TypeError>
+    ensures { Gives result (query_by metas.now name.now args (Some number) (Some signature.now)) }
+{
+    let params = signature.params.as_slice();
+    counted(alloc, name, params.len(), args.as_slice())?;
+    each_fits(alloc, metas, params, args.as_slice())?;
+    let ty = signature.result.duplicate(alloc)?;
+    let args = trees_of(alloc, args)?;
+    Ok(Part {
+        ty,
+        model: None,
+        node: Node::Query {
+            query: number,
+            args,
+        },
+    })
+}
+
+/// `name(args)`: a call of a query.
+#[tactic(auto, unfolding(crate::specs::TypingSteps::query_rule))]
+pub(crate) fn query_rule(
+    alloc: Global,
+    scope: &Scope<'_>,
+    name: &Text,
+    args: Seq<Part>,
+) -> Result<Part, TypeError>
+    ensures { Gives result (query_meaning (in_reach scope.now) name.now args) }
+{
+    match scope.env().query(name) {
+        Some((number, signature)) => call_query(
+            alloc,
+            scope.env().metas(),
+            name,
+            args,
+            number,
+            signature,
+        ),
+        None => Err(TypeError::Fault(unknown_name(alloc, name.as_str())?)),
+    }
+}
+
+/// Whether a model has this metamodel.
+fn has_model(models: &[ModelSlot], meta: u32) -> bool
+    ensures { result ≡ list_any (λ slot. slot.meta == meta) models.now }
+{
+    models.iter().any(|slot| slot.meta == meta)
+}
+
+/// The number of a model that has a metamodel, if none of those behind it has it.
+#[tactic(auto, using(crate::proofs::ModelLaws::first_only))]
+fn alone(models: &[ModelSlot], meta: u32, i: u32) -> Option<u32>
+    ensures { result ≡ only (i ∷ models_of meta (i + 1) models.now) }
+{
+    if has_model(models, meta) {
+        None
+    } else {
+        Some(i)
+    }
+}
+
+/// The number of the one model that has this metamodel, of models from number `i` on.
+fn only_model(models: &[ModelSlot], meta: u32, i: u32) -> Option<u32>
+    requires { i + length models.now ≤ most }
+    ensures { result ≡ only (models_of meta i models.now) }
+{
+    match models {
+        [] => None,
+        [slot, rest @ ..] => if slot.meta == meta {
+            alone(rest, meta, i)
+        } else {
+            only_model(rest, meta, i + 1)
+        },
+    }
+}
+
+/// The model, or the fault that there is none, or more than one.
+fn model_found(alloc: Global, path: &Path, model: Option<u32>) -> Result<u32, TypeError>
+    ensures { Gives result (model_or path.now model) }
+{
+    match model {
+        Some(model) => Ok(model),
+        None => Err(TypeError::Fault(TypeFault::ModelMix(path_text(alloc, path)?))),
+    }
+}
+
+/// `C.allInstances()`: the objects of the one model that has the metamodel of the class.
+#[tactic(auto, unfolding(crate::specs::TypingSteps::extent_rule))]
+pub(crate) fn extent_rule(alloc: Global, scope: &Scope<'_>, path: &Path) -> Result<Part, TypeError>
+    ensures { Gives result (extent_meaning (in_reach scope.now) path.now) }
+{
+    let (meta, class) = class_at_path(alloc, scope.env(), path)?;
+    let models = scope.env().models();
+    if models.len() > MOST {
+        return Err(TypeError::NoMemory);
+    }
+    let model = model_found(alloc, path, only_model(models, meta, 0))?;
+    let of = Boxed::new(alloc, Ty::Class(meta, class))?;
+    Ok(Part {
+        ty: Ty::Coll(Kind::Set, of),
+        model: Some(model),
+        node: Node::Extent { model, class },
+    })
+}
