@@ -1,5 +1,5 @@
 -- The type of an iterator's variable depends on the metamodels of an environment alone.
-use Rattle.std.proofs.Common.{◌≡◌, Option, None, Some, Result, Ok, Err, if◌then◌else◌, refl, ap, subst, sym, ◌∙◌}
+use Rattle.std.proofs.Common.{◌≡◌, Option, None, Some, Result, Ok, refl, ap, subst, ◌∙◌}
 use Rattle.qv_syntax.specs.declared.ty.Ty.{Ty}
 use Rattle.qv_syntax.specs.declared.type_tree.TypeTree.{TypeTree}
 use Rattle.ocl_types.specs.declared.fault.TypeError.{TypeError}

@@ -9,3 +9,4 @@ pub mod ModelLaws
 pub mod IterationLaws
 pub mod TypeLaws
 pub mod UpperLaws
+pub mod TypingLaws

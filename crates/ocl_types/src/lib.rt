@@ -24,6 +24,7 @@ mod signatures;
 #[cfg(test)]
 mod tests;
 mod trees;
+mod typing;
 mod typing_collections;
 mod typing_literals;
 mod typing_operators;
@@ -46,5 +47,6 @@ pub use signatures::{
     Argument, argument_of, collected_kind, collection_result, has_condition, is_of_kind,
     parameter_count, parameter_type, receives, result_type,
 };
+pub use typing::type_expr;
 pub use variable::{Signature, Variable};
 pub use written::written_type;

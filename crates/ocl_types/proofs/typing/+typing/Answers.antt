@@ -1,0 +1,8 @@
+use Rattle.std.proofs.Common.{arith}
+use Rattle.ocl_types.proofs.TypingLaws.{links_fall}
+use Rattle.ocl_types.proofs.typing.+typing.Goals as goal
+
+pub type_part-type_linked-requires : goal.type_part-type_linked-requires
+type_part-type_linked-requires t c =
+    let fall = links_fall c.args.expr.now c.in-Chain.first c.in-Chain.rest c.as_slice.result.now c.in-Chain.span c.in-Chain.is c.as_slice.ensures in
+    (omega (arith, c.decreases, fall), tt {0})

@@ -1,0 +1,447 @@
+ghost use Rattle.std.specs.Prelude.{◌≡◌, [], map, IfOk, OnOk, option_copied};
+ghost use Rattle.ocl_types.specs.Written.{Gives};
+ghost use Rattle.ocl_types.specs.Scopes.{in_reach};
+ghost use Rattle.ocl_types.specs.Parts.{plain_part, uncalled as started};
+ghost use Rattle.ocl_types.specs.Typing.{meaning, operated_by, calling, given, parts_from, chained_from, called_from, query_typing, linked_part as part_linked, called_part as part_called, called_whole, has_no_values, is_all_instances as names_extent, path_of_extent, dot_typing, arrow_typing, iterator_typing, typed};
+
+use crate::env::Env;
+use crate::fault::TypeError;
+use crate::outcomes::unknown_name;
+use crate::part::{Called, Chained, Part};
+use crate::scope::Scope;
+use crate::typing_collections::{collection_operation_rule, iterator_rule, iterator_variable};
+use crate::typing_literals::literal_rule;
+use crate::typing_operators::{chain_part, if_rule, link_rule, negated_rule, not_rule, unchained};
+use crate::typing_scopes::{let_part, let_type, let_variable, path_part};
+use crate::typing_steps::{
+    class_operation_rule, extent_rule, operation_rule, property_rule, query_rule,
+};
+use mof_metamodel::{Boxed, NoMemory, Seq, Text};
+use qv_syntax::{Args, Expr, Link, Name, Node, Path, Step, Ty, TypeTree, Typed};
+use std::alloc::Global;
+
+/// A part that is no object.
+fn plain(ty: Ty, node: Node) -> Part
+    ensures { result ≡ plain_part ty node }
+{
+    Part {
+        ty,
+        model: None,
+        node,
+    }
+}
+
+/// `let name : type = value in body`
+#[cycle(typing)]
+#[tactic(auto, using(crate::proofs::TypingLaws::let_done, crate::proofs::TypingLaws::let_failed))]
+fn type_let(alloc: Global, scope: &mut Scope<'_>, expr: &Expr) -> Result<Part, TypeError>
+    ensures value { Gives result ((meaning expr.now).typing (in_reach scope.old)) }
+    ensures scope { OnOk result (scope.new ≡ scope.old) }
+{
+    match expr {
+        Expr::Let {
+            name,
+            ty,
+            value,
+            body,
+            ..
+        } => {
+            let number = scope.size();
+            let wanted = let_type(alloc, scope, &name.text, ty)?;
+            let value = type_part(alloc, scope, value.get())?;
+            let variable = let_variable(alloc, scope.env().metas(), wanted, &value)?;
+            let text = name.text.duplicate(alloc)?;
+            scope.enter(text, variable)?;
+            let body = type_part(alloc, scope, body.get())?;
+            scope.leave();
+            Ok(let_part(alloc, number, value, body)?)
+        }
+        _ => Err(TypeError::NoMemory),
+    }
+}
+
+/// A part and what is called on it. One or two names with `.allInstances()` behind them are an extent.
+#[cycle(typing)]
+fn type_calls(alloc: Global, scope: &mut Scope<'_>, expr: &Expr) -> Result<Part, TypeError>
+    ensures value { Gives result ((meaning expr.now).typing (in_reach scope.old)) }
+    ensures scope { OnOk result (scope.new ≡ scope.old) }
+{
+    match expr {
+        Expr::Calls { of, steps, .. } => match steps.as_slice() {
+            [] => type_part(alloc, scope, of.get()),
+            [first, rest @ ..] => match extent_path(of.get(), first) {
+                Some(path) => {
+                    let part = extent_rule(alloc, scope, path)?;
+                    type_called(alloc, scope, part, rest)
+                }
+                None => {
+                    let part = type_part(alloc, scope, of.get())?;
+                    type_called(alloc, scope, part, steps.as_slice())
+                }
+            },
+        }
+        _ => Err(TypeError::NoMemory),
+    }
+}
+
+/// `if condition then one else other endif`
+#[cycle(typing)]
+#[tactic(auto, using(crate::proofs::TypingLaws::if_given))]
+fn type_if(alloc: Global, scope: &mut Scope<'_>, expr: &Expr) -> Result<Part, TypeError>
+    ensures value { Gives result ((meaning expr.now).typing (in_reach scope.old)) }
+    ensures scope { OnOk result (scope.new ≡ scope.old) }
+{
+    match expr {
+        Expr::If {
+            condition,
+            one,
+            other,
+            ..
+        } => {
+            let condition = type_part(alloc, scope, condition.get())?;
+            let one = type_part(alloc, scope, one.get())?;
+            let other = type_part(alloc, scope, other.get())?;
+            if_rule(alloc, scope.env().metas(), condition, one, other)
+        }
+        _ => Err(TypeError::NoMemory),
+    }
+}
+
+/// The part that an expression is, with these names in reach.
+#[cycle(typing)]
+#[tactic(auto, using(crate::proofs::TypingLaws::not_given, crate::proofs::TypingLaws::negated_given))]
+fn type_part(alloc: Global, scope: &mut Scope<'_>, expr: &Expr) -> Result<Part, TypeError>
+    ensures value { Gives result ((meaning expr.now).typing (in_reach scope.old)) }
+    ensures scope { OnOk result (scope.new ≡ scope.old) }
+{
+    match expr {
+        Expr::Let { .. } => type_let(alloc, scope, expr),
+        Expr::Chain { first, rest, .. } => {
+            let first = type_part(alloc, scope, first.get())?;
+            type_linked(alloc, scope, first, rest.as_slice())
+        }
+        Expr::Not { operand, .. } => {
+            let operand = type_part(alloc, scope, operand.get())?;
+            not_rule(alloc, scope.env().metas(), operand)
+        }
+        Expr::Negated { operand, .. } => {
+            let operand = type_part(alloc, scope, operand.get())?;
+            negated_rule(alloc, scope.env().metas(), operand)
+        }
+        Expr::Calls { .. } => type_calls(alloc, scope, expr),
+        Expr::Number { value, .. } => Ok(plain(Ty::Int, Node::Number { value: *value })),
+        Expr::Str { value, .. } => {
+            let value = value.duplicate(alloc)?;
+            Ok(plain(Ty::Str, Node::Str { value }))
+        }
+        Expr::Bool { value, .. } => Ok(plain(Ty::Bool, Node::Bool { value: *value })),
+        Expr::Null { .. } => Ok(plain(Ty::Null, Node::Null)),
+        Expr::Invalid { .. } => Ok(plain(Ty::Null, Node::Invalid)),
+        Expr::Parens { inner, .. } => type_part(alloc, scope, inner.get()),
+        Expr::If { .. } => type_if(alloc, scope, expr),
+        Expr::Coll { kind, elements, .. } => {
+            let elements = type_parts(alloc, scope, elements.as_slice())?;
+            literal_rule(alloc, scope.env().metas(), *kind, elements)
+        }
+        Expr::Call { name, args, .. } => type_query(alloc, scope, name, args),
+        Expr::Named { path } => path_part(alloc, scope, path),
+    }
+}
+
+/// The parts of a list of expressions.
+#[cycle(typing)]
+#[tactic(auto, unfolding(crate::specs::Typing::parts_from))]
+fn type_parts(alloc: Global, scope: &mut Scope<'_>, exprs: &[Expr]) -> Result<Seq<Part>, TypeError>
+    ensures value { Gives result (parts_from (in_reach scope.old) [] (map (λ e. e.typing) (map meaning exprs.now))) }
+    ensures scope { OnOk result (scope.new ≡ scope.old) }
+{
+    let mut parts = Seq::new(alloc);
+    for expr in exprs {
+        let part = type_part(alloc, scope, expr)?;
+        parts.push(part)?;
+    }
+    Ok(parts)
+}
+
+/// Operators and the parts behind them, on what stands before.
+#[cycle(typing)]
+#[tactic(auto, unfolding(crate::specs::Typing::chained_from))]
+fn type_links(
+    alloc: Global,
+    scope: &mut Scope<'_>,
+    chain: Chained,
+    links: &[Link],
+) -> Result<Chained, TypeError>
+    ensures value { Gives result (chained_from (in_reach scope.old) chain (map operated_by links.now)) }
+    ensures scope { OnOk result (scope.new ≡ scope.old) }
+{
+    let mut reached = chain;
+    for link in links {
+        let right = type_part(alloc, scope, &link.right)?;
+        reached = link_rule(alloc, scope.env().metas(), reached, link.operator, right)?;
+    }
+    Ok(reached)
+}
+
+/// A part with the operators behind it.
+#[cycle(typing)]
+#[tactic(auto, unfolding(crate::specs::Typing::linked_part))]
+fn type_linked(
+    alloc: Global,
+    scope: &mut Scope<'_>,
+    part: Part,
+    links: &[Link],
+) -> Result<Part, TypeError>
+    ensures value { Gives result (part_linked (in_reach scope.old) part (map operated_by links.now)) }
+    ensures scope { OnOk result (scope.new ≡ scope.old) }
+{
+    let chain = unchained(alloc, &part)?;
+    let chain = type_links(alloc, scope, chain, links)?;
+    Ok(chain_part(alloc, part, chain)?)
+}
+
+/// `name(args)`: a call of a query.
+#[cycle(typing)]
+fn type_query(
+    alloc: Global,
+    scope: &mut Scope<'_>,
+    name: &Name,
+    args: &Args,
+) -> Result<Part, TypeError>
+    ensures value { Gives result (query_typing (in_reach scope.old) name.now.text (given args.now)) }
+    ensures scope { OnOk result (scope.new ≡ scope.old) }
+{
+    match args {
+        Args::Values { values } => {
+            let args = type_parts(alloc, scope, values.as_slice())?;
+            query_rule(alloc, scope, &name.text, args)
+        }
+        Args::Class { .. } => Err(TypeError::Fault(unknown_name(alloc, name.text.as_str())?)),
+    }
+}
+
+/// `.name(args)`
+#[cycle(typing)]
+fn type_dot(
+    alloc: Global,
+    scope: &mut Scope<'_>,
+    name: &Name,
+    args: &Args,
+    called: Called,
+) -> Result<Called, TypeError>
+    ensures value { Gives result (dot_typing name.now.text (given args.now) (in_reach scope.old) called) }
+    ensures scope { OnOk result (scope.new ≡ scope.old) }
+{
+    match args {
+        Args::Values { values } => {
+            let args = type_parts(alloc, scope, values.as_slice())?;
+            operation_rule(alloc, scope.env().metas(), &name.text, called, args)
+        }
+        Args::Class { path } => class_operation_rule(alloc, scope, &name.text, path, called),
+    }
+}
+
+/// `->name(args)`
+#[cycle(typing)]
+fn type_arrow(
+    alloc: Global,
+    scope: &mut Scope<'_>,
+    name: &Name,
+    args: &Args,
+    called: Called,
+) -> Result<Called, TypeError>
+    ensures value { Gives result (arrow_typing name.now.text (given args.now) (in_reach scope.old) called) }
+    ensures scope { OnOk result (scope.new ≡ scope.old) }
+{
+    match args {
+        Args::Values { values } => {
+            let args = type_parts(alloc, scope, values.as_slice())?;
+            collection_operation_rule(alloc, scope.env().metas(), &name.text, called, args)
+        }
+        Args::Class { .. } => Err(TypeError::Fault(unknown_name(alloc, name.text.as_str())?)),
+    }
+}
+
+/// `->name(variable : type | body)`
+#[cycle(typing)]
+fn type_iterator(
+    alloc: Global,
+    scope: &mut Scope<'_>,
+    name: &Name,
+    variable: &Name,
+    ty: &Option<TypeTree>,
+    body: &Expr,
+    called: Called,
+) -> Result<Called, TypeError>
+    ensures value { Gives result (iterator_typing name.now.text variable.now.text ty.now (meaning body.now).typing (in_reach scope.old) called) }
+    ensures scope { OnOk result (scope.new ≡ scope.old) }
+{
+    let number = scope.size();
+    let element = iterator_variable(alloc, scope, &variable.text, ty, &called)?;
+    let text = variable.text.duplicate(alloc)?;
+    scope.enter(text, element)?;
+    let body = type_part(alloc, scope, body)?;
+    scope.leave();
+    iterator_rule(alloc, scope.env().metas(), &name.text, number, called, body)
+}
+
+/// What is called on a part, on what was called before.
+#[cycle(typing)]
+fn type_step(
+    alloc: Global,
+    scope: &mut Scope<'_>,
+    called: Called,
+    step: &Step,
+) -> Result<Called, TypeError>
+    ensures value { Gives result ((calling step.now).after (in_reach scope.old) called) }
+    ensures scope { OnOk result (scope.new ≡ scope.old) }
+{
+    match step {
+        Step::Property { name } => property_rule(alloc, scope.env().metas(), &name.text, called),
+        Step::Dot { name, args, .. } => type_dot(alloc, scope, name, args, called),
+        Step::Arrow { name, args, .. } => type_arrow(alloc, scope, name, args, called),
+        Step::Iterator {
+            name,
+            variable,
+            ty,
+            body,
+            ..
+        } => type_iterator(alloc, scope, name, variable, ty, body.get(), called),
+    }
+}
+
+/// The same of several.
+#[cycle(typing)]
+#[tactic(auto, unfolding(crate::specs::Typing::called_from))]
+fn type_steps(
+    alloc: Global,
+    scope: &mut Scope<'_>,
+    called: Called,
+    steps: &[Step],
+) -> Result<Called, TypeError>
+    ensures value { Gives result (called_from (in_reach scope.old) called (map calling steps.now)) }
+    ensures scope { OnOk result (scope.new ≡ scope.old) }
+{
+    let mut reached = called;
+    for step in steps {
+        reached = type_step(alloc, scope, reached, step)?;
+    }
+    Ok(reached)
+}
+
+/// A part with what is called on it.
+#[tactic(auto, unfolding(crate::specs::Typing::called_whole))]
+fn calls_part(alloc: Global, part: Part, called: Called) -> Result<Part, NoMemory>
+    ensures { IfOk result (λ p. p ≡ called_whole part called) }
+{
+    let of = Boxed::new(alloc, part.into_tree())?;
+    Ok(Part {
+        ty: called.ty,
+        model: called.model,
+        node: Node::Calls {
+            of,
+            steps: called.steps,
+        },
+    })
+}
+
+/// Nothing is called yet.
+fn uncalled(alloc: Global, part: &Part) -> Result<Called, NoMemory>
+    ensures { IfOk result (λ c. c ≡ started part.now) }
+{
+    let ty = part.ty.duplicate(alloc)?;
+    Ok(Called {
+        steps: Seq::new(alloc),
+        ty,
+        model: part.model,
+    })
+}
+
+/// A part with what is called on it; with nothing it stays what it is.
+#[cycle(typing)]
+#[tactic(auto, unfolding(crate::specs::Typing::called_part))]
+fn type_called(
+    alloc: Global,
+    scope: &mut Scope<'_>,
+    part: Part,
+    steps: &[Step],
+) -> Result<Part, TypeError>
+    ensures value { Gives result (part_called (in_reach scope.old) part (map calling steps.now)) }
+    ensures scope { OnOk result (scope.new ≡ scope.old) }
+{
+    if steps.is_empty() {
+        return Ok(part);
+    }
+    let called = uncalled(alloc, &part)?;
+    let called = type_steps(alloc, scope, called, steps)?;
+    Ok(calls_part(alloc, part, called)?)
+}
+
+/// Whether nothing stands between the parentheses.
+fn is_empty(args: &Args) -> bool
+    ensures { result ≡ has_no_values (given args.now).values (given args.now).class }
+{
+    match args {
+        Args::Values { values } => match values.as_slice() {
+            [] => true,
+            [_, ..] => false,
+        },
+        Args::Class { .. } => false,
+    }
+}
+
+/// Whether it is the name of what gives an extent.
+#[tactic(auto, unfolding(crate::specs::Typing::is_all_instances))]
+fn is_all_instances(name: &Text) -> bool
+    ensures { result ≡ names_extent name.now }
+{
+    name.as_str() == "allInstances"
+}
+
+/// Whether a step is `.allInstances()`.
+fn is_extent(step: &Step) -> bool
+    ensures { result ≡ (calling step.now).is_extent }
+{
+    match step {
+        Step::Dot { name, args, .. } => is_all_instances(&name.text) && is_empty(args),
+        Step::Property { .. } | Step::Arrow { .. } | Step::Iterator { .. } => false,
+    }
+}
+
+/// The path that an expression is, if it is one or two names.
+fn short_path(expr: &Expr) -> Option<&Path>
+    ensures { option_copied result ≡ (meaning expr.now).path }
+{
+    match expr {
+        Expr::Named { path } => match path.names.as_slice() {
+            [_] | [_, _] => Some(path),
+            _ => None,
+        },
+        _ => None,
+    }
+}
+
+/// The path of an extent: of one or two names with `.allInstances()` behind them.
+fn extent_path<'e>(of: &'e Expr, step: &Step) -> Option<&'e Path>
+    ensures { option_copied result ≡ path_of_extent (meaning of.now).path (calling step.now).is_extent }
+{
+    if is_extent(step) {
+        short_path(of)
+    } else {
+        None
+    }
+}
+
+/// The typed tree of an expression (OCL 2.4, chapters 9 and 11).
+///
+/// # Errors
+///
+/// The first fault in the order of evaluation, and `NoMemory`.
+#[tactic(auto, unfolding(crate::specs::Typing::typed, crate::specs::Typing::part_of))]
+pub fn type_expr(alloc: Global, env: &Env<'_>, expr: &Expr) -> Result<Typed, TypeError>
+    ensures { Gives result (typed env.now expr.now) }
+{
+    let mut scope = Scope::over(alloc, env);
+    let part = type_part(alloc, &mut scope, expr)?;
+    Ok(part.into_tree())
+}
