@@ -42,7 +42,7 @@ pub not_given : (r : Result Part TypeError) (operand : Expr) (span : Span) (s s1
     → metas ≡ s1.outer.metas → s1 ≡ s → at operand s ≡ Ok p → Gives r (not_rule metas p) → Gives r (at (Not operand span) s)
 not_given r operand span s s1 metas p is same typed found =
     subst (Gives r) (ap (λ m. not_rule m p) (is ∙ ap (λ (t : Reach). t.outer.metas) same)
-        ∙ sym (not_typing operand span (in_reach s) ∙ ap (λ o. and_then o (not_rule s.outer.metas)) typed)) found
+    ∙ sym (not_typing operand span (in_reach s) ∙ ap (λ o. and_then o (not_rule s.outer.metas)) typed)) found
 
 negated_typing : (operand : Expr) (span : Span) (env : Environment)
     → (meaning (Negated operand span)).typing env ≡ and_then ((meaning operand).typing env) (negated_rule env.metas)
@@ -52,7 +52,7 @@ pub negated_given : (r : Result Part TypeError) (operand : Expr) (span : Span) (
     → metas ≡ s1.outer.metas → s1 ≡ s → at operand s ≡ Ok p → Gives r (negated_rule metas p) → Gives r (at (Negated operand span) s)
 negated_given r operand span s s1 metas p is same typed found =
     subst (Gives r) (ap (λ m. negated_rule m p) (is ∙ ap (λ (t : Reach). t.outer.metas) same)
-        ∙ sym (negated_typing operand span (in_reach s) ∙ ap (λ o. and_then o (negated_rule s.outer.metas)) typed)) found
+    ∙ sym (negated_typing operand span (in_reach s) ∙ ap (λ o. and_then o (negated_rule s.outer.metas)) typed)) found
 
 if_form : (c a b : Expr) (span : Span) (env : Environment) → (meaning (If c a b span)).typing env
     ≡ if_typing env (meaning c).typing (meaning a).typing (meaning b).typing
@@ -87,9 +87,9 @@ let_body n ty v b span s s1 s2 metas name t x w typed value same is bound named 
     let reach : with_variable env n.text w ≡ in_reach s2 = sym (ap in_reach there ∙ entered_reach s n.text w) in
     let_form n ty v b span env
     ∙ ap (λ o. and_then o (λ k. and_then (at v s) (λ y. and_then (let_variable s.outer.metas k y)
-        (λ u. and_then ((meaning b).typing (with_variable env n.text u)) (λ p. Ok (let_part (length env.variables) y p)))))) typed
+    (λ u. and_then ((meaning b).typing (with_variable env n.text u)) (λ p. Ok (let_part (length env.variables) y p)))))) typed
     ∙ ap (λ o. and_then o (λ y. and_then (let_variable s.outer.metas t y)
-        (λ u. and_then ((meaning b).typing (with_variable env n.text u)) (λ p. Ok (let_part (length env.variables) y p))))) value
+    (λ u. and_then ((meaning b).typing (with_variable env n.text u)) (λ p. Ok (let_part (length env.variables) y p))))) value
     ∙ ap (λ o. and_then o rest) variable
     ∙ ap (λ k. and_then ((meaning b).typing k) (λ p. Ok (let_part (length env.variables) x p))) reach
 
@@ -110,7 +110,7 @@ pub let_failed : (n : Name) (ty : TypeTree) (v b : Expr) (span : Span) (s s1 s2 
     → (r : Result Part TypeError) (e : TypeError) → r ≡ Err e → Fails e (at b s2) → Gives r (at (Let n ty v b span) s)
 let_failed n ty v b span s s1 s2 metas name t x w typed value same is bound named into r e failed body =
     let whole : Fails e (at (Let n ty v b span) s) = subst (Fails e) (sym (let_body n ty v b span s s1 s2 metas name t x w typed value same is bound named into))
-        (fails_then e (at b s2) (λ p. Ok (let_part (length (in_reach s).variables) x p)) body) in
+    (fails_then e (at b s2) (λ p. Ok (let_part (length (in_reach s).variables) x p)) body) in
     subst (λ q. Gives q (at (Let n ty v b span) s)) (sym failed) whole
 
 -- the operators of a chain are less deep than the chain

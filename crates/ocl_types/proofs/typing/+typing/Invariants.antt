@@ -7,12 +7,12 @@ use Rattle.ocl_types.proofs.typing.+typing.Given as goal
 abbrev pub invariant-type_parts-loop-expr : goal.invariant-type_parts-loop-expr
 invariant-type_parts-loop-expr l = (l.scope ≡ l.fn.scope)
     × (parts_from (in_reach l.fn.scope) l.parts (map (λ e. e.typing) (map meaning (drop l.expr-index l.exprs)))
-        ≡ parts_from (in_reach l.fn.scope) [] (map (λ e. e.typing) (map meaning l.exprs)))
+    ≡ parts_from (in_reach l.fn.scope) [] (map (λ e. e.typing) (map meaning l.exprs)))
 
 abbrev pub invariant-type_links-loop-link : goal.invariant-type_links-loop-link
 invariant-type_links-loop-link l = (l.scope ≡ l.fn.scope)
     × (chained_from (in_reach l.fn.scope) l.reached (map operated_by (drop l.link-index l.links))
-        ≡ chained_from (in_reach l.fn.scope) l.fn.chain (map operated_by l.links))
+    ≡ chained_from (in_reach l.fn.scope) l.fn.chain (map operated_by l.links))
 
 abbrev pub invariant-type_steps-loop-step : goal.invariant-type_steps-loop-step
 invariant-type_steps-loop-step l = (l.scope ≡ l.fn.scope)
