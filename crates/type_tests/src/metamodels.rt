@@ -1,3 +1,5 @@
+ghost use Rattle.std.specs.Prelude.{◌≡◌, IfOk};
+
 use mof_metamodel::{ClassDesc, EnumDesc, MetaDesc, NoMemory, PropDesc, Seq, Text};
 use std::alloc::Global;
 
@@ -8,7 +10,9 @@ fn prop(
     of: &str,
     upper: Option<u32>,
     ordered: bool,
-) -> Result<PropDesc, NoMemory> {
+) -> Result<PropDesc, NoMemory>
+    ensures { IfOk result (λ p. (p.upper ≡ upper) × (p.ordered ≡ ordered)) }
+{
     let name = Text::new(alloc, name)?;
     let type_name = Text::new(alloc, of)?;
     Ok(PropDesc {
