@@ -11,7 +11,7 @@ use Rattle.std.proofs.lemmas.Grind.{flat_map-append}
 use Rattle.std.proofs.lemmas.List.Sums.{sum_by-cons}
 use Rattle.mof_metamodel.specs.declared.desc.MetaDesc.{MetaDesc}
 use Rattle.mof_metamodel.specs.declared.desc.ClassDesc.{ClassDesc}
-use Rattle.mof_metamodel.specs.Metamodels.{class_count, class_at, no_class, supers_of, with_item, joined, all_joined, lineage_within, lineage_of, first_own, own_props, props_of, joined_lists, inherited_props}
+use Rattle.mof_metamodel.specs.Metamodels.{class_count, class_at, no_class, supers_of, with_item, joined, all_joined, lineage_within, reached_classes, lineage_of, first_own, own_props, props_of, joined_lists, inherited_props}
 use Rattle.mof_metamodel.specs.Tables.{IsGrounded}
 use Rattle.mof_metamodel.proofs.LineageLemmas.{Has, Contains-from_Has, Has-append_cases, Has-append_right, Has-append_left, Has-one, or_cases, or_left, or_right, all_joined-cases, lineage_parts, lineage_sound, lineage_more, acyclic_from_grounded}
 
@@ -28,7 +28,7 @@ with_absent : (xs : List ℕ) (x : ℕ) → list_any (nat_eq x) xs ≡ false →
 with_absent xs x h = ap (λ b. cond b xs (xs ++ x ∷ [])) h
 
 -- items that are there add nothing
-joined-present : (xs ys : List ℕ) → ((q : ℕ) → Has ys q → Has xs q) → joined xs ys ≡ xs
+pub joined-present : (xs ys : List ℕ) → ((q : ℕ) → Has ys q → Has xs q) → joined xs ys ≡ xs
 joined-present xs [] there = refl
 joined-present xs (y ∷ ys) there =
     ap (λ zs. joined zs ys) (with_present xs y (there y (or_left _ _ (eq-eqb y y refl))))
@@ -163,13 +163,13 @@ module _ (desc : MetaDesc) where
       at (suc k) e = by (lineage_within desc (class_count desc) c) refl (grounded c l)
         where
           found : (s : ℕ) (r : List ℕ) → lineage_within desc k s ≡ Some r → lineage_of desc s ≡ r
-          found s r h = ap (λ o. unwrap_or o (s ∷ [])) (ap (λ n. lineage_within desc n s) e ∙ lineage_more desc k s r h)
+          found s r h = ap (λ o. unwrap_or o (reached_classes desc s)) (ap (λ n. lineage_within desc n s) e ∙ lineage_more desc k s r h)
 
           by : (o : Option (List ℕ)) → lineage_within desc (class_count desc) c ≡ o → IsSome o → props_of desc c ≡ inherited_props desc c ++ own_props desc c
           by None g s = absurd (cc)
           by (Some r) g s =
               let p = lineage_parts desc k c r (sym (ap (λ n. lineage_within desc n c) e) ∙ g) in
-              ap (λ o. flat_map (own_props desc) (unwrap_or o (c ∷ []))) g
+              ap (λ o. flat_map (own_props desc) (unwrap_or o (reached_classes desc c))) g
               ∙ ap (flat_map (own_props desc)) (sym p.2 ∙ with_absent p.0 c (absent p.0 c (λ h. circle p.0 p.1 h)))
               ∙ flat_map-append (own_props desc) p.0 (c ∷ [])
               ∙ ap (λ xs. xs ++ flat_map (own_props desc) (c ∷ [])) (flat_all_joined k found [] (supers_of desc c) p.0 p.1)

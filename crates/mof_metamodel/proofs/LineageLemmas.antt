@@ -12,7 +12,7 @@ use Rattle.std.proofs.lemmas.Bool.{eqb-true, ne_eqb}
 use Rattle.std.proofs.lemmas.List.Folds.{list_any-append, list_any_at, Any-from_list_any}
 use Rattle.std.proofs.lemmas.Map.Steps.{length-le_from_distinct_below}
 use Rattle.mof_metamodel.specs.declared.desc.MetaDesc.{MetaDesc}
-use Rattle.mof_metamodel.specs.Metamodels.{class_count, class_number, supers_of, IsPath, Conforms, IsCircular, with_item, joined, all_joined, lineage_within, lineage_of, class_at, no_class}
+use Rattle.mof_metamodel.specs.Metamodels.{class_count, class_number, supers_of, IsPath, Conforms, IsCircular, with_item, joined, all_joined, lineage_within, reached_classes, lineage_of, class_at, no_class}
 use Rattle.mof_metamodel.specs.MetaFaults.{IsAcyclic}
 use Rattle.mof_metamodel.specs.Tables.{IsGrounded, class_numbers, IsClassOf}
 
@@ -321,7 +321,8 @@ module _ (desc : MetaDesc) where
   pub conforms_exactly : IsGrounded desc → (c q : ℕ) → c < class_count desc → (Has (lineage_of desc c) q → Conforms desc c q) × (Conforms desc c q → Has (lineage_of desc c) q)
   conforms_exactly grounded c q l = by (lineage_within desc (class_count desc) c) refl (grounded c l)
     where
-      by : (o : Option (List ℕ)) → lineage_within desc (class_count desc) c ≡ o → IsSome o → (Has (unwrap_or o (c ∷ [])) q → Conforms desc c q) × (Conforms desc c q → Has (unwrap_or o (c ∷ [])) q)
+      by : (o : Option (List ℕ)) → lineage_within desc (class_count desc) c ≡ o → IsSome o
+          → (Has (unwrap_or o (reached_classes desc c)) q → Conforms desc c q) × (Conforms desc c q → Has (unwrap_or o (reached_classes desc c)) q)
       by None e s = absurd (cc)
       by (Some r) e s = (λ h. lineage_sound (class_count desc) c q r e h, λ h. lineage_complete (class_count desc) c q r h.0 e h.1)
 

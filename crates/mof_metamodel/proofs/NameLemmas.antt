@@ -13,6 +13,7 @@ use Rattle.std.proofs.lemmas.List.{length-take-le, take_more, length_push}
 use Rattle.std.proofs.lemmas.List.Folds.{position_or_len_push}
 use Rattle.mof_metamodel.specs.TextLaws.{equal_encodings}
 use Rattle.mof_metamodel.specs.Metamodels.{same_name}
+use Rattle.mof_metamodel.specs.NameTables.{value_of}
 use Rattle.mof_metamodel.specs.Tables.{Names, number_in, with_name, Numbers}
 
 -- names are the same where their bytes are
@@ -42,11 +43,11 @@ empty_characters = refl
 
 -- ---- look-ups
 
-pub lookup-view : {K : Type 0} (bytes_of : K → List ℕ) (p : List ℕ → Bool) (es : List (K × ℕ)) → lookup p (map (λ e. (chars (bytes_of e.0), e.1)) es) ≡ lookup (λ k. p (chars (bytes_of k))) es
+pub lookup-view : {K V : Type 0} (bytes_of : K → List ℕ) (p : List ℕ → Bool) (es : List (K × V)) → lookup p (map (λ e. (chars (bytes_of e.0), e.1)) es) ≡ lookup (λ k. p (chars (bytes_of k))) es
 lookup-view bytes_of p [] = refl
 lookup-view bytes_of p (e ∷ es) = ap (cond (p (chars (bytes_of e.0))) (Some e.1)) (lookup-view bytes_of p es)
 
-pub lookup-agree : {K : Type 0} (p q : K → Bool) → ((k : K) → p k ≡ q k) → (es : List (K × ℕ)) → lookup p es ≡ lookup q es
+pub lookup-agree : {K V : Type 0} (p q : K → Bool) → ((k : K) → p k ≡ q k) → (es : List (K × V)) → lookup p es ≡ lookup q es
 lookup-agree p q same [] = refl
 lookup-agree p q same (e ∷ es) = ap (λ b. cond b (Some e.1) (lookup p es)) (same e.0) ∙ ap (cond (q e.0) (Some e.1)) (lookup-agree p q same es)
 
@@ -60,7 +61,7 @@ lookup-push p (e ∷ es) k v = by (p e.0) (lookup-push p es k v)
     by false h = h
 
 -- a name is looked up among strings by its bytes
-pub string_lookup : {Y : Type 0} (bs : List ℕ) (es : List (String Y × ℕ)) → IsUtf8 bs → lookup (λ k. bytes_eq bs (string_bytes k)) es ≡ number_in (map (λ e. (chars (string_bytes e.0), e.1)) es) (chars bs)
+pub string_lookup : {Y V : Type 0} (bs : List ℕ) (es : List (String Y × V)) → IsUtf8 bs → lookup (λ k. bytes_eq bs (string_bytes k)) es ≡ value_of (map (λ e. (chars (string_bytes e.0), e.1)) es) (chars bs)
 string_lookup bs es utf8 =
     lookup-agree _ _ (λ k. named_bytes bs (string_bytes k) utf8 (IsUtf8-string_bytes k)) es ∙ sym (lookup-view string_bytes (same_name (chars bs)) es)
 

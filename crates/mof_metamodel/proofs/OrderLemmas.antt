@@ -5,15 +5,16 @@ use Rattle.std.specs.List.{list_all, flat_map}
 use Rattle.std.specs.Option.{unwrap_or, is_some}
 use Rattle.std.proofs.lemmas.Bool.{cases_lt}
 use Rattle.std.proofs.lemmas.List.{get_or_past, get_or-map, length-map}
-use Rattle.std.proofs.lemmas.List.Elements.{All-nil, All-cons, All-append, Contains-get_or}
+use Rattle.std.proofs.lemmas.List.Elements.{All-nil, All-append, Contains-get_or}
 use Rattle.std.proofs.lemmas.List.FromFn.{length-range_with_len, get_or-range_with_len}
 use Rattle.indexmap.specs.IndexSet.{IndexSet}
 use Rattle.mof_metamodel.specs.declared.desc.MetaDesc.{MetaDesc}
 use Rattle.mof_metamodel.specs.declared.desc.PropId.{PropId}
-use Rattle.mof_metamodel.specs.Metamodels.{class_count, class_at, no_class, prop_count, first_own, own_props, props_of, lineage_within, lineage_of, IsPath}
+use Rattle.mof_metamodel.specs.Metamodels.{class_count, class_at, no_class, prop_count, first_own, own_props, props_of, reached_classes, lineage_within, lineage_of}
 use Rattle.mof_metamodel.specs.Tables.{line, line_at, lineage_in, AreLines, IsGrounded, IsPropOf, prop_numbers}
 use Rattle.mof_metamodel.proofs.TableLemmas.{own_within}
-use Rattle.mof_metamodel.proofs.LineageLemmas.{Has, Has-from_Contains, lineage_sound, supers_within}
+use Rattle.mof_metamodel.proofs.LineageLemmas.{Has, Has-from_Contains}
+use Rattle.mof_metamodel.proofs.ReachLemmas.{lineage_within_classes}
 use Rattle.mof_metamodel.proofs.RoundLemmas.{line_at_is, line_at_read, lines_count}
 
 -- what holds of each number that a list has
@@ -43,23 +44,15 @@ module _ (desc : MetaDesc) where
       let within = subst P (sym same) (flat_all (lineage_of desc c)) k d.0 (omega (arith, long)) in
       omega (arith, within, at)
 
-  -- the classes of a class order are classes
-  path_ends : (a b : ℕ) (path : List ℕ) → IsPath desc a path b → a < class_count desc → b < class_count desc
-  path_ends a b [] p l = let same : a ≡ b = p in omega arith
-  path_ends a b (e ∷ path) p l = path_ends e b path p.1 (supers_within desc a e (Has-from_Contains _ e p.0))
-
+  -- the classes of a lineage are classes
   pub lineage_classes : (c : ℕ) → c < class_count desc → All (λ a. a < class_count desc) (lineage_of desc c)
-  lineage_classes c l = by (lineage_within desc (class_count desc) c) refl
-    where
-      by : (o : Option (List ℕ)) → lineage_within desc (class_count desc) c ≡ o → All (λ a. a < class_count desc) (unwrap_or o (c ∷ []))
-      by None e = All-cons (λ a. a < class_count desc) c [] l (All-nil (λ a. a < class_count desc))
-      by (Some r) e = All-from_Has (λ a. a < class_count desc) r (λ q h. let s = lineage_sound desc (class_count desc) c q r e h in path_ends c q s.0 s.1 l)
+  lineage_classes c l = All-from_Has (λ a. a < class_count desc) (lineage_of desc c) (λ q h. lineage_within_classes desc c q l h)
 
 module _ {S : Type 0} (desc : MetaDesc) (orders : List (Option (IndexSet ℕ S))) (are : AreLines desc (class_count desc) orders) where
   -- the class order that a table has
-  pub lineage_is : (c : ℕ) (o : Option (IndexSet ℕ S)) → c < class_count desc → o ≡ get_or orders c o → lineage_in o c ≡ lineage_of desc c
+  pub lineage_is : (c : ℕ) (o : Option (IndexSet ℕ S)) → c < class_count desc → o ≡ get_or orders c o → lineage_in desc o c ≡ lineage_of desc c
   lineage_is c o l r =
-      ap (λ x. unwrap_or x (c ∷ [])) (sym (line_at_read orders c o (let n = lines_count desc (class_count desc) orders are in omega (arith, n)) r) ∙ line_at_is desc (class_count desc) orders are c l)
+      ap (λ x. unwrap_or x (reached_classes desc c)) (sym (line_at_read orders c o (let n = lines_count desc (class_count desc) orders are in omega (arith, n)) r) ∙ line_at_is desc (class_count desc) orders are c l)
 
   -- each class has one, where the table has one for each
   pub grounded_is : list_all (λ o. is_some o) orders ≡ true → IsGrounded desc

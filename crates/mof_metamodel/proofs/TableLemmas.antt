@@ -1,6 +1,6 @@
 -- Tables by number, and names looked up in them.
 use Rattle.std.proofs.Common.{◌≡◌, ℕ, zero, suc, ◌+◌, ◌<◌, List, [], ◌∷◌, ◌++◌, Bool, cond, refl, sym, ◌∙◌, ap, arith, length, get_or, map}
-use Rattle.std.specs.Prelude.{nat_lt, not, Some, None, encode_utf8_all, chars, position, Option}
+use Rattle.std.specs.Prelude.{String, string_bytes, nat_lt, not, Some, None, encode_utf8_all, chars, position, Option}
 use Rattle.std.specs.List.{range_with_len, position_or_len, filter_map, cons_option}
 use Rattle.std.specs.Option.{option_to_list}
 use Rattle.std.specs.Str.{IsUtf8, bytes_eq}
@@ -9,7 +9,7 @@ use Rattle.std.proofs.lemmas.List.Elements.{All-map, filter_map-append}
 use Rattle.std.proofs.lemmas.List.Sums.{sum_by-cons, sum_by_more, sum_by_more_le}
 use Rattle.mof_metamodel.specs.declared.desc.ClassDesc.{ClassDesc}
 use Rattle.std.proofs.lemmas.List.FromFn.{length-range_with_len, get_or-range_with_len, length-map-range_with_len, get_or-map-range_with_len, map-range_with_len_more, fill_by_all}
-use Rattle.std.proofs.lemmas.Str.{encodes-chars}
+use Rattle.std.proofs.lemmas.Str.{encodes-chars, IsUtf8-string_bytes}
 use Rattle.std.proofs.lemmas.Bool.Decides.{nat_tests}
 use Rattle.std.specs.Prelude.{◌≤◌, IsTrue, sum_by, All, take}
 use Rattle.mof_metamodel.specs.declared.desc.MetaDesc.{MetaDesc}
@@ -18,6 +18,8 @@ use Rattle.mof_metamodel.specs.MetaFaults.{is_within_limits}
 use Rattle.mof_metamodel.specs.Tables.{table, place_in, placed, IsPlace}
 use Rattle.mof_metamodel.specs.declared.desc.PropDesc.{PropDesc}
 use Rattle.mof_metamodel.specs.TextLaws.{equal_encodings}
+use Rattle.mof_metamodel.specs.NameTables.{number_of}
+use Rattle.mof_metamodel.proofs.NameLemmas.{named_bytes}
 
 -- what the limits of a metamodel say
 pub classes_fit : (desc : MetaDesc) → IsTrue (is_within_limits desc) → class_count desc ≤ 4096
@@ -90,6 +92,13 @@ position_or_len-agree p q same (x ∷ xs) = ap (λ b. cond (not b) (1 + position
 
 pub position-agree : {X : Type 0} (p q : X → Bool) → ((x : X) → p x ≡ q x) → (xs : List X) → position p xs ≡ position q xs
 position-agree p q same xs = ap (λ n. cond (nat_lt n (length xs)) (Some n) None) (position_or_len-agree p q same xs)
+
+-- where a name stands among strings
+pub string_position : {Y V : Type 0} (bs : List ℕ) (es : List (String Y × V)) → IsUtf8 bs
+    → position (λ k. bytes_eq bs (string_bytes k)) (map (λ e. e.0) es) ≡ number_of (map (λ e. (chars (string_bytes e.0), e.1)) es) (chars bs)
+string_position bs es utf8 =
+    position-map _ (λ e. e.0) es ∙ position-agree _ _ (λ e. named_bytes bs (string_bytes e.0) utf8 (IsUtf8-string_bytes e.0)) es
+    ∙ sym (position-map (same_name (chars bs)) (λ e. e.0) (map (λ e. (chars (string_bytes e.0), e.1)) es) ∙ position-map (λ e. same_name (chars bs) e.0) (λ e. (chars (string_bytes e.0), e.1)) es)
 
 -- a name is looked up by its bytes
 pub name_position : {K X : Type 0} (bytes_of : K → List ℕ) (name_of : X → List ℕ) (keys : List K) (xs : List X) (name : List ℕ) → IsUtf8 name

@@ -4,3 +4,7 @@ pub mod Metamodels
 pub mod MetaFaults
 pub mod Tables
 pub mod formers
+pub mod NameTables
+pub mod WellMeta
+pub mod Giving
+pub mod Members

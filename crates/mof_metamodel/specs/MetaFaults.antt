@@ -1,6 +1,6 @@
--- When a description is a metamodel, and which fault it has first where it isn't one.
--- For each kind of fault: the name at the first place where it stands, in the order of the description.
-use Rattle.std.specs.Prelude.{◌≡◌, ℕ, ◌<◌, Bool, true, false, ◌==◌, ◌||◌, ◌&&◌, not, nat_le, List, [], ◌∷◌, ◌++◌, Option, None, Some, map, take, length, sum_by, codes, is_some, if◌then◌else◌, IsTrue}
+-- Which fault a description has first, where it is no metamodel: for each kind of fault the name at which it is first found, in the
+-- order of the description. What the kinds of faults are is said by the conditions of `WellMeta`, each of which one kind breaks.
+use Rattle.std.specs.Prelude.{◌≡◌, ℕ, ◌<◌, Bool, true, false, ◌==◌, ◌||◌, ◌&&◌, not, nat_le, List, [], ◌∷◌, ◌++◌, Option, None, Some, map, length, sum_by, codes, is_some, if◌then◌else◌, IsTrue}
 use Rattle.std.specs.List.{list_any, list_all, range_with_len}
 use Rattle.std.specs.Option.{option_or}
 use Rattle.mof_metamodel.specs.declared.desc.MetaDesc.{MetaDesc}
@@ -15,7 +15,7 @@ use Rattle.mof_metamodel.specs.declared.fault.MetaError.TheVariants as errors
 use Rattle.mof_metamodel.specs.declared.fault.MetaKind.{MetaKind}
 use Rattle.mof_metamodel.specs.declared.fault.MetaKind.TheVariants as kinds
 use Rattle.mof_metamodel.specs.declared.limits.TheConstants.{MAX_CLASSES, MAX_ENUMS, MAX_PROPS, MAX_LITERALS}
-use Rattle.mof_metamodel.specs.Characters.{is_storable_character}
+pub use Rattle.mof_metamodel.specs.WellMeta.{WellMeta, IsAcyclic, IsWithinLimits, HasGoodNames, HasDistinctNames, HasKnownNames, HasGoodBounds, HasGoodOpposites, HasOneContainer, is_name, is_prop_name}
 use Rattle.mof_metamodel.specs.Metamodels.{same_name, class_count, enum_count, class_number, enum_number, class_at, enum_at, IsCircular, props_of, prop_count, owner_of, prop_at, is_primitive, type_named, type_of, opposite_number, opposite_of}
 
 -- the first name that is found for an item of the list
@@ -38,26 +38,7 @@ is_within_limits desc =
     nat_le (length desc.classes) MAX_CLASSES && nat_le (length desc.enums) MAX_ENUMS
     && nat_le (sum_by (λ c. length c.props) desc.classes) MAX_PROPS && nat_le (sum_by (λ e. length e.literals) desc.enums) MAX_LITERALS
 
--- BadName: a name is empty, begins with a digit, or holds a character other than ASCII letters, ASCII digits, `_` and
--- storable characters from U+0080 on; or a property is named `xmlns`
-
-abbrev pub is_digit : ℕ → Bool
-is_digit c = nat_le 48 c && nat_le c 57
-
-abbrev pub is_letter : ℕ → Bool
-is_letter c = (nat_le 65 c && nat_le c 90) || (nat_le 97 c && nat_le c 122)
-
-abbrev pub is_name_character : ℕ → Bool
-is_name_character c = is_letter c || is_digit c || (c == 95) || (nat_le 128 c && is_storable_character c)
-
-abbrev pub begins_with_digit : List ℕ → Bool
-begins_with_digit name = list_any is_digit (take 1 name)
-
-abbrev pub is_name : List ℕ → Bool
-is_name name = not (length name == 0) && not (begins_with_digit name) && list_all is_name_character name
-
-abbrev pub is_prop_name : List ℕ → Bool
-is_prop_name name = is_name name && not (same_name name (codes "xmlns"))
+-- BadName: a wrong name
 
 abbrev pub bad_name_in_class : ClassDesc → Option (List ℕ)
 bad_name_in_class c = option_or (unless (is_name c.name) c.name) (first_of (λ p. unless (is_prop_name p.name) (qualified c.name p.name)) c.props)
@@ -126,9 +107,6 @@ first_unknown desc = first_of (unknown_in_class desc) desc.classes
 
 -- SuperCycle: a class reaches itself by superclasses
 
-abbrev pub IsAcyclic : MetaDesc → Type 0
-IsAcyclic desc = (c : ℕ) → c < class_count desc → IsCircular desc c → ⊥
-
 -- the class is the first that does so
 pub record IsFirstCircular (desc : MetaDesc) (name : List ℕ) : Type 0 where
   pub class : ℕ
@@ -184,8 +162,8 @@ has_one_container desc p (Some q) = not ((prop_at desc p).composite && (prop_at 
 abbrev pub first_two_containers : MetaDesc → Option (List ℕ)
 first_two_containers desc = first_of (λ p. unless (has_one_container desc p (opposite_of desc p)) (prop_name desc p)) (range_with_len 0 (prop_count desc))
 
--- the description is a metamodel: no fault stands
-pub record WellMeta (desc : MetaDesc) : Type 0 where
+-- no fault is found
+pub record IsSearchedWell (desc : MetaDesc) : Type 0 where
   pub limits : IsTrue (is_within_limits desc)
   pub names : first_bad_name desc ≡ None
   pub distinct : first_duplicate desc ≡ None
@@ -228,6 +206,49 @@ IsFirstFault desc kinds.SuperCycle name = PassesTypes desc × IsFirstCircular de
 IsFirstFault desc kinds.BadBounds name = PassesCycles desc × (first_bad_bounds desc ≡ Some name)
 IsFirstFault desc kinds.BadOpposite name = PassesBounds desc × (first_bad_opposite desc ≡ Some name)
 IsFirstFault desc kinds.TwoContainers name = PassesOpposites desc × (first_two_containers desc ≡ Some name)
+
+-- no fault is found first
+abbrev pub HasNoFault : MetaDesc → Type 0
+HasNoFault desc = (kind : MetaKind) (name : List ℕ) → IsFirstFault desc kind name → ⊥
+
+-- the condition that a fault of the kind breaks
+abbrev pub Condition : MetaKind → MetaDesc → Type 0
+Condition kinds.Limit desc = IsWithinLimits desc
+Condition kinds.BadName desc = HasGoodNames desc
+Condition kinds.DuplicateName desc = HasDistinctNames desc
+Condition kinds.UnknownType desc = HasKnownNames desc
+Condition kinds.SuperCycle desc = IsAcyclic desc
+Condition kinds.BadBounds desc = HasGoodBounds desc
+Condition kinds.BadOpposite desc = HasGoodOpposites desc
+Condition kinds.TwoContainers desc = HasOneContainer desc
+
+-- the word by which a fault of the kind is printed
+abbrev pub kind_word : MetaKind → List ℕ
+kind_word kinds.DuplicateName = codes "DuplicateName"
+kind_word kinds.UnknownType = codes "UnknownType"
+kind_word kinds.SuperCycle = codes "SuperCycle"
+kind_word kinds.BadBounds = codes "BadBounds"
+kind_word kinds.BadOpposite = codes "BadOpposite"
+kind_word kinds.TwoContainers = codes "TwoContainers"
+kind_word kinds.Limit = codes "Limit"
+kind_word kinds.BadName = codes "BadName"
+
+-- the conditions that the kinds of faults before it break: limits come first, then names, and then the kinds as they are declared
+abbrev pub HoldBefore : MetaKind → MetaDesc → Type 0
+HoldBefore kinds.Limit desc = Unit {0}
+HoldBefore kinds.BadName desc = IsWithinLimits desc
+HoldBefore kinds.DuplicateName desc = IsWithinLimits desc × HasGoodNames desc
+HoldBefore kinds.UnknownType desc = IsWithinLimits desc × HasGoodNames desc × HasDistinctNames desc
+HoldBefore kinds.SuperCycle desc = IsWithinLimits desc × HasGoodNames desc × HasDistinctNames desc × HasKnownNames desc
+HoldBefore kinds.BadBounds desc = IsWithinLimits desc × HasGoodNames desc × HasDistinctNames desc × HasKnownNames desc × IsAcyclic desc
+HoldBefore kinds.BadOpposite desc = IsWithinLimits desc × HasGoodNames desc × HasDistinctNames desc × HasKnownNames desc × IsAcyclic desc × HasGoodBounds desc
+HoldBefore kinds.TwoContainers desc =
+    IsWithinLimits desc × HasGoodNames desc × HasDistinctNames desc × HasKnownNames desc × IsAcyclic desc × HasGoodBounds desc × HasGoodOpposites desc
+
+-- a fault of the kind stands, and none of a kind before it
+pub record StandsFirst (desc : MetaDesc) (kind : MetaKind) : Type 0 where
+  pub stands : Condition kind desc → ⊥
+  pub first : HoldBefore kind desc
 
 -- a refusal names the first fault, unless memory ran out
 abbrev pub IsRefusal : MetaDesc → MetaError → Type 0

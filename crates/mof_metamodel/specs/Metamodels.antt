@@ -1,10 +1,10 @@
 -- What the description of a metamodel says of its classes, enumerations and properties: the class part of MOF.
 -- They go by numbers. Those of classes and of enumerations are their places in the description, from 0, and those of
 -- properties their places among the properties of all classes, class by class. A number past the end has nothing.
-use Rattle.std.specs.Prelude.{◌≡◌, ℕ, zero, suc, ◌+◌, Bool, false, ◌||◌, List, [], ◌∷◌, ◌++◌, Option, None, Some, map, take, length, sum_by, position, nat_eq, codes, Contains, if◌then◌else◌, slice_index_or, filter_map}
+use Rattle.std.specs.Prelude.{◌≡◌, ℕ, zero, suc, ◌+◌, ◌<◌, IfSome, Bool, false, ◌||◌, List, [], ◌∷◌, ◌++◌, Option, None, Some, map, take, length, sum_by, position, nat_eq, codes, Contains, if◌then◌else◌, slice_index_or, filter, filter_map}
 use Rattle.std.specs.List.{list_any, flat_map, range_with_len}
 use Rattle.std.specs.Option.{option_map, option_or, unwrap_or, option_and_then}
-use Rattle.std.specs.Cmp.Lexicographic.{pointwise}
+pub use Rattle.mof_metamodel.specs.Characters.{same_name}
 use Rattle.mof_metamodel.specs.declared.desc.MetaDesc.{MetaDesc}
 use Rattle.mof_metamodel.specs.declared.desc.ClassDesc.{ClassDesc}
 use Rattle.mof_metamodel.specs.declared.desc.EnumDesc.{EnumDesc}
@@ -13,10 +13,6 @@ use Rattle.mof_metamodel.specs.declared.desc.OppDesc.{OppDesc}
 use Rattle.mof_metamodel.specs.declared.desc.Prop.{Prop}
 use Rattle.mof_metamodel.specs.declared.desc.PropType.{PropType}
 use Rattle.mof_metamodel.specs.declared.desc.PropType.TheVariants as types
-
--- whether two names have the same characters
-abbrev pub same_name : List ℕ → List ℕ → Bool
-same_name a b = pointwise nat_eq a b
 
 -- Classes and enumerations
 
@@ -45,6 +41,14 @@ class_at desc c = slice_index_or desc.classes c no_class
 
 abbrev pub enum_at : MetaDesc → ℕ → EnumDesc
 enum_at desc e = slice_index_or desc.enums e no_enum
+
+-- the literal of this number, from 0, of the enumeration
+abbrev pub literal_at : MetaDesc → ℕ → ℕ → List ℕ
+literal_at desc e i = slice_index_or (enum_at desc e).literals i []
+
+-- the number of the first literal of this name in the enumeration
+abbrev pub literal_number : MetaDesc → ℕ → List ℕ → Option ℕ
+literal_number desc e name = position (same_name name) (enum_at desc e).literals
 
 -- the superclasses that the class writes, in their order, repeats included
 abbrev pub supers_of : MetaDesc → ℕ → List ℕ
@@ -92,9 +96,19 @@ abbrev pub lineage_within : MetaDesc → ℕ → ℕ → Option (List ℕ)
 lineage_within desc zero c = None
 lineage_within desc (suc n) c = option_map (λ cs. with_item cs c) (all_joined [] (map (lineage_within desc n) (supers_of desc c)))
 
--- The same. A class that reaches a circle of superclasses has no class order, and stands here alone.
+-- whether c is d, or reaches it by at most n superclasses
+abbrev pub conforms_within : MetaDesc → ℕ → ℕ → ℕ → Bool
+conforms_within desc zero c d = nat_eq c d
+conforms_within desc (suc n) c d = nat_eq c d || list_any (λ e. conforms_within desc n e d) (supers_of desc c)
+
+-- the class and those that it inherits from, by number
+abbrev pub reached_classes : MetaDesc → ℕ → List ℕ
+reached_classes desc c = filter (conforms_within desc (class_count desc) c) (range_with_len 0 (class_count desc))
+
+-- The class and those that it inherits from: in class order, or by number where the class reaches a circle of superclasses
+-- and so has no class order.
 abbrev pub lineage_of : MetaDesc → ℕ → List ℕ
-lineage_of desc c = unwrap_or (lineage_within desc (class_count desc) c) (c ∷ [])
+lineage_of desc c = unwrap_or (lineage_within desc (class_count desc) c) (reached_classes desc c)
 
 -- Properties
 
@@ -131,8 +145,8 @@ first_own desc c = sum_by (λ d. length d.props) (take c desc.classes)
 abbrev pub own_props : MetaDesc → ℕ → List ℕ
 own_props desc c = range_with_len (first_own desc c) (length (class_at desc c).props)
 
--- The properties of the class in class order, inherited ones included: for each superclass in the written order its
--- properties, each once and at its first place, and then the class's own.
+-- The properties of the class, those of every class that it reaches by superclasses included. In class order they are: for each
+-- superclass in the written order its properties, each once and at its first place, and then the class's own.
 abbrev pub props_of : MetaDesc → ℕ → List ℕ
 props_of desc c = flat_map (own_props desc) (lineage_of desc c)
 
@@ -184,13 +198,24 @@ opposite_number desc (Some o) = option_and_then (λ c. own_number desc c o.prop)
 abbrev pub opposite_of : MetaDesc → ℕ → Option ℕ
 opposite_of desc p = opposite_number desc (prop_at desc p).opposite
 
+-- the class or the enumeration of the type is one of the description
+abbrev pub IsTypeOf : MetaDesc → PropType → Type 0
+IsTypeOf desc types.Str = Unit {0}
+IsTypeOf desc types.Int = Unit {0}
+IsTypeOf desc types.Bool = Unit {0}
+IsTypeOf desc (types.Enum e) = e.0 < enum_count desc
+IsTypeOf desc (types.Class c) = c.0 < class_count desc
+
 -- the property by its number, its names resolved
 pub record IsProp (desc : MetaDesc) (p : ℕ) (prop : Prop) : Type 0 where
   pub name : prop.name ≡ (prop_at desc p).name
   pub owner : prop.owner.0 ≡ owner_of desc p
+  pub owner_within : prop.owner.0 < class_count desc
   pub type_is : type_of desc p ≡ Some prop.ty
+  pub type_within : IsTypeOf desc prop.ty
   pub lower : prop.lower ≡ (prop_at desc p).lower
   pub upper : prop.upper ≡ (prop_at desc p).upper
   pub composite : prop.composite ≡ (prop_at desc p).composite
   pub ordered : prop.ordered ≡ (prop_at desc p).ordered
   pub opposite : option_map (λ q. q.0) prop.opposite ≡ opposite_of desc p
+  pub opposite_within : IfSome prop.opposite (λ q. q.0 < prop_count desc)

@@ -1,6 +1,6 @@
 -- What the tables of a metamodel hold: what its description says, by number.
-use Rattle.std.specs.Prelude.{◌≡◌, ℕ, ◌<◌, List, [], ◌∷◌, ◌++◌, Option, None, map, length, slice_index_or, position, All, IsSome, IsTrue, is_some, nat_eq, take, if◌then◌else◌}
-use Rattle.std.specs.List.{range_with_len, list_any, flat_map}
+use Rattle.std.specs.Prelude.{Vec, ◌≡◌, ℕ, zero, suc, ◌<◌, Bool, false, ◌||◌, ◌&&◌, List, [], ◌∷◌, ◌++◌, Option, None, Some, map, length, slice_index_or, position, All, IsSome, IsTrue, is_some, nat_eq, take, if◌then◌else◌}
+use Rattle.std.specs.List.{range_with_len, list_any, flat_map, position_or_len}
 use Rattle.std.specs.Map.{lookup}
 use Rattle.std.specs.Option.{option_map, unwrap_or}
 use Rattle.indexmap.specs.IndexSet.{IndexSet}
@@ -8,10 +8,12 @@ use Rattle.mof_metamodel.specs.declared.desc.PropDesc.{PropDesc}
 use Rattle.mof_metamodel.specs.declared.named.Place.{Place}
 use Rattle.mof_metamodel.specs.declared.desc.MetaDesc.{MetaDesc}
 use Rattle.mof_metamodel.specs.declared.desc.ClassId.{ClassId}
+use Rattle.mof_metamodel.specs.declared.desc.EnumId.{EnumId}
 use Rattle.mof_metamodel.specs.declared.desc.PropId.{PropId}
 use Rattle.mof_metamodel.specs.declared.desc.Prop.{Prop}
-use Rattle.mof_metamodel.specs.Metamodels.{same_name, class_count, class_at, no_prop, prop_count, declared_props, first_own, supers_of, with_item, all_joined, Reaches, IsCircular, lineage_within, lineage_of, own_props, props_of, IsProp}
-use Rattle.mof_metamodel.specs.MetaFaults.{WellMeta, is_within_limits}
+use Rattle.mof_metamodel.specs.Metamodels.{same_name, class_count, class_at, enum_count, enum_at, no_prop, prop_count, declared_props, prop_at, first_own, supers_of, with_item, all_joined, IsCircular, lineage_within, reached_classes, lineage_of, own_props, props_of, IsProp}
+use Rattle.mof_metamodel.specs.WellMeta.{WellMeta}
+use Rattle.mof_metamodel.specs.MetaFaults.{is_within_limits}
 
 -- what f says of each number below n
 abbrev pub table : {X : Type 0} → (ℕ → X) → ℕ → List X
@@ -25,6 +27,9 @@ prop_numbers ids = map (λ p. p.0) ids
 
 abbrev pub IsClassOf : MetaDesc → ClassId → Type 0
 IsClassOf desc c = c.0 < class_count desc
+
+abbrev pub IsEnumOf : MetaDesc → EnumId → Type 0
+IsEnumOf desc e = e.0 < enum_count desc
 
 abbrev pub IsPropOf : MetaDesc → PropId → Type 0
 IsPropOf desc p = p.0 < prop_count desc
@@ -56,6 +61,10 @@ Numbers name_of xs names = (name : List ℕ) → number_in names name ≡ positi
 abbrev pub place_in : ℕ → ℕ → Place
 place_in c i = record { class = c; index = i }
 
+-- the number of the first property that has the name of the property
+abbrev pub name_number : MetaDesc → ℕ → ℕ
+name_number desc p = position_or_len (λ d. same_name (prop_at desc p).name d.1.name) (declared_props desc)
+
 -- the property at a place
 abbrev pub placed : MetaDesc → Place → ℕ × PropDesc
 placed desc place = (place.class, slice_index_or (class_at desc place.class).props place.index no_prop)
@@ -68,11 +77,17 @@ IsPlace desc place = (place.class < class_count desc) × (place.index < length (
 abbrev pub OwnNames : MetaDesc → List Names → Type 0
 OwnNames desc own = (length own ≡ class_count desc) × ((c : ℕ) (d : Names) → c < class_count desc → Numbers (λ p. p.name) (class_at desc c).props (slice_index_or own c d))
 
-pub record IsNamed (desc : MetaDesc) (classes enums : Names) (own : List Names) (firsts : List ℕ) (places : List Place) : Type 0 where
+-- the names of an enumeration's literals, by their places in it
+abbrev pub LiteralNames : MetaDesc → List Names → Type 0
+LiteralNames desc literals =
+    (length literals ≡ enum_count desc) × ((e : ℕ) (d : Names) → e < enum_count desc → Numbers (λ l. l) (enum_at desc e).literals (slice_index_or literals e d))
+
+pub record IsNamed (desc : MetaDesc) (classes enums : Names) (own literals : List Names) (firsts : List ℕ) (places : List Place) : Type 0 where
   pub limits : IsTrue (is_within_limits desc)
   pub classes_are : Numbers (λ c. c.name) desc.classes classes
   pub enums_are : Numbers (λ e. e.name) desc.enums enums
   pub own_are : OwnNames desc own
+  pub literals_are : LiteralNames desc literals
   pub firsts_are : firsts ≡ table (first_own desc) (class_count desc)
   pub places_are : map (placed desc) places ≡ declared_props desc
   pub places_within : All (IsPlace desc) places
@@ -96,6 +111,27 @@ AreLines desc n orders = lines orders ≡ table (lineage_within desc n) (class_c
 abbrev pub line_at : {S : Type 0} → List (Option (IndexSet ℕ S)) → ℕ → Option (List ℕ)
 line_at orders c = slice_index_or (lines orders) c None
 
+-- each number of the list is below n
+abbrev pub AreBelow : ℕ → List ℕ → Type 0
+AreBelow n xs = (q : ℕ) → IsTrue (list_any (nat_eq q) xs) → q < n
+
+-- each number of the first list stands in the second
+abbrev pub AreAmong : List ℕ → List ℕ → Type 0
+AreAmong xs ys = (q : ℕ) → IsTrue (list_any (nat_eq q) xs) → IsTrue (list_any (nat_eq q) ys)
+
+-- a mark stands at each number that the list has, and at no other
+abbrev pub AreMarks : List Bool → List ℕ → Type 0
+AreMarks marks xs = (q : ℕ) → q < length marks → slice_index_or marks q false ≡ list_any (nat_eq q) xs
+
+-- class orders of classes, each with the orders of the classes that it has
+pub record AreClosed {S : Type 0} (orders : List (Option (IndexSet ℕ S))) : Type 0 where
+  pub below : (c : ℕ) (r : List ℕ) → line_at orders c ≡ Some r → AreBelow (length orders) r
+  pub among : (c q : ℕ) (r s : List ℕ) → line_at orders c ≡ Some r → IsTrue (list_any (nat_eq q) r) → line_at orders q ≡ Some s → AreAmong s r
+
+-- with each class that has an order, the classes of that order stand in the list
+abbrev pub HasOrders : {S : Type 0} → List (Option (IndexSet ℕ S)) → List ℕ → Type 0
+HasOrders orders xs = (q : ℕ) (s : List ℕ) → IsTrue (list_any (nat_eq q) xs) → line_at orders q ≡ Some s → AreAmong s xs
+
 -- what a class's superclasses give: their joint order, and the class behind it
 abbrev pub new_line : {S : Type 0} → MetaDesc → List (Option (IndexSet ℕ S)) → ℕ → Option (List ℕ)
 new_line desc orders c = option_map (λ cs. with_item cs c) (all_joined [] (map (line_at orders) (supers_of desc c)))
@@ -104,9 +140,9 @@ new_line desc orders c = option_map (λ cs. with_item cs c) (all_joined [] (map 
 abbrev pub later_line : {S : Type 0} → MetaDesc → List (Option (IndexSet ℕ S)) → ℕ → Option (List ℕ)
 later_line desc orders c = if is_some (line_at orders c) then None else new_line desc orders c
 
--- the classes of a class order; of a class without one the class alone
-abbrev pub lineage_in : {S : Type 0} → Option (IndexSet ℕ S) → ℕ → List ℕ
-lineage_in order c = unwrap_or (line order) (c ∷ [])
+-- the classes of a class order; of a class without one those that it reaches
+abbrev pub lineage_in : {S : Type 0} → MetaDesc → Option (IndexSet ℕ S) → ℕ → List ℕ
+lineage_in desc order c = unwrap_or (line order) (reached_classes desc c)
 
 -- for each class of a class order, how many properties the classes before it have
 abbrev pub starts_of : MetaDesc → List ℕ → List ℕ
@@ -117,9 +153,23 @@ pub record IsOrdered {S : Type 0} (desc : MetaDesc) (orders : List (Option (Inde
   pub props_are : map prop_numbers props ≡ table (props_of desc) (class_count desc)
   pub starts_are : starts ≡ table (λ c. starts_of desc (lineage_of desc c)) (class_count desc)
 
--- the classes that the class reaches by one superclass or more
-abbrev pub IsReach : MetaDesc → ℕ → List ℕ → Type 0
-IsReach desc c met = (q : ℕ) → (IsTrue (list_any (nat_eq q) met) → Reaches desc c q) × (Reaches desc c q → IsTrue (list_any (nat_eq q) met))
+-- whether c is d, has it as a superclass, or reaches it over classes below k
+abbrev pub reaches_over : MetaDesc → ℕ → ℕ → ℕ → Bool
+reaches_over desc zero c d = nat_eq c d || list_any (nat_eq d) (supers_of desc c)
+reaches_over desc (suc k) c d = reaches_over desc k c d || (reaches_over desc k c k && reaches_over desc k k d)
+
+-- a row of a table of rows, and what it has at a class
+abbrev pub row_at : {A : Type 0} → List (Vec Bool A) → ℕ → List Bool
+row_at rows c = slice_index_or (map (λ r. r.items) rows) c []
+
+abbrev pub cell_at : {A : Type 0} → List (Vec Bool A) → ℕ → ℕ → Bool
+cell_at rows c d = slice_index_or (row_at rows c) d false
+
+-- a row for each class, which has what the class reaches over classes below k
+pub record ReachesOver {A : Type 0} (desc : MetaDesc) (k : ℕ) (rows : List (Vec Bool A)) : Type 0 where
+  pub count : length rows ≡ class_count desc
+  pub long : (c : ℕ) → c < class_count desc → length (row_at rows c) ≡ class_count desc
+  pub cells : (c d : ℕ) → c < class_count desc → d < class_count desc → cell_at rows c d ≡ reaches_over desc k c d
 
 -- the first class that reaches itself
 pub record IsFirstCircle (desc : MetaDesc) (c : ℕ) : Type 0 where

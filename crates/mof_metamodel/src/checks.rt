@@ -1,6 +1,7 @@
 //! The faults that a description shows by itself: its size, its names and its bounds.
 ghost use Rattle.std.specs.Prelude.{◌≡◌, nat_le, length, sum_by, IfOk};
-ghost use Rattle.mof_metamodel.specs.MetaFaults.{first_of, unless, qualified as qualified_text, is_name as name_text, is_prop_name as prop_name_text};
+ghost use Rattle.mof_metamodel.specs.MetaFaults.{first_of, unless, qualified as qualified_text};
+ghost use Rattle.mof_metamodel.specs.WellMeta.{is_name as name_text, is_prop_name as prop_name_text};
 ghost use Rattle.mof_metamodel.specs.MetaFaults as faults;
 
 use crate::desc::{ClassDesc, EnumDesc, MetaDesc, PropDesc};

@@ -1,8 +1,8 @@
 //! Names that stand twice.
 ghost use Rattle.std.specs.Prelude.{◌≡◌, ◌<◌, [], map, All, IfOk, is_some};
 ghost use Rattle.std.specs.List.{range_with_len};
-ghost use Rattle.mof_metamodel.specs.Metamodels.{class_count, enum_count, prop_at};
-ghost use Rattle.mof_metamodel.specs.Tables.{prop_numbers, number_in, IsPropOf};
+ghost use Rattle.mof_metamodel.specs.Metamodels.{class_count, enum_count, prop_count, prop_at, declared_props};
+ghost use Rattle.mof_metamodel.specs.Tables.{prop_numbers, number_in, name_number, table, Numbers, IsPropOf};
 ghost use Rattle.mof_metamodel.specs.MetaFaults.{first_repeat as repeat_in};
 ghost use Rattle.mof_metamodel.specs.MetaFaults as faults;
 
@@ -16,7 +16,7 @@ use crate::text::Text;
 use std::alloc::Global;
 
 /// Whether a name was met.
-fn is_met(met: &NameTable, name: &Text) -> bool
+fn is_met(met: &NameTable<u32>, name: &Text) -> bool
     ensures { result ≡ is_some (number_in met.now name.now) }
 {
     met.number(name.as_str()).is_some()
@@ -36,20 +36,60 @@ fn first_repeat(alloc: Global, names: &[&Text]) -> Result<Option<Text>, NoMemory
     Ok(None)
 }
 
-/// The names of properties.
-fn names_of<'a>(
-    alloc: Global,
-    named: &'a Named,
-    order: &[PropId],
-) -> Result<Vec<&'a Text>, NoMemory>
-    requires { All (IsPropOf named.now) order.now }
-    ensures { IfOk result (λ names. map (λ n. n.now) names.items ≡ map (λ p. (prop_at named.now p).name) (prop_numbers order.now)) }
+/// The names of all properties.
+fn all_names(alloc: Global, named: &Named) -> Result<NameTable<u32>, NoMemory>
+    ensures { IfOk result (Numbers (λ d. d.1.name) (declared_props named.now)) }
 {
-    let mut names = Vec::new(alloc);
-    for p in order {
-        names.push(&named.prop(p.0).name)?;
+    let mut names = NameTable::new(alloc);
+    for p in 0..named.prop_count() {
+        names.add(alloc, &named.prop(p).name, p)?;
     }
     Ok(names)
+}
+
+/// The number of the first property that has the name of a property.
+fn number_of(names: &NameTable<u32>, named: &Named, p: u32) -> u32
+    requires prop { p < prop_count named.now }
+    requires names { Numbers (λ d. d.1.name) (declared_props named.now) names.now }
+    ensures { result ≡ name_number named.now p }
+{
+    names.number(named.prop(p).name.as_str()).unwrap_or(p)
+}
+
+/// The same of each property: two of them have one name exactly where they have one number here.
+fn name_numbers(alloc: Global, named: &Named) -> Result<Vec<u32>, NoMemory>
+    ensures { IfOk result (λ numbers. numbers.items ≡ table (name_number named.now) (prop_count named.now)) }
+{
+    let names = all_names(alloc, named)?;
+    let mut numbers = Vec::new(alloc);
+    for p in 0..named.prop_count() {
+        numbers.push(number_of(&names, named, p))?;
+    }
+    Ok(numbers)
+}
+
+/// The first name that a property shares with one before it in the list.
+fn first_shared(
+    alloc: Global,
+    named: &Named,
+    numbers: &[u32],
+    order: &[PropId],
+) -> Result<Option<Text>, NoMemory>
+    requires numbers { numbers.now ≡ table (name_number named.now) (prop_count named.now) }
+    requires within { All (IsPropOf named.now) order.now }
+    ensures { IfOk result (λ o. o ≡ repeat_in [] (map (λ p. (prop_at named.now p).name) (prop_numbers order.now))) }
+{
+    let mut met = Vec::new(alloc);
+    met.resize(numbers.len(), false)?;
+    let marks = met.as_mut_slice();
+    for p in order {
+        let number = numbers[p.0 as usize] as usize;
+        if marks[number] {
+            return Ok(Some(named.prop(p.0).name.duplicate(alloc)?));
+        }
+        marks[number] = true;
+    }
+    Ok(None)
 }
 
 /// The literals of an enumeration.
@@ -94,8 +134,14 @@ fn is_new_enum(named: &Named, e: u32) -> bool
 }
 
 /// The first name that stands twice at a class.
-fn duplicate_in_class(alloc: Global, ordered: &Ordered, c: u32) -> Result<Option<Text>, NoMemory>
-    requires { c < class_count ordered.now }
+fn duplicate_in_class(
+    alloc: Global,
+    ordered: &Ordered,
+    numbers: &[u32],
+    c: u32,
+) -> Result<Option<Text>, NoMemory>
+    requires class { c < class_count ordered.now }
+    requires numbers { numbers.now ≡ table (name_number ordered.now) (prop_count ordered.now) }
     ensures { IfOk result (λ o. o ≡ faults.duplicate_in_class ordered.now c) }
 {
     let named = ordered.named();
@@ -103,8 +149,7 @@ fn duplicate_in_class(alloc: Global, ordered: &Ordered, c: u32) -> Result<Option
     if !is_new_class(named, c) {
         return Ok(Some(outer.duplicate(alloc)?));
     }
-    let names = names_of(alloc, named, ordered.props(c))?;
-    let inner = first_repeat(alloc, names.as_slice())?;
+    let inner = first_shared(alloc, named, numbers, ordered.props(c))?;
     in_outer(alloc, outer, inner)
 }
 
@@ -126,8 +171,9 @@ fn duplicate_in_enum(alloc: Global, named: &Named, e: u32) -> Result<Option<Text
 fn duplicate_in_classes(alloc: Global, ordered: &Ordered) -> Result<Option<Text>, NoMemory>
     ensures { IfOk result (λ o. o ≡ faults.first_of (faults.duplicate_in_class ordered.now) (range_with_len 0 (class_count ordered.now))) }
 {
+    let numbers = name_numbers(alloc, ordered.named())?;
     for c in 0..ordered.named().class_count() {
-        let found = duplicate_in_class(alloc, ordered, c)?;
+        let found = duplicate_in_class(alloc, ordered, numbers.as_slice(), c)?;
         if found.is_some() {
             return Ok(found);
         }

@@ -21,7 +21,7 @@ pub struct MetaFault {
 }
 
 /// The kinds of faults of a description.
-#[derive(Clone, Copy, Debug, PartialEq, Eq)]
+#[derive(Clone, Copy, Debug)]
 pub enum MetaKind {
     DuplicateName,
     UnknownType,
@@ -31,6 +31,26 @@ pub enum MetaKind {
     TwoContainers,
     Limit,
     BadName,
+}
+
+impl MetaKind {
+    ghost use Rattle.mof_metamodel.specs.MetaFaults.{kind_word};
+
+    /// The word by which a fault of the kind is printed.
+    pub fn word(self) -> &'static str
+        ensures { result.now ≡ kind_word self }
+    {
+        match self {
+            MetaKind::DuplicateName => "DuplicateName",
+            MetaKind::UnknownType => "UnknownType",
+            MetaKind::SuperCycle => "SuperCycle",
+            MetaKind::BadBounds => "BadBounds",
+            MetaKind::BadOpposite => "BadOpposite",
+            MetaKind::TwoContainers => "TwoContainers",
+            MetaKind::Limit => "Limit",
+            MetaKind::BadName => "BadName",
+        }
+    }
 }
 
 impl From<NoMemory> for MetaError {

@@ -13,7 +13,7 @@ use std::alloc::Global;
 use std::marker::Model;
 
 /// A description with a table of the superclasses that its classes write. Contracts see it as the description.
-#[derive(Debug, Drop)]
+#[derive(Drop)]
 pub(crate) struct Hierarchy {
     named: Named,
     supers: Vec<Seq<ClassId>>,

@@ -5,10 +5,12 @@
 mod boxed;
 mod checks;
 mod circles;
+mod closure;
 mod desc;
 mod duplicates;
 mod fault;
 mod hierarchy;
+mod laws;
 mod limits;
 mod lineages;
 mod memory;
@@ -28,12 +30,14 @@ pub use desc::{
     ClassDesc, ClassId, EnumDesc, EnumId, MetaDesc, OppDesc, Prop, PropDesc, PropId, PropType,
 };
 pub use fault::{MetaError, MetaFault, MetaKind};
+pub use laws::{first_fault_stands, well_where_no_fault};
 pub use limits::{
     MAX_CALLS, MAX_CLASSES, MAX_DEPTH, MAX_ENUMS, MAX_FILE, MAX_LITERALS, MAX_NESTING, MAX_OBJECTS,
     MAX_PROPS, MAX_RESULT, MAX_SCRIPT, MAX_XMI_NESTING,
 };
 pub use memory::NoMemory;
 pub use meta::MetaModel;
+pub use name_table::NameTable;
 pub use names::{is_identifier, is_storable};
 pub use seq::Seq;
 pub use span::Span;

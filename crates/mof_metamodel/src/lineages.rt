@@ -2,52 +2,104 @@
 //!
 //! They are found in rounds. A round finds the order of each class whose superclasses' orders were found in earlier
 //! rounds, so there are at most as many rounds as there are classes, and no more once a round finds none. What remains
-//! without an order reaches a circle of superclasses. A round looks at each written superclass of the classes without an
-//! order, and an order is made once, from those of the superclasses: at most the number of classes for each written superclass.
-ghost use Rattle.std.specs.Prelude.{◌≡◌, ◌≢◌, ℕ, ◌<◌, [], length, map, All, IfOk, OnOk, IsTrue, None};
+//! without an order reaches a circle of superclasses. Each written superclass is looked at once, until its order is there,
+//! and a round looks once at each class. An order is made once, when all that it is made of are there; the order of a
+//! superclass that stands in it already is passed over, and each other one is read once.
+ghost use Rattle.std.specs.Prelude.{◌≡◌, ◌≢◌, ℕ, ◌<◌, [], length, map, nat_eq, All, IfOk, OnOk, IsTrue, None, false};
 ghost use Rattle.std.specs.Option.{option_map, option_or, is_some};
-ghost use Rattle.std.specs.List.{list_any};
-ghost use Rattle.mof_metamodel.specs.Metamodels.{class_count, supers_of, joined, all_joined, with_item};
-ghost use Rattle.mof_metamodel.specs.Tables.{class_numbers, lines, line, line_at, AreLines, table, new_line, later_line};
+ghost use Rattle.std.specs.List.{list_any, list_all};
+ghost use Rattle.mof_metamodel.specs.Metamodels.{class_count, supers_of, joined, all_joined, with_item, lineage_of};
+ghost use Rattle.mof_metamodel.specs.Tables.{class_numbers, lines, line, line_at, AreLines, table, new_line, later_line, lineage_in, AreBelow, AreAmong, AreMarks, AreClosed, ReachesOver};
 
+use crate::closure::{Rows, classes_in, closure};
 use crate::desc::ClassId;
 use crate::hierarchy::Hierarchy;
 use crate::memory::NoMemory;
+use crate::seq::Seq;
 use indexmap::IndexSet;
 use std::alloc::Global;
 
 /// The order of a class, where it was found.
 pub(crate) type Line = Option<IndexSet<u32>>;
 
-/// Adds the classes of an order, each at its first place.
-fn join(joint: &mut IndexSet<u32>, order: &IndexSet<u32>) -> Result<(), NoMemory>
-    ensures { OnOk result (joint.new.keys ≡ joined joint.old.keys order.now.keys) }
+/// Adds the classes of an order, each at its first place. The classes that are there are marked.
+fn join(
+    joint: &mut IndexSet<u32>,
+    marks: &mut [bool],
+    order: &IndexSet<u32>,
+) -> Result<(), NoMemory>
+    requires within { AreBelow (length marks.old) order.now.keys }
+    requires marks { AreMarks marks.old joint.old.keys }
+    ensures keys { OnOk result (joint.new.keys ≡ joined joint.old.keys order.now.keys) }
+    ensures marks { OnOk result (AreMarks marks.new joint.new.keys) }
 {
     for c in order.as_slice() {
-        joint.insert(*c)?;
+        if !marks[*c as usize] {
+            marks[*c as usize] = true;
+            joint.insert(*c)?;
+        }
     }
     Ok(())
 }
 
+/// Adds the order of a class, unless the class is there.
+fn join_one(
+    joint: &mut IndexSet<u32>,
+    marks: &mut [bool],
+    order: &IndexSet<u32>,
+    c: u32,
+) -> Result<(), NoMemory>
+    requires class { c < length marks.old }
+    requires within { AreBelow (length marks.old) order.now.keys }
+    requires there { IsTrue (list_any (nat_eq c) joint.old.keys) → AreAmong order.now.keys joint.old.keys }
+    requires marks { AreMarks marks.old joint.old.keys }
+    ensures keys { OnOk result (joint.new.keys ≡ joined joint.old.keys order.now.keys) }
+    ensures marks { OnOk result (AreMarks marks.new joint.new.keys) }
+{
+    if marks[c as usize] {
+        return Ok(());
+    }
+    join(joint, marks, order)
+}
+
 /// The joint order of superclasses, where each has one.
 fn join_all(alloc: Global, orders: &[Line], supers: &[ClassId]) -> Result<Line, NoMemory>
-    requires { All (λ c. c.0 < length orders.now) supers.now }
+    requires within { All (λ c. c.0 < length orders.now) supers.now }
+    requires orders { AreClosed orders.now }
     ensures { IfOk result (λ o. line o ≡ all_joined [] (map (line_at orders.now) (class_numbers supers.now))) }
 {
     let mut joint = IndexSet::new(alloc);
+    let mut marks = Vec::new(alloc);
+    marks.resize(orders.len(), false)?;
     for c in supers {
         match &orders[c.0 as usize] {
-            Some(order) => join(&mut joint, order)?,
+            Some(order) => join_one(&mut joint, marks.as_mut_slice(), order, c.0)?,
             None => return Ok(None),
         }
     }
     Ok(Some(joint))
 }
 
+/// How many superclasses in a row have orders, where so many are known to have them.
+fn found_first(orders: &[Line], supers: &[ClassId], known: usize) -> usize
+    requires { All (λ c. c.0 < length orders.now) supers.now }
+    ensures { result < length supers.now → all_joined [] (map (line_at orders.now) (class_numbers supers.now)) ≡ None }
+{
+    let mut next = known;
+    while next < supers.len() {
+        if orders[supers[next].0 as usize].is_none() {
+            return next;
+        }
+        next += 1;
+    }
+    next
+}
+
 /// The order of a class, where those of its superclasses are found.
 fn line_of(alloc: Global, hierarchy: &Hierarchy, orders: &[Line], c: u32) -> Result<Line, NoMemory>
     requires class { c < class_count hierarchy.now }
     requires rows { length orders.now ≡ class_count hierarchy.now }
+    requires orders { AreClosed orders.now }
     ensures { IfOk result (λ o. line o ≡ new_line hierarchy.now orders.now c) }
 {
     match join_all(alloc, orders, hierarchy.supers(c))? {
@@ -59,31 +111,45 @@ fn line_of(alloc: Global, hierarchy: &Hierarchy, orders: &[Line], c: u32) -> Res
     }
 }
 
-/// The order that a round finds for a class: none, where it had one.
+/// The order that a round finds for a class: none, where it had one. So many of its superclasses are known to have orders.
 fn later_line_of(
     alloc: Global,
     hierarchy: &Hierarchy,
     orders: &[Line],
+    known: &mut usize,
     c: u32,
 ) -> Result<Line, NoMemory>
     requires class { c < class_count hierarchy.now }
     requires rows { length orders.now ≡ class_count hierarchy.now }
+    requires orders { AreClosed orders.now }
     ensures { IfOk result (λ o. line o ≡ later_line hierarchy.now orders.now c) }
 {
-    match &orders[c as usize] {
-        Some(_) => Ok(None),
-        None => line_of(alloc, hierarchy, orders, c),
+    if orders[c as usize].is_some() {
+        return Ok(None);
     }
+    let supers = hierarchy.supers(c);
+    *known = found_first(orders, supers, *known);
+    if *known < supers.len() {
+        return Ok(None);
+    }
+    line_of(alloc, hierarchy, orders, c)
 }
 
 /// The orders that a round finds: of classes that had none.
-fn next_lines(alloc: Global, hierarchy: &Hierarchy, orders: &[Line]) -> Result<Vec<Line>, NoMemory>
-    requires { length orders.now ≡ class_count hierarchy.now }
+fn next_lines(
+    alloc: Global,
+    hierarchy: &Hierarchy,
+    orders: &[Line],
+    known: &mut [usize],
+) -> Result<Vec<Line>, NoMemory>
+    requires rows { length orders.now ≡ class_count hierarchy.now }
+    requires known { length known.old ≡ class_count hierarchy.now }
+    requires orders { AreClosed orders.now }
     ensures { IfOk result (λ found. lines found.items ≡ table (later_line hierarchy.now orders.now) (class_count hierarchy.now)) }
 {
     let mut found = Vec::new(alloc);
     for c in 0..hierarchy.named().class_count() {
-        let order = later_line_of(alloc, hierarchy, orders, c)?;
+        let order = later_line_of(alloc, hierarchy, orders, &mut known[c as usize], c)?;
         found.push(order)?;
     }
     Ok(found)
@@ -119,6 +185,13 @@ fn has_line(found: &[Line]) -> bool
     found.iter().any(|order| order.is_some())
 }
 
+/// Whether each class has an order.
+pub(crate) fn all_found(lines: &[Line]) -> bool
+    ensures { result ≡ list_all (λ o. is_some o) lines.now }
+{
+    lines.iter().all(|line| line.is_some())
+}
+
 /// No order for any class.
 fn no_lines(alloc: Global, count: u32) -> Result<Vec<Line>, NoMemory>
     ensures { IfOk result (λ none. lines none.items ≡ table (λ _. None) count) }
@@ -136,12 +209,64 @@ pub(crate) fn all_lines(alloc: Global, hierarchy: &Hierarchy) -> Result<Vec<Line
 {
     let count = hierarchy.named().class_count();
     let mut orders = no_lines(alloc, count)?;
+    let mut known = Vec::new(alloc);
+    known.resize(count as usize, 0usize)?;
     for _round in 0..count {
-        let mut found = next_lines(alloc, hierarchy, orders.as_slice())?;
+        let mut found = next_lines(alloc, hierarchy, orders.as_slice(), known.as_mut_slice())?;
         if !has_line(found.as_slice()) {
             return Ok(orders);
         }
         put_lines(orders.as_mut_slice(), found.as_mut_slice());
     }
     Ok(orders)
+}
+
+/// The rows of a description, where a class has no order.
+fn rows_beside(alloc: Global, hierarchy: &Hierarchy, lines: &[Line]) -> Result<Rows, NoMemory>
+    ensures { IfOk result (λ rows. list_all (λ o. is_some o) lines.now ≡ false → ReachesOver hierarchy.now (class_count hierarchy.now) rows.items) }
+{
+    if all_found(lines) {
+        return Ok(Vec::new(alloc));
+    }
+    closure(alloc, hierarchy)
+}
+
+/// The class and those that it inherits from, by its order, or by its row where it has none.
+fn lineage(
+    alloc: Global,
+    hierarchy: &Hierarchy,
+    line: &Line,
+    rows: &[Vec<bool>],
+    c: u32,
+) -> Result<Seq<u32>, NoMemory>
+    requires class { c < class_count hierarchy.now }
+    requires rows { line.now ≡ None → ReachesOver hierarchy.now (class_count hierarchy.now) rows.now }
+    ensures { IfOk result (λ classes. classes ≡ lineage_in hierarchy.now line.now c) }
+{
+    match line {
+        Some(order) => Seq::from_slice(alloc, order.as_slice()),
+        None => classes_in(
+            alloc,
+            rows[c as usize].as_slice(),
+            hierarchy.named().class_count(),
+        ),
+    }
+}
+
+/// The same of each class.
+pub(crate) fn all_lineages(
+    alloc: Global,
+    hierarchy: &Hierarchy,
+    lines: &[Line],
+) -> Result<Vec<Seq<u32>>, NoMemory>
+    requires { AreLines hierarchy.now (class_count hierarchy.now) lines.now }
+    ensures { IfOk result (λ lineages. lineages.items ≡ table (lineage_of hierarchy.now) (class_count hierarchy.now)) }
+{
+    let rows = rows_beside(alloc, hierarchy, lines)?;
+    let mut lineages = Vec::new(alloc);
+    for c in 0..hierarchy.named().class_count() {
+        let classes = lineage(alloc, hierarchy, &lines[c as usize], rows.as_slice(), c)?;
+        lineages.push(classes)?;
+    }
+    Ok(lineages)
 }

@@ -1,6 +1,7 @@
-ghost use Rattle.std.specs.Prelude.{nat_eq, position, ◌≡◌, ◌<◌, ◌++◌, ◌↔◌, All, chars, IsTrue, IfOk, IfErr, IfSome, OnOk, IsOkUnless, MatchOption, MatchResult, None};
+ghost use Rattle.std.specs.Prelude.{length, nat_eq, position, ◌≡◌, ◌<◌, ◌++◌, ◌↔◌, All, chars, IsTrue, IfOk, IfErr, IfSome, OnOk, IsOkUnless, MatchOption, MatchResult, None};
 ghost use Rattle.std.specs.Option.{option_map};
-ghost use Rattle.mof_metamodel.specs.MetaFaults.{WellMeta, IsRefusal, PassesNames, PassesCycles, IsAcyclic, IsFirstCircular, IsFaultOf};
+ghost use Rattle.mof_metamodel.specs.WellMeta.{WellMeta, IsAcyclic};
+ghost use Rattle.mof_metamodel.specs.MetaFaults.{IsSearchedWell, IsRefusal, PassesNames, PassesCycles, IsFirstCircular, IsFaultOf};
 
 use crate::checks::{first_bad_bounds, first_bad_name, is_within_limits};
 use crate::circles::first_circle;
@@ -21,9 +22,10 @@ use std::marker::Model;
 ///
 /// Contracts see it as its description. Classes, properties and enumerations go by their numbers, and a reading call asks
 /// that a number is of this metamodel. The tables take room for each class and each class that it inherits from, and for
-/// each property of each class, inherited ones included. Making them takes time for each of these, and for each written
-/// superclass at most as much as there are classes.
-#[derive(Debug, Drop)]
+/// each property of each class, inherited ones included. Making them takes time for each of these; for each written
+/// superclass a look-up of its name, and a look at each class of its order where the order before it lacks the superclass;
+/// and for each two classes, where superclasses stand in circles, a look at each class.
+#[derive(Drop)]
 pub struct MetaModel {
     ordered: Ordered,
     props: Seq<Prop>,
@@ -102,7 +104,7 @@ fn check_order(alloc: Global, ordered: &Ordered) -> Result<(), MetaError>
 /// Refuses a description for the bounds or the opposite of a property.
 fn check_props(alloc: Global, ordered: &Ordered) -> Result<(), MetaError>
     requires { PassesCycles ordered.now }
-    ensures ok { OnOk result (WellMeta ordered.now) }
+    ensures ok { OnOk result (IsSearchedWell ordered.now) }
     ensures fault { IfErr result (IsRefusal ordered.now) }
 {
     let named = ordered.named();
@@ -115,8 +117,10 @@ fn check_props(alloc: Global, ordered: &Ordered) -> Result<(), MetaError>
 }
 
 impl MetaModel {
-    ghost use Rattle.mof_metamodel.specs.Metamodels.{class_count, class_number, class_at, enum_count, enum_number, enum_at, supers_of, Conforms, prop_count, props_of, inherited_props, own_props, prop_number, prop_at, opposite_of, IsProp};
-    ghost use Rattle.mof_metamodel.specs.Tables.{class_numbers, prop_numbers, IsClassOf, IsPropOf};
+    ghost use Rattle.mof_metamodel.specs.Metamodels.{class_count, class_number, class_at, enum_count, enum_number, enum_at, literal_at, literal_number, supers_of, Conforms, prop_count, props_of, inherited_props, own_props, prop_number, prop_at, opposite_of, IsProp};
+    ghost use Rattle.mof_metamodel.specs.Tables.{class_numbers, prop_numbers, IsClassOf, IsPropOf, IsEnumOf};
+    ghost use Rattle.mof_metamodel.specs.WellMeta.{AreOpposites, HaveOneContainer};
+    ghost use Rattle.mof_metamodel.specs.Members.{HasWhatItConformsTo, IsPropNamed, HasNoPropNamed, HasNoLiteral};
 
     /// The metamodel of a description, or its first fault: limits come first, then names, and then the kinds of faults in
     /// the order of `MetaKind`; of one kind the first in the order of the description.
@@ -173,7 +177,8 @@ impl MetaModel {
 
     /// The enumeration of this name.
     pub fn enum_named(&self, name: &str) -> Option<EnumId>
-        ensures { option_map (λ e. e.0) result ≡ enum_number self.now (chars name.now) }
+        ensures number { option_map (λ e. e.0) result ≡ enum_number self.now (chars name.now) }
+        ensures within { IfSome result (IsEnumOf self.now) }
     {
         self.ordered.named().enum_number(name).map(EnumId)
     }
@@ -209,6 +214,7 @@ impl MetaModel {
         ensures numbers { prop_numbers result.now ≡ props_of self.now c.0 }
         ensures order { props_of self.now c.0 ≡ inherited_props self.now c.0 ++ own_props self.now c.0 }
         ensures within { All (IsPropOf self.now) result.now }
+        ensures inherited { HasWhatItConformsTo self.now c.0 }
     {
         self.ordered.props(c.0)
     }
@@ -226,6 +232,7 @@ impl MetaModel {
         requires { c.0 < class_count self.now }
         ensures number { option_map (λ p. p.0) result ≡ prop_number self.now c.0 (chars name.now) }
         ensures within { IfSome result (IsPropOf self.now) }
+        ensures named { MatchOption result (HasNoPropNamed self.now c.0 (chars name.now)) (IsPropNamed self.now c.0 (chars name.now)) }
     {
         self.ordered.prop_number(c.0, name).map(PropId)
     }
@@ -235,15 +242,28 @@ impl MetaModel {
         requires { p.0 < prop_count self.now }
         ensures { IsProp self.now p.0 result.now }
     {
+        self.resolved(p)
+    }
+
+    /// The same, of a metamodel without faults.
+    fn resolved(&self, p: PropId) -> &Prop
+        requires { p.0 < prop_count self.now }
+        ensures prop { IsProp self.now p.0 result.now }
+        ensures well { WellMeta self.now }
+    {
         &self.props.as_slice()[p.0 as usize]
     }
 
-    /// The opposite of a property (EMOF's `Property::opposite`).
+    /// The opposite of a property (EMOF's `Property::opposite`): a property whose opposite it is, and not itself. Each has
+    /// the type of the class that owns the other, and at most one is composite.
     pub fn opposite(&self, p: PropId) -> Option<PropId>
         requires { p.0 < prop_count self.now }
-        ensures { option_map (λ q. q.0) result ≡ opposite_of self.now p.0 }
+        ensures number { option_map (λ q. q.0) result ≡ opposite_of self.now p.0 }
+        ensures within { IfSome result (IsPropOf self.now) }
+        ensures pair { IfSome result (λ q. AreOpposites self.now p.0 q.0) }
+        ensures container { IfSome result (λ q. HaveOneContainer self.now p.0 q.0) }
     {
-        self.prop(p).opposite
+        self.resolved(p).opposite
     }
 
     /// The lower and the upper bound of a property. An upper bound of `None` is unbounded.
@@ -262,6 +282,16 @@ impl MetaModel {
         ensures { result.now ≡ (enum_at self.now e.0).literals }
     {
         self.ordered.named().enumeration(e.0).literals.as_slice()
+    }
+
+    /// The literal of this name of an enumeration: its place in `literals(e)`. By hashing.
+    pub fn literal_named(&self, e: EnumId, name: &str) -> Option<u32>
+        requires { e.0 < enum_count self.now }
+        ensures number { result ≡ literal_number self.now e.0 (chars name.now) }
+        ensures within { IfSome result (λ l. l < length (enum_at self.now e.0).literals) }
+        ensures named { MatchOption result (HasNoLiteral self.now e.0 (chars name.now)) (λ l. literal_at self.now e.0 l ≡ chars name.now) }
+    {
+        self.ordered.named().literal_number(e.0, name)
     }
 
     /// The name of an enumeration.

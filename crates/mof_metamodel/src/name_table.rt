@@ -1,54 +1,107 @@
-ghost use Rattle.std.specs.Prelude.{◌≡◌, [], OnOk, chars};
+ghost use Rattle.std.specs.Prelude.{◌≡◌, ◌<◌, [], length, is_some, false, OnOk, OnErr, IfSome, chars};
+ghost use Rattle.std.specs.Option.{option_map};
 
 use crate::memory::NoMemory;
 use crate::text::Text;
 use indexmap::IndexMap;
 use std::alloc::Global;
+use std::hash::{BuildHasherDefault, DefaultHasher};
 use std::marker::Model;
 
-/// Names with numbers, found by hashing. Contracts see it as the list of the names, each with its number, in the order
-/// in which they came.
-#[derive(Debug, Drop)]
-pub(crate) struct NameTable {
-    numbers: IndexMap<String, u32>,
+/// Names with what they stand for, in the order in which they came. Contracts see it as that list.
+///
+/// Names are found by hashing: by `DefaultHasher`, whose answers who chooses the names can't tell beforehand, so that
+/// no choice of names makes a look-up slow.
+#[derive(Drop)]
+pub struct NameTable<V> {
+    entries: IndexMap<String, V, BuildHasherDefault<DefaultHasher>>,
 }
 
-impl Model for NameTable {
+impl<V> Model for NameTable<V> {
     ghost use Rattle.std.specs.Prelude.{ℕ, List, map, chars, string_bytes};
 
-    ghost Value = { List (List ℕ × ℕ) };
+    ghost Value = { List (List ℕ × V) };
 
-    ghost view = { λ t. map (λ e. (chars (string_bytes e.0), e.1)) t.numbers.entries };
+    ghost view = { λ t. map (λ e. (chars (string_bytes e.0), e.1)) t.entries.entries };
 }
 
-impl NameTable {
-    ghost use Rattle.mof_metamodel.specs.Tables.{number_in, with_name};
+impl<V> NameTable<V> {
+    ghost use Rattle.mof_metamodel.specs.NameTables.{number_of, value_of};
 
-    /// A table without names.
-    pub(crate) fn new(alloc: Global) -> NameTable
+    /// No names.
+    pub fn new(alloc: Global) -> NameTable<V>
         ensures { result ≡ [] }
     {
         NameTable {
-            numbers: IndexMap::new(alloc),
+            entries: IndexMap::with_hasher(alloc, BuildHasherDefault::default()),
         }
     }
+
+    /// How many names there are.
+    pub fn len(&self) -> usize
+        ensures { result ≡ length self.now }
+    {
+        self.entries.len()
+    }
+
+    /// Whether a name is there.
+    pub fn contains(&self, name: &Text) -> bool
+        ensures { result ≡ is_some (value_of self.now name.now) }
+    {
+        self.entries.contains_key(name.as_str())
+    }
+
+    /// What a name stands for.
+    pub fn get(&self, name: &str) -> Option<&V>
+        ensures { option_map (λ v. v.now) result ≡ value_of self.now (chars name.now) }
+    {
+        self.entries.get(name)
+    }
+
+    /// Where a name stands among the names, from 0, and what it stands for.
+    pub fn find(&self, name: &Text) -> Option<(usize, &V)>
+        ensures number { option_map (λ p. p.0) result ≡ number_of self.now name.now }
+        ensures value { option_map (λ p. p.1.now) result ≡ value_of self.now name.now }
+        ensures within { IfSome result (λ p. p.0 < length self.now) }
+    {
+        match self.entries.get_full(name.as_str()) {
+            Some((number, _, value)) => Some((number, value)),
+            None => None,
+        }
+    }
+}
+
+impl<V: Drop> NameTable<V> {
+    ghost use Rattle.mof_metamodel.specs.NameTables.{value_of, with_value};
+
+    /// Adds a name behind the others. After `NoMemory` the names are as they were.
+    pub fn put(&mut self, name: Text, value: V) -> Result<(), NoMemory>
+        requires { is_some (value_of self.old name) ≡ false }
+        ensures ok { OnOk result (self.new ≡ with_value self.old name value) }
+        ensures err { OnErr result (self.new ≡ self.old) }
+    {
+        self.entries.insert(name.into_string(), value)?;
+        Ok(())
+    }
+}
+
+impl NameTable<u32> {
+    ghost use Rattle.mof_metamodel.specs.Tables.{number_in, with_name};
 
     /// The number of a name.
     pub(crate) fn number(&self, name: &str) -> Option<u32>
         ensures { result ≡ number_in self.now (chars name.now) }
     {
-        self.numbers.get(name).copied()
+        self.get(name).copied()
     }
 
     /// Adds a name with its number, unless the name is there.
     pub(crate) fn add(&mut self, alloc: Global, name: &Text, number: u32) -> Result<(), NoMemory>
         ensures { OnOk result (self.new ≡ with_name self.old name.now number) }
     {
-        if self.numbers.contains_key(name.as_str()) {
+        if self.contains(name) {
             return Ok(());
         }
-        let key = String::from_str(alloc, name.as_str())?;
-        self.numbers.insert(key, number)?;
-        Ok(())
+        self.put(name.duplicate(alloc)?, number)
     }
 }

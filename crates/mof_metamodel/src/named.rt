@@ -4,12 +4,14 @@ use crate::desc::{ClassDesc, ClassId, EnumDesc, EnumId, MetaDesc, PropDesc, Prop
 use crate::memory::NoMemory;
 use crate::name_table::NameTable;
 use crate::names::is_named;
-use crate::numbering::{class_names, enum_names, first_numbers, own_names, prop_places};
+use crate::numbering::{
+    class_names, enum_names, first_numbers, literal_names, own_names, prop_places,
+};
 use std::alloc::Global;
 use std::marker::Model;
 
 /// The place of a property: its class, and its index in it.
-#[derive(Clone, Copy, Debug)]
+#[derive(Clone, Copy)]
 pub(crate) struct Place {
     pub(crate) class: u32,
     pub(crate) index: u32,
@@ -17,12 +19,13 @@ pub(crate) struct Place {
 
 /// A description within the limits, with tables of its names and of the places of its properties. Contracts see it as the
 /// description.
-#[derive(Debug, Drop)]
+#[derive(Drop)]
 pub(crate) struct Named {
     desc: MetaDesc,
-    classes: NameTable,
-    enums: NameTable,
-    own: Vec<NameTable>,
+    classes: NameTable<u32>,
+    enums: NameTable<u32>,
+    own: Vec<NameTable<u32>>,
+    literals: Vec<NameTable<u32>>,
     firsts: Vec<u32>,
     places: Vec<Place>,
 }
@@ -35,11 +38,11 @@ impl Model for Named {
 
     ghost view = { λ m. m.desc };
 
-    ghost invariant = { λ m. IsNamed m.desc m.classes m.enums m.own.items m.firsts.items m.places.items };
+    ghost invariant = { λ m. IsNamed m.desc m.classes m.enums m.own.items m.literals.items m.firsts.items m.places.items };
 }
 
 impl Named {
-    ghost use Rattle.mof_metamodel.specs.Metamodels.{class_count, class_number, class_at, enum_count, enum_at, enum_number, prop_count, first_own, own_number, owner_of, prop_at, declared_type, type_named};
+    ghost use Rattle.mof_metamodel.specs.Metamodels.{class_count, class_number, class_at, enum_count, enum_at, enum_number, prop_count, first_own, own_number, literal_number, owner_of, prop_at, declared_type, type_named, IsTypeOf};
     ghost use Rattle.mof_metamodel.specs.MetaFaults.{is_within_limits};
 
     /// The tables of a description.
@@ -50,6 +53,7 @@ impl Named {
         let classes = class_names(alloc, desc.classes.as_slice())?;
         let enums = enum_names(alloc, desc.enums.as_slice())?;
         let own = own_names(alloc, &desc)?;
+        let literals = literal_names(alloc, &desc)?;
         let firsts = first_numbers(alloc, &desc)?;
         let places = prop_places(alloc, &desc)?;
         Ok(Named {
@@ -57,6 +61,7 @@ impl Named {
             classes,
             enums,
             own,
+            literals,
             firsts,
             places,
         })
@@ -108,7 +113,8 @@ impl Named {
 
     /// The number of the enumeration of this name.
     pub(crate) fn enum_number(&self, name: &str) -> Option<u32>
-        ensures { result ≡ enum_number self.now (chars name.now) }
+        ensures number { result ≡ enum_number self.now (chars name.now) }
+        ensures within { IfSome result (λ e. e < enum_count self.now) }
     {
         self.enums.number(name)
     }
@@ -140,6 +146,14 @@ impl Named {
         Some(self.first_own(c) + index)
     }
 
+    /// The number of the literal of this name of an enumeration.
+    pub(crate) fn literal_number(&self, e: u32, name: &str) -> Option<u32>
+        requires { e < enum_count self.now }
+        ensures { result ≡ literal_number self.now e (chars name.now) }
+    {
+        self.literals[e as usize].number(name)
+    }
+
     /// The class that owns a property.
     pub(crate) fn owner(&self, p: u32) -> u32
         requires { p < prop_count self.now }
@@ -161,7 +175,8 @@ impl Named {
     /// The type of this name: a primitive, or else an enumeration, or else a class.
     #[tactic(auto, using(crate::proofs::NameLemmas::string_characters, crate::proofs::NameLemmas::integer_characters, crate::proofs::NameLemmas::boolean_characters))]
     pub(crate) fn type_named(&self, name: &str) -> Option<PropType>
-        ensures { result ≡ type_named self.now (chars name.now) }
+        ensures named { result ≡ type_named self.now (chars name.now) }
+        ensures within { IfSome result (IsTypeOf self.now) }
     {
         if is_named(name, "String") {
             Some(PropType::Str)
@@ -176,7 +191,8 @@ impl Named {
 
     /// The enumeration, or else the class, of this name.
     fn declared_type(&self, name: &str) -> Option<PropType>
-        ensures { result ≡ declared_type self.now (chars name.now) }
+        ensures named { result ≡ declared_type self.now (chars name.now) }
+        ensures within { IfSome result (IsTypeOf self.now) }
     {
         match self.enum_number(name) {
             Some(e) => Some(PropType::Enum(EnumId(e))),

@@ -1,5 +1,6 @@
 ghost use Rattle.mof_metamodel.specs.Metamodels.{same_name, is_primitive as primitive};
-ghost use Rattle.mof_metamodel.specs.MetaFaults.{is_digit as digit, is_name_character as name_character, begins_with_digit as begins, is_name as name_text, is_prop_name as prop_name_text, qualified as qualified_text, is_number as same_number};
+ghost use Rattle.mof_metamodel.specs.WellMeta.{is_digit as digit, is_name_character as name_character, begins_with_digit as begins, is_name as name_text, is_prop_name as prop_name_text};
+ghost use Rattle.mof_metamodel.specs.MetaFaults.{qualified as qualified_text, is_number as same_number};
 ghost use Rattle.std.specs.Prelude.{◌≡◌, IfOk, ◌==◌, not, length, chars};
 ghost use Rattle.std.specs.List.{list_any, list_all};
 ghost use Rattle.mof_metamodel.specs.Characters.{is_storable_text, is_identifier_text, is_storable_character as stored, is_blank as blank};

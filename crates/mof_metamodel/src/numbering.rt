@@ -3,16 +3,17 @@ ghost use Rattle.std.specs.Prelude.{◌≡◌, ◌<◌, ◌^◌, ◌++◌, lengt
 ghost use Rattle.std.specs.List.{range_with_len};
 ghost use Rattle.mof_metamodel.specs.Metamodels.{class_count, first_own, declared_props};
 ghost use Rattle.mof_metamodel.specs.MetaFaults.{is_within_limits};
-ghost use Rattle.mof_metamodel.specs.Tables.{Numbers, OwnNames, IsPlace, table, placed, place_in};
+ghost use Rattle.mof_metamodel.specs.Tables.{Numbers, OwnNames, LiteralNames, IsPlace, table, placed, place_in};
 
 use crate::desc::{ClassDesc, EnumDesc, MetaDesc, PropDesc};
 use crate::memory::NoMemory;
 use crate::name_table::NameTable;
 use crate::named::Place;
+use crate::text::Text;
 use std::alloc::Global;
 
 /// The names of classes.
-pub(crate) fn class_names(alloc: Global, classes: &[ClassDesc]) -> Result<NameTable, NoMemory>
+pub(crate) fn class_names(alloc: Global, classes: &[ClassDesc]) -> Result<NameTable<u32>, NoMemory>
     requires { length classes.now < 2 ^ 32 }
     ensures { IfOk result (Numbers (λ c. c.name) classes.now) }
 {
@@ -24,7 +25,7 @@ pub(crate) fn class_names(alloc: Global, classes: &[ClassDesc]) -> Result<NameTa
 }
 
 /// The names of enumerations.
-pub(crate) fn enum_names(alloc: Global, enums: &[EnumDesc]) -> Result<NameTable, NoMemory>
+pub(crate) fn enum_names(alloc: Global, enums: &[EnumDesc]) -> Result<NameTable<u32>, NoMemory>
     requires { length enums.now < 2 ^ 32 }
     ensures { IfOk result (Numbers (λ e. e.name) enums.now) }
 {
@@ -36,7 +37,7 @@ pub(crate) fn enum_names(alloc: Global, enums: &[EnumDesc]) -> Result<NameTable,
 }
 
 /// The names of the properties that a class owns.
-fn prop_names(alloc: Global, props: &[PropDesc]) -> Result<NameTable, NoMemory>
+fn prop_names(alloc: Global, props: &[PropDesc]) -> Result<NameTable<u32>, NoMemory>
     requires { length props.now < 2 ^ 32 }
     ensures { IfOk result (Numbers (λ p. p.name) props.now) }
 {
@@ -48,7 +49,7 @@ fn prop_names(alloc: Global, props: &[PropDesc]) -> Result<NameTable, NoMemory>
 }
 
 /// For each class the names of the properties that it owns.
-pub(crate) fn own_names(alloc: Global, desc: &MetaDesc) -> Result<Vec<NameTable>, NoMemory>
+pub(crate) fn own_names(alloc: Global, desc: &MetaDesc) -> Result<Vec<NameTable<u32>>, NoMemory>
     requires { IsTrue (is_within_limits desc.now) }
     ensures { IfOk result (λ own. OwnNames desc.now own.items) }
 {
@@ -58,6 +59,31 @@ pub(crate) fn own_names(alloc: Global, desc: &MetaDesc) -> Result<Vec<NameTable>
         own.push(names)?;
     }
     Ok(own)
+}
+
+/// The names of an enumeration's literals.
+fn names_of_literals(alloc: Global, literals: &[Text]) -> Result<NameTable<u32>, NoMemory>
+    requires { length literals.now < 2 ^ 32 }
+    ensures { IfOk result (Numbers (λ l. l) literals.now) }
+{
+    let mut names = NameTable::new(alloc);
+    for (i, literal) in literals.iter().enumerate() {
+        names.add(alloc, literal, i as u32)?;
+    }
+    Ok(names)
+}
+
+/// For each enumeration the names of its literals.
+pub(crate) fn literal_names(alloc: Global, desc: &MetaDesc) -> Result<Vec<NameTable<u32>>, NoMemory>
+    requires { IsTrue (is_within_limits desc.now) }
+    ensures { IfOk result (λ literals. LiteralNames desc.now literals.items) }
+{
+    let mut literals = Vec::new(alloc);
+    for one in desc.enums.as_slice() {
+        let names = names_of_literals(alloc, one.literals.as_slice())?;
+        literals.push(names)?;
+    }
+    Ok(literals)
 }
 
 /// For each class the number of the first property that it owns.

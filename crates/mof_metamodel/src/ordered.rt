@@ -1,11 +1,11 @@
 ghost use Rattle.std.specs.Prelude.{nat_eq, position, ◌≡◌, ◌<◌, ◌↔◌, ◌++◌, All, map, chars, is_some, IsTrue, IfOk, IfSome, OnOk};
-ghost use Rattle.std.specs.List.{flat_map, list_all};
+ghost use Rattle.std.specs.List.{flat_map};
 ghost use Rattle.mof_metamodel.specs.Metamodels.{class_count, prop_count, own_props, own_number, first_found, props_of, lineage_of};
-ghost use Rattle.mof_metamodel.specs.Tables.{prop_numbers, lineage_in, table, AreLines, starts_of};
+ghost use Rattle.mof_metamodel.specs.Tables.{prop_numbers, table, starts_of};
 
 use crate::desc::PropId;
 use crate::hierarchy::Hierarchy;
-use crate::lineages::{Line, all_lines};
+use crate::lineages::{Line, all_found, all_lineages, all_lines};
 use crate::memory::NoMemory;
 use crate::named::Named;
 use crate::seq::Seq;
@@ -14,7 +14,7 @@ use std::alloc::Global;
 use std::marker::Model;
 
 /// A description with its class orders, and the properties of each class in class order. Contracts see it as the description.
-#[derive(Debug, Drop)]
+#[derive(Drop)]
 pub(crate) struct Ordered {
     hierarchy: Hierarchy,
     lines: Vec<Line>,
@@ -42,10 +42,10 @@ impl Ordered {
         ensures { IfOk result (λ o. o ≡ hierarchy) }
     {
         let lines = all_lines(alloc, &hierarchy)?;
+        let lineages = all_lineages(alloc, &hierarchy, lines.as_slice())?;
         let named = hierarchy.named();
-        let found = lines.as_slice();
-        let orders = prop_orders(alloc, named, found)?;
-        let starts = prop_starts(alloc, named, found, orders.as_slice())?;
+        let orders = prop_orders(alloc, named, lineages.as_slice())?;
+        let starts = prop_starts(alloc, named, lineages.as_slice(), orders.as_slice())?;
         Ok(Ordered {
             hierarchy,
             lines,
@@ -127,13 +127,6 @@ impl Ordered {
     }
 }
 
-/// Whether each class has an order.
-fn all_found(lines: &[Line]) -> bool
-    ensures { result ≡ list_all (λ o. is_some o) lines.now }
-{
-    lines.iter().all(|line| line.is_some())
-}
-
 /// The first property of this name that one of the classes owns.
 fn first_own_of(named: &Named, classes: &[u32], name: &str) -> Option<u32>
     requires { All (λ a. a < class_count named.now) classes.now }
@@ -174,26 +167,18 @@ fn props_in(alloc: Global, named: &Named, classes: &[u32]) -> Result<Seq<PropId>
     Ok(order)
 }
 
-/// The properties of a class in class order. A class without a class order has its own alone.
-fn prop_order(alloc: Global, named: &Named, line: &Line, c: u32) -> Result<Seq<PropId>, NoMemory>
-    requires class { c < class_count named.now }
-    requires within { All (λ a. a < class_count named.now) (lineage_in line.now c) }
-    ensures { IfOk result (λ order. prop_numbers order ≡ flat_map (own_props named.now) (lineage_in line.now c)) }
-{
-    match line {
-        Some(classes) => props_in(alloc, named, classes.as_slice()),
-        None => props_in(alloc, named, &[c]),
-    }
-}
-
 /// The properties of each class in class order.
-fn prop_orders(alloc: Global, named: &Named, lines: &[Line]) -> Result<Vec<Seq<PropId>>, NoMemory>
-    requires { AreLines named.now (class_count named.now) lines.now }
+fn prop_orders(
+    alloc: Global,
+    named: &Named,
+    lineages: &[Seq<u32>],
+) -> Result<Vec<Seq<PropId>>, NoMemory>
+    requires { lineages.now ≡ table (lineage_of named.now) (class_count named.now) }
     ensures { IfOk result (λ orders. map prop_numbers orders.items ≡ table (props_of named.now) (class_count named.now)) }
 {
     let mut orders = Vec::new(alloc);
     for c in 0..named.class_count() {
-        let order = prop_order(alloc, named, &lines[c as usize], c)?;
+        let order = props_in(alloc, named, lineages[c as usize].as_slice())?;
         orders.push(order)?;
     }
     Ok(orders)
@@ -220,40 +205,21 @@ fn starts_in(
     Ok(starts)
 }
 
-/// The same of a class, by its class order.
-fn start_order(
-    alloc: Global,
-    named: &Named,
-    line: &Line,
-    c: u32,
-    order: &Seq<PropId>,
-) -> Result<Seq<usize>, NoMemory>
-    requires class { c < class_count named.now }
-    requires within { All (λ a. a < class_count named.now) (lineage_in line.now c) }
-    requires order { prop_numbers order.now ≡ flat_map (own_props named.now) (lineage_in line.now c) }
-    ensures { IfOk result (λ starts. starts ≡ starts_of named.now (lineage_in line.now c)) }
-{
-    match line {
-        Some(classes) => starts_in(alloc, named, classes.as_slice(), order),
-        None => starts_in(alloc, named, &[c], order),
-    }
-}
-
 /// The same of each class.
 fn prop_starts(
     alloc: Global,
     named: &Named,
-    lines: &[Line],
+    lineages: &[Seq<u32>],
     orders: &[Seq<PropId>],
 ) -> Result<Vec<Seq<usize>>, NoMemory>
-    requires lines { AreLines named.now (class_count named.now) lines.now }
+    requires lineages { lineages.now ≡ table (lineage_of named.now) (class_count named.now) }
     requires orders { map prop_numbers orders.now ≡ table (props_of named.now) (class_count named.now) }
     ensures { IfOk result (λ starts. starts.items ≡ table (λ c. starts_of named.now (lineage_of named.now c)) (class_count named.now)) }
 {
     let mut starts = Vec::new(alloc);
     for c in 0..named.class_count() {
-        let order = &orders[c as usize];
-        let start = start_order(alloc, named, &lines[c as usize], c, order)?;
+        let classes = lineages[c as usize].as_slice();
+        let start = starts_in(alloc, named, classes, &orders[c as usize])?;
         starts.push(start)?;
     }
     Ok(starts)

@@ -2,8 +2,6 @@ ghost use Rattle.std.specs.Prelude.{◌≡◌, [], ◌∷◌, ◌++◌, length, 
 
 use crate::memory::NoMemory;
 use std::alloc::Global;
-use std::cmp::Ordering;
-use std::hash::{Hash, Hasher};
 use std::marker::Model;
 
 /// A list that grows at its end. Contracts see it as the list of its items.
@@ -95,64 +93,5 @@ impl<T: Drop> Seq<T> {
     {
         self.items.push(item)?;
         Ok(())
-    }
-}
-
-impl<T: PartialEq> PartialEq for Seq<T> {
-    ghost use Rattle.std.specs.Cmp.Lexicographic.{pointwise, lists_per};
-
-    ghost eq = { λ x y. pointwise T.eq x y };
-
-    ghost laws = { lists_per T.laws };
-
-    fn eq(&self, other: &Self) -> bool {
-        self.items == other.items
-    }
-}
-
-impl<T: Eq> Eq for Seq<T> {
-    ghost use Rattle.std.specs.Cmp.Lexicographic.{lists_equiv};
-
-    ghost laws = { lists_equiv T.Eq.laws };
-}
-
-impl<T: PartialOrd> PartialOrd for Seq<T> {
-    ghost use Rattle.std.specs.Cmp.Lexicographic.{slice_partial_cmp, lists_po};
-
-    ghost partial_cmp = { slice_partial_cmp T.partial_cmp };
-
-    ghost laws = { lists_po T.PartialOrd.laws };
-
-    fn partial_cmp(&self, other: &Self) -> Option<Ordering> {
-        self.items.partial_cmp(&other.items)
-    }
-}
-
-impl<T: Ord> Ord for Seq<T> {
-    ghost use Rattle.std.specs.Cmp.Lexicographic.{slice_cmp, lists_total, lists_agrees, lists_ties};
-
-    ghost cmp = { λ x y. slice_cmp T.cmp x y };
-
-    ghost total = { lists_total T.total };
-
-    ghost matches_partial_cmp = { lists_agrees T.matches_partial_cmp };
-
-    ghost matches_eq = { lists_ties T.cmp T.matches_eq };
-
-    fn cmp(&self, other: &Self) -> Ordering {
-        self.items.cmp(&other.items)
-    }
-}
-
-impl<T: Hash> Hash for Seq<T> {
-    ghost use Rattle.std.specs.Hash as fed;
-    ghost use Rattle.std.specs.Hash.{items_Alike};
-
-    ghost hash_input = { λ v. fed.slice T.hash_input v };
-
-    ghost respects_eq = { (items_Alike (record { fed = T.respects_eq })).fed };
-
-    fn hash<H: Hasher>(&self, state: &mut H) {
-        self.items.hash(state);
     }
 }

@@ -4,13 +4,13 @@ use Rattle.mof_metamodel.proofs.circles.first_circle.Goals as goal
 
 pub loop-c-preserved : goal.loop-c-preserved
 loop-c-preserved c =
-    below_more (λ d. IsCircular c.args.hierarchy.now d → ⊥) c.loop-c.c-counter c.loop-c.invariant
-    (λ circular. true≢false (sym ((c.in_ok-met.ensures c.loop-c.c-counter).1 circular) ∙ sym c.contains.ensures ∙ c.if-contains.false))
+    below_more (λ d. IsCircular c.args.hierarchy.now d → ⊥) c.loop-c.c c.loop-c.invariant
+    (λ circular. true≢false (sym (c.is_circular.ensures.1 circular) ∙ c.if-is_circular.false))
 
-pub returns-then-contains : goal.returns-then-contains
-returns-then-contains c = record {
+pub returns-then-is_circular : goal.returns-then-is_circular
+returns-then-is_circular c = record {
   within = let n = c.class_count-c-end.ensures ∙ ap class_count c.named.ensures in omega (arith, n);
-  circular = (c.in_ok-met.ensures c.loop-c.c-counter).0 (sym c.contains.ensures ∙ c.if-contains.true);
+  circular = c.is_circular.ensures.0 c.if-is_circular.true;
   first = c.loop-c.invariant;
 }
 

@@ -4,4 +4,4 @@ use Rattle.mof_metamodel.proofs.circles.first_circle.Given as goal
 
 -- no class so far reaches itself
 abbrev pub invariant-loop-c : goal.invariant-loop-c
-invariant-loop-c l = (d : ℕ) → d < l.c-counter → IsCircular l.hierarchy d → ⊥
+invariant-loop-c l = (d : ℕ) → d < l.c → IsCircular l.hierarchy d → ⊥

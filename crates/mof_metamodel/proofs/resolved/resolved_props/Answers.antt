@@ -2,11 +2,12 @@ use Rattle.std.proofs.Common.{◌<◌, ◌+◌, ◌∷◌, [], ℕ, List, ap, �
 use Rattle.std.specs.Prelude.{slice_index_or}
 use Rattle.mof_metamodel.specs.declared.desc.Prop.{Prop}
 use Rattle.mof_metamodel.specs.Metamodels.{IsProp}
-use Rattle.mof_metamodel.proofs.KnownLemmas.{known_at, each_more}
+use Rattle.mof_metamodel.proofs.KnownLemmas.{each_more}
+use Rattle.mof_metamodel.proofs.WellLemmas.{known_from}
 use Rattle.mof_metamodel.proofs.resolved.resolved_props.Goals as goal
 
 pub resolved_prop-requires-clause-known : goal.resolved_prop-requires-clause-known
-resolved_prop-requires-clause-known c = known_at c.args.named.now c.requires c.loop-p.p (let n = c.prop_count-p-end.ensures in omega (arith, n))
+resolved_prop-requires-clause-known c = (known_from c.args.named.now c.requires).types c.loop-p.p (let n = c.prop_count-p-end.ensures in omega (arith, n))
 
 pub loop-p-preserved : goal.loop-p-preserved
 loop-p-preserved c = (

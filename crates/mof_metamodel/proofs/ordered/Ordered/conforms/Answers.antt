@@ -20,7 +20,7 @@ returns-in-Some c =
     let P : MetaDesc → Type 0 = λ d. IsGrounded d in
     let grounded : IsGrounded c.self.inside.hierarchy = subst P (sym c.self.view_is) c.requires.grounded in
     let order : c.in-Some.line.keys ≡ lineage_of c.self.inside.hierarchy c.args.c =
-    ap (λ o. lineage_in o c.args.c) (sym c.in-Some.is)
+    ap (λ o. lineage_in c.self.inside.hierarchy o c.args.c) (sym c.in-Some.is)
     ∙ lineage_is c.self.inside.hierarchy c.self.inside.lines.items c.self.invariant.lines_are c.args.c c.index.result.now within c.index.ensures in
     let exact = conforms_exactly c.self.inside.hierarchy grounded c.args.c c.args.d within in
     let Q : MetaDesc → Type 0 = λ d. IsTrue c.contains.result ↔ Conforms d c.args.c c.args.d in

@@ -1,10 +1,15 @@
-use Rattle.std.proofs.Common.{sym, subst}
+use Rattle.std.proofs.Common.{◌≡◌, subst, map}
 use Rattle.mof_metamodel.specs.declared.desc.MetaDesc.{MetaDesc}
-use Rattle.mof_metamodel.specs.Metamodels.{class_count}
-use Rattle.mof_metamodel.specs.Tables.{AreLines}
+use Rattle.mof_metamodel.specs.Metamodels.{class_count, props_of, lineage_of}
+use Rattle.mof_metamodel.specs.Tables.{prop_numbers, table, starts_of}
 use Rattle.mof_metamodel.proofs.ordered.Ordered.new.Goals as goal
 
-pub prop_starts-requires-clause-lines : goal.prop_starts-requires-clause-lines
-prop_starts-requires-clause-lines c =
-    let P : MetaDesc → Type 0 = λ d. AreLines d (class_count d) c.as_slice-found.result.now in
-    subst P (sym c.named-named.ensures) (subst (AreLines c.args.hierarchy (class_count c.args.hierarchy)) (sym c.as_slice-found.ensures.value) c.in_ok-lines.ensures)
+pub invariant_of-result : goal.invariant_of-result
+invariant_of-result c =
+    let P : MetaDesc → Type 0 = λ d. map prop_numbers c.in_ok-orders.orders.items ≡ table (props_of d) (class_count d) in
+    let Q : MetaDesc → Type 0 = λ d. c.in_ok-starts.starts.items ≡ table (λ k. starts_of d (lineage_of d k)) (class_count d) in
+    record {
+      lines_are = c.in_ok-lines.ensures;
+      props_are = subst P c.named-named.ensures c.in_ok-orders.ensures;
+      starts_are = subst Q c.named-named.ensures c.in_ok-starts.ensures;
+    }

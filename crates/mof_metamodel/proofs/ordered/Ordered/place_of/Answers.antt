@@ -37,7 +37,7 @@ pub place_in-requires-clause-order : goal.place_in-requires-clause-order
 place_in-requires-clause-order c =
     let within : c.args.c < class_count c.self.inside.hierarchy = rw c.self.view_is c.requires.class in
     let order : c.in-Some.line.keys ≡ lineage_of c.self.inside.hierarchy c.args.c =
-    ap (λ o. lineage_in o c.args.c) (sym c.in-Some.is)
+    ap (λ o. lineage_in c.self.inside.hierarchy o c.args.c) (sym c.in-Some.is)
     ∙ lineage_is c.self.inside.hierarchy c.self.inside.lines.items c.self.invariant.lines_are c.args.c c.index.result.now within c.index.ensures in
     let P : MetaDesc → Type 0 = λ d. prop_numbers c.index-order.result.now ≡ flat_map (own_props d) c.in-Some.line.keys in
     subst P (c.self.view_is ∙ sym c.named-in-Some.ensures) (
@@ -47,7 +47,7 @@ pub place_in-requires-clause-starts : goal.place_in-requires-clause-starts
 place_in-requires-clause-starts c =
     let within : c.args.c < class_count c.self.inside.hierarchy = rw c.self.view_is c.requires.class in
     let order : c.in-Some.line.keys ≡ lineage_of c.self.inside.hierarchy c.args.c =
-    ap (λ o. lineage_in o c.args.c) (sym c.in-Some.is)
+    ap (λ o. lineage_in c.self.inside.hierarchy o c.args.c) (sym c.in-Some.is)
     ∙ lineage_is c.self.inside.hierarchy c.self.inside.lines.items c.self.invariant.lines_are c.args.c c.index.result.now within c.index.ensures in
     let P : MetaDesc → Type 0 = λ d. c.index-starts.result.now ≡ starts_of d c.in-Some.line.keys in
     subst P (c.self.view_is ∙ sym c.named-in-Some.ensures) (
@@ -57,7 +57,7 @@ pub returns-in-Some : goal.returns-in-Some
 returns-in-Some c =
     let within : c.args.c < class_count c.self.inside.hierarchy = rw c.self.view_is c.requires.class in
     let order : c.in-Some.line.keys ≡ lineage_of c.self.inside.hierarchy c.args.c =
-    ap (λ o. lineage_in o c.args.c) (sym c.in-Some.is)
+    ap (λ o. lineage_in c.self.inside.hierarchy o c.args.c) (sym c.in-Some.is)
     ∙ lineage_is c.self.inside.hierarchy c.self.inside.lines.items c.self.invariant.lines_are c.args.c c.index.result.now within c.index.ensures in
     c.place_in.ensures
     ∙ ap (λ d. position (nat_eq c.args.p) (flat_map (own_props d) c.in-Some.line.keys)) (c.named-in-Some.ensures ∙ sym c.self.view_is)

@@ -17,7 +17,7 @@ pub first_own_of-requires : goal.first_own_of-requires
 first_own_of-requires c =
     let within : c.args.c < class_count c.self.inside.hierarchy = rw c.self.view_is c.requires.class in
     let order : c.as_slice.result.now ≡ lineage_of c.args.self.now c.args.c =
-    c.as_slice.ensures.keys ∙ ap (λ o. lineage_in o c.args.c) (sym c.in-Some.is)
+    c.as_slice.ensures.keys ∙ ap (λ o. lineage_in c.self.inside.hierarchy o c.args.c) (sym c.in-Some.is)
     ∙ lineage_is c.self.inside.hierarchy c.self.inside.lines.items c.self.invariant.lines_are c.args.c c.index.result.now within c.index.ensures
     ∙ ap (λ d. lineage_of d c.args.c) c.self.view_is in
     let P : List ℕ → Type 0 = λ xs. All (λ a. a < class_count c.args.self.now) xs in
@@ -28,7 +28,7 @@ pub returns-in-Some-clause-number : goal.returns-in-Some-clause-number
 returns-in-Some-clause-number c =
     let within : c.args.c < class_count c.self.inside.hierarchy = rw c.self.view_is c.requires.class in
     let order : c.as_slice.result.now ≡ lineage_of c.args.self.now c.args.c =
-    c.as_slice.ensures.keys ∙ ap (λ o. lineage_in o c.args.c) (sym c.in-Some.is)
+    c.as_slice.ensures.keys ∙ ap (λ o. lineage_in c.self.inside.hierarchy o c.args.c) (sym c.in-Some.is)
     ∙ lineage_is c.self.inside.hierarchy c.self.inside.lines.items c.self.invariant.lines_are c.args.c c.index.result.now within c.index.ensures
     ∙ ap (λ d. lineage_of d c.args.c) c.self.view_is in
     c.first_own_of.ensures.number
