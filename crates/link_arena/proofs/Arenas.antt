@@ -5,14 +5,14 @@ use Rattle.std.proofs.lemmas.List.{get_or-set_other, length-map, get_or_past}
 use Rattle.std.specs.Prelude.{Contains}
 use Rattle.link_arena.specs.declared.slot.Slot.{Slot}
 use Rattle.link_arena.specs.declared.slot.Head.{Head}
-use Rattle.link_arena.specs.Links.{others_of, joined, parted}
-use Rattle.link_arena.specs.Threads.{IsIn}
+use Rattle.link_arena.specs.Links.{others_of, joined_ends, parted}
 use Rattle.link_arena.specs.Lists.{lists, list_of, owners, owner_at, moved_to, IsFiled}
 use Rattle.link_arena.specs.Twins.{twin, other, shown, links, IsRewritten, IsArena}
 use Rattle.link_arena.proofs.Elements.{Contains-first, Contains-later}
 use Rattle.link_arena.proofs.Filed.{in_some_list}
 use Rattle.link_arena.proofs.Twins.{twin-twin, twin-other, twin-within, rewritten, twinned-joined, twinned-parted}
 use Rattle.link_arena.proofs.Shown.{at_shown, length-moved, view-joined, view-parted}
+use Rattle.link_arena.proofs.Members.{IsIn, owned_in, filed_in}
 
 pub contains_mapped : (f : ℕ → ℕ) (xs : List ℕ) (x : ℕ) → IsIn x xs → Contains (map f xs) (f x)
 contains_mapped f [] x has = absurd has
@@ -80,7 +80,7 @@ pub joined_arena : (heads : List Head) (slots : List Slot) (heads' : List Head) 
     → at < length slots → owner_at slots at ≡ 0 → suc a < length heads → suc b < length heads → a ≢ b
     → ¬ Contains (others_of (links heads slots) a) b → IsFiled heads' slots'
     → IsTwice heads slots heads' slots' at (suc a) (suc b) (owner_at slots at) (owner_at slots (twin at))
-    → IsAnswer heads' slots' (length heads) (joined (links heads slots) a b)
+    → IsAnswer heads' slots' (length heads) (joined_ends (links heads slots) a b)
 joined_arena heads slots heads' slots' at a b ok within free a_in b_in differ unjoined filed w =
     let O : List ℕ = owners slots in
     let L : List (List ℕ) = lists heads slots in
@@ -91,12 +91,12 @@ joined_arena heads slots heads' slots' at a b ok within free a_in b_in differ un
     let b0 : suc b ≢ 0 = omega arith in
     let ab : suc a ≢ suc b = omega arith in
     let unnamed : (u : ℕ) → get_or O u 0 ≡ suc a → get_or O (twin u) 0 ≢ suc b = λ u own names.
-    let has : IsIn u (get_or L (suc a) []) = subst (λ (i : ℕ). IsIn u (get_or L i [])) own (ok.filed.all u (owner_within slots u a own)) in
+    let has : IsIn u (get_or L (suc a) []) = subst (λ (i : ℕ). IsIn u (get_or L i [])) own (filed_in ok.filed u (owner_within slots u a own)) in
     let leads : other O u ≡ b = ap (λ (k : ℕ). k - 1) names ∙ (let k : suc b - 1 ≡ b = omega arith in k) in
     let shown_has : Contains (map (other O) (get_or L (suc a) [])) b = subst (λ (k : ℕ). Contains (map (other O) (get_or L (suc a) [])) k) leads (contains_mapped (other O) (get_or L (suc a) []) u has) in
     unjoined (subst (λ (l : List ℕ). Contains l b) (sym (at_shown O L a)) shown_has) in
-    let view : shown (owners slots') (moved_to (moved_to L 0 (suc a) at) 0 (suc b) (twin at)) ≡ joined (shown O L) a b =
-    view-joined O (owners slots') L at a b ok.filed.threaded.owned r free twin_free
+    let view : shown (owners slots') (moved_to (moved_to L 0 (suc a) at) 0 (suc b) (twin at)) ≡ joined_ends (shown O L) a b =
+    view-joined O (owners slots') L at a b (owned_in ok.filed.threaded) r free twin_free
     (subst (λ (n : ℕ). suc a < n) (sym (length-map heads (list_of slots))) a_in)
     (subst (λ (n : ℕ). suc b < n) (sym (length-map heads (list_of slots))) b_in) differ in
     let same_lists : lists heads' slots' ≡ moved_to (moved_to L 0 (suc a) at) 0 (suc b) (twin at) =
@@ -122,8 +122,8 @@ parted_arena heads slots heads' slots' at a b ok at_a at_b filed w =
     let within : at < length slots = owner_within slots at a at_a in
     let r : IsRewritten O (owners slots') at 0 0 = rewrites heads slots heads' slots' at 0 0 (owner_at slots at) (owner_at slots (twin at)) ok within w in
     let count : length heads' ≡ length heads = heads_count heads slots heads' slots' at 0 0 (owner_at slots at) (owner_at slots (twin at)) w in
-    let a_in : suc a < length L = in_some_list L (suc a) at (subst (λ (i : ℕ). IsIn at (get_or L i [])) at_a (ok.filed.all at within)) in
-    let b_in : suc b < length L = in_some_list L (suc b) (twin at) (subst (λ (i : ℕ). IsIn (twin at) (get_or L i [])) at_b (ok.filed.all (twin at) (owner_within slots (twin at) b at_b))) in
+    let a_in : suc a < length L = in_some_list L (suc a) at (subst (λ (i : ℕ). IsIn at (get_or L i [])) at_a (filed_in ok.filed at within)) in
+    let b_in : suc b < length L = in_some_list L (suc b) (twin at) (subst (λ (i : ℕ). IsIn (twin at) (get_or L i [])) at_b (filed_in ok.filed (twin at) (owner_within slots (twin at) b at_b))) in
     let same_lists : lists heads' slots' ≡ moved_to (moved_to L (suc a) 0 at) (suc b) 0 (twin at) =
     w.lists_are ∙ (ap (λ (i : ℕ). moved_to (moved_to L i 0 at) (owner_at slots (twin at)) 0 (twin at)) at_a
     ∙ ap (λ (i : ℕ). moved_to (moved_to L (suc a) 0 at) i 0 (twin at)) at_b) in
@@ -134,7 +134,7 @@ parted_arena heads slots heads' slots' at a b ok at_a at_b filed w =
         few = subst (λ (n : ℕ). n ≤ 2 ^ 32) (sym count) ok.few;
       };
       count = count;
-      view = ap (shown (owners slots')) same_lists ∙ view-parted O (owners slots') L at a b ok.filed.threaded.owned ok.twinned r at_a at_b a_in b_in;
+      view = ap (shown (owners slots')) same_lists ∙ view-parted O (owners slots') L at a b (owned_in ok.filed.threaded) ok.twinned r at_a at_b a_in b_in;
     }
 
 pub joined_steps : (heads : List Head) (slots : List Slot) (heads1 : List Head) (slots1 : List Slot) (heads2 : List Head) (slots2 : List Slot) (at t a b A B : ℕ)
@@ -143,7 +143,7 @@ pub joined_steps : (heads : List Head) (slots : List Slot) (heads1 : List Head) 
     → ¬ Contains (others_of (links heads slots) a) b → IsFiled heads2 slots2
     → lists heads1 slots1 ≡ moved_to (lists heads slots) (owner_at slots at) A at → owners slots1 ≡ set (owners slots) at A
     → lists heads2 slots2 ≡ moved_to (lists heads1 slots1) (owner_at slots1 t) B t → owners slots2 ≡ set (owners slots1) t B
-    → IsAnswer heads2 slots2 (length heads) (joined (links heads slots) a b)
+    → IsAnswer heads2 slots2 (length heads) (joined_ends (links heads slots) a b)
 joined_steps heads slots heads1 slots1 heads2 slots2 at t a b A B A_is B_is t_is ok within free a_in b_in differ unjoined filed e1 o1 e2 o2 =
     let w : IsTwice heads slots heads2 slots2 at A B (owner_at slots at) (owner_at slots (twin at)) =
     twice heads slots heads1 slots1 heads2 slots2 at t A B t_is e1 o1 e2 o2 in

@@ -6,11 +6,12 @@ use Rattle.std.proofs.Common.{ap, ◌∙◌}
 use Rattle.std.proofs.lemmas.List.{with_items_is}
 use Rattle.link_arena.specs.declared.slot.Slot.{Slot}
 use Rattle.link_arena.specs.declared.slot.Head.{Head}
-use Rattle.link_arena.specs.Threads.{IsIn, IsThread}
+use Rattle.link_arena.specs.Threads.{IsThread}
 use Rattle.link_arena.specs.Lists.{nexts, previouses, list_at, head_at}
 use Rattle.link_arena.specs.Twins.{links, IsArena, no_head, with_free_head}
 use Rattle.link_arena.proofs.Heads.{nothing}
 use Rattle.link_arena.proofs.Found.{length_links}
+use Rattle.link_arena.proofs.Members.{IsIn, in_from, filed_in}
 
 pub record IsBegun (heads : List Head) (slots : List Slot) : Type 0 where
   pub arena : IsArena (with_free_head heads) slots
@@ -24,9 +25,9 @@ begun [] slots ok = record {
     filed = record {
       threaded = record {
         thread = λ id h. none_thread id h;
-        owned = λ id s h. absurd (none_in id s h);
+        owned = λ id s h. absurd (none_in id s (in_from (list_at (no_head ∷ []) slots id) s h));
       };
-      all = λ s h. absurd (ok.filed.all s h);
+      all = λ s h. absurd (filed_in ok.filed s h);
     };
     twinned = ok.twinned;
     few = omega arith;

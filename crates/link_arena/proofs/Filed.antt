@@ -5,10 +5,10 @@ use Rattle.std.proofs.lemmas.List.{get_or-set_same, get_or-set_other, length-set
 use Rattle.link_arena.specs.declared.slot.Slot.{Slot}
 use Rattle.link_arena.specs.declared.slot.Head.{Head}
 use Rattle.link_arena.specs.Links.{without, with_last, without_other, others_of}
-use Rattle.link_arena.specs.Threads.{IsIn}
 use Rattle.link_arena.specs.Lists.{owners, owner_at, list_of, lists, list_at, IsThreaded, IsFiled, moved_to}
 use Rattle.link_arena.proofs.Leads.{IsIn-left, IsIn-right}
 use Rattle.link_arena.proofs.Threaded.{IsIn-without}
+use Rattle.link_arena.proofs.Members.{IsIn, contains_in, owned_in, filed_in}
 
 pub IsIn-kept : (x at : ℕ) (xs : List ℕ) → x ≢ at → IsIn x xs → IsIn x (without at xs)
 IsIn-kept x at [] n has = absurd has
@@ -38,7 +38,7 @@ out_of_all heads slots ok from at within is j has =
           (IsIn-without at at (list_at heads slots from) has2).1 refl
       | inr n ↦
           let has1 : IsIn at (list_at heads slots j) = subst (IsIn at) (get_or-set_other (lists heads slots) from j (without at (list_at heads slots from)) [] n) has in
-          n (sym (ok.owned j at has1) ∙ is)
+          n (sym (owned_in ok j at has1) ∙ is)
     ]
 
 pub IsIn-with_last : (L : List (List ℕ)) (to at j s : ℕ) → IsIn s (get_or L j []) → IsIn s (get_or (with_last L to at) j [])
@@ -71,7 +71,7 @@ filed-moved heads slots heads' slots' to at ok within at_within threaded lists_a
     let mid : List (List ℕ) = without_other (lists heads slots) (owner_at slots at) at in
     record {
       threaded = threaded;
-      all = λ s h.
+      all = λ s h. contains_in (list_at heads' slots' (owner_at slots' s)) s (
           let old : s < length slots = subst (λ (n : ℕ). s < n) count h in
           let in_owners : at < length (owners slots) = subst (λ (n : ℕ). at < n) (sym (length-map slots (λ (s : Slot). s.owner))) at_within in
           elim (cases_eq s at) [
@@ -83,8 +83,8 @@ filed-moved heads slots heads' slots' to at ok within at_within threaded lists_a
                 subst (λ (i : ℕ). IsIn s (list_at heads' slots' i)) (sym owner) there'
             | inr n ↦
                 let owner : owner_at slots' s ≡ owner_at slots s = ap (λ (l : List ℕ). get_or l s 0) owners_are ∙ get_or-set_other (owners slots) at s to 0 n in
-                let there : IsIn s (get_or (with_last mid to at) (owner_at slots s) []) = IsIn-with_last mid to at (owner_at slots s) s (IsIn-without_other (lists heads slots) (owner_at slots at) at (owner_at slots s) s n (ok.all s old)) in
+                let there : IsIn s (get_or (with_last mid to at) (owner_at slots s) []) = IsIn-with_last mid to at (owner_at slots s) s (IsIn-without_other (lists heads slots) (owner_at slots at) at (owner_at slots s) s n (filed_in ok s old)) in
                 let there' : IsIn s (list_at heads' slots' (owner_at slots s)) = subst (λ (l : List (List ℕ)). IsIn s (get_or l (owner_at slots s) [])) (sym lists_are) there in
                 subst (λ (i : ℕ). IsIn s (list_at heads' slots' i)) (sym owner) there'
-          ];
+          ]);
     }

@@ -5,7 +5,6 @@ use Rattle.std.proofs.lemmas.List.{get_or-set_same, get_or-set_other, length-set
 use Rattle.link_arena.specs.declared.slot.Slot.{Slot}
 use Rattle.link_arena.specs.declared.slot.Head.{Head}
 use Rattle.link_arena.specs.Links.{with_last, others_of}
-use Rattle.link_arena.specs.Threads.{IsIn}
 use Rattle.link_arena.specs.Lists.{owners, list_of, lists, list_at, IsThreaded, IsAfter}
 use Rattle.link_arena.specs.Twins.{twin, other, shown, links, IsTwinned, IsArena, IsGrown, free_row}
 use Rattle.link_arena.proofs.Leads.{IsIn-right, IsIn-either}
@@ -13,6 +12,7 @@ use Rattle.link_arena.proofs.Shown.{map-same, at_shown, length-shown}
 use Rattle.link_arena.proofs.Filed.{IsIn-with_last}
 use Rattle.link_arena.proofs.Arenas.{owners_count}
 use Rattle.link_arena.proofs.Growth.{lists-more, threaded-more, out-more}
+use Rattle.link_arena.proofs.Members.{IsIn, contains_in, filed_in}
 
 pub set_zero : (xs : List ℕ) (i u : ℕ) → get_or xs i 0 ≡ 0 → get_or (set xs i 0) u 0 ≡ get_or xs u 0
 set_zero [] i u is = refl
@@ -89,10 +89,10 @@ grown_arena heads slots grown at at1 heads1 slots1 heads2 slots2 g next a1 o1 a2
       arena = record {
         filed = record {
           threaded = a2.threaded;
-          all = λ s h.
+          all = λ s h. contains_in (list_at heads2 slots2 (get_or (owners slots2) s 0)) s (
               let bound : s < length slots + 2 = omega (arith, owners_count slots2, owners_count slots, len_own) in
               let owned : IsIn s (get_or L2 (get_or O s 0) []) = elim (cases_lt s (length slots)) [
-                | inl old ↦ IsIn-with_last L1 0 at1 (get_or O s 0) s (IsIn-with_last L 0 at (get_or O s 0) s (g.arena.filed.all s old))
+                | inl old ↦ IsIn-with_last L1 0 at1 (get_or O s 0) s (IsIn-with_last L 0 at (get_or O s 0) s (filed_in g.arena.filed s old))
                 | inr new ↦
                     let o : get_or O s 0 ≡ 0 = past s (let k : at ≤ s = omega (arith, g.len) in k) in
                     let here : IsIn s (get_or L2 0 []) = elim (cases_eq s at) [
@@ -101,7 +101,7 @@ grown_arena heads slots grown at at1 heads1 slots1 heads2 slots2 g next a1 o1 a2
                     ] in
                     subst (λ (i : ℕ). IsIn s (get_or L2 i [])) (sym o) here
               ] in
-              subst (λ (i : ℕ). IsIn s (list_at heads2 slots2 i)) (sym (step2 s)) (subst (λ (l : List (List ℕ)). IsIn s (get_or l (get_or O s 0) [])) (sym eq2) owned);
+              subst (λ (i : ℕ). IsIn s (list_at heads2 slots2 i)) (sym (step2 s)) (subst (λ (l : List (List ℕ)). IsIn s (get_or l (get_or O s 0) [])) (sym eq2) owned));
         };
         twinned = twinned-same O (owners slots2) even step2 g.arena.twinned;
         few = subst (λ (n : ℕ). n ≤ 2 ^ 32) (sym count) g.arena.few;

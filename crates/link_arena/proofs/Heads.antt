@@ -1,12 +1,14 @@
 -- An arena with more lists, all empty.
+use Rattle.std.specs.Prelude.{Contains}
 use Rattle.std.proofs.Common.{◌≡◌, ℕ, ◌<◌, ◌≤◌, ◌+◌, ◌^◌, List, [], ◌∷◌, ◌++◌, length, get_or, map, replicate, refl, sym, ◌∙◌, ap, subst, arith, inl, inr, zero, suc}
 use Rattle.std.proofs.lemmas.Bool.{cases_lt}
 use Rattle.std.proofs.lemmas.List.{length-map, length-append, length-replicate, map-append, get_or_past}
 use Rattle.link_arena.specs.declared.slot.Slot.{Slot}
 use Rattle.link_arena.specs.declared.slot.Head.{Head}
-use Rattle.link_arena.specs.Threads.{IsThread, IsIn}
+use Rattle.link_arena.specs.Threads.{IsThread}
 use Rattle.link_arena.specs.Lists.{nexts, previouses, owners, list_of, lists, head_at, list_at, IsThreaded}
 use Rattle.link_arena.specs.Twins.{other, shown, links, IsArena}
+use Rattle.link_arena.proofs.Members.{in_from, pairs_from}
 
 none_of : (slots : List Slot) (n : ℕ) → lists (replicate n (record { first = 0; last = 0; len = 0 })) slots ≡ replicate n []
 none_of slots zero = refl
@@ -39,7 +41,7 @@ head_grown (h ∷ heads) n zero = refl
 head_grown (h ∷ heads) n (suc j) = head_grown heads n j
 
 pub nothing : (N P : List ℕ) (f l : ℕ) → IsThread N P f l []
-nothing N P f l = record { ahead = tt; back = tt; apart = tt; within = λ x h. absurd h }
+nothing N P f l = record { ahead = tt; back = tt; apart = pairs_from [] tt; within = λ x h. absurd (in_from [] x h) }
 
 pub heads_threaded : (heads : List Head) (slots : List Slot) (n : ℕ) → IsThreaded heads slots
     → IsThreaded (heads ++ replicate n (record { first = 0; last = 0; len = 0 })) slots
@@ -57,7 +59,7 @@ heads_threaded heads slots n ok =
             let none : list_at H slots j ≡ [] = at j ∙ get_or_past (lists heads slots) j [] past in
             subst (IsThread (nexts slots) (previouses slots) (head_at H j).first (head_at H j).last) (sym none) (nothing (nexts slots) (previouses slots) (head_at H j).first (head_at H j).last)
       ];
-      owned = λ j s h. ok.owned j s (subst (IsIn s) (at j) h);
+      owned = λ j s h. ok.owned j s (subst (λ (l : List ℕ). Contains l s) (at j) h);
     }
 
 pub record IsWider (heads : List Head) (slots : List Slot) (heads' : List Head) (n : ℕ) : Type 0 where
@@ -74,7 +76,7 @@ wider heads slots n ok some few =
       arena = record {
         filed = record {
           threaded = heads_threaded heads slots n ok.filed.threaded;
-          all = λ s h. subst (IsIn s) (sym (at (get_or (owners slots) s 0))) (ok.filed.all s h);
+          all = λ s h. subst (λ (l : List ℕ). Contains l s) (sym (at (get_or (owners slots) s 0))) (ok.filed.all s h);
         };
         twinned = ok.twinned;
         few = omega (arith, length-append heads (replicate n h0), length-replicate n h0);

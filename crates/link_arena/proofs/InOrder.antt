@@ -1,37 +1,22 @@
 -- The ends that an end is joined to, put in another order.
-use Rattle.std.proofs.Common.{◌≡◌, ◌≢◌, ℕ, ◌<◌, ◌≤◌, ◌+◌, List, [], ◌∷◌, ◌++◌, length, get_or, set, take, map, sym, ◌∙◌, ap, subst, arith, inl, inr, suc}
+use Rattle.std.proofs.Common.{◌≡◌, ◌≢◌, ℕ, ◌<◌, ◌≤◌, ◌+◌, List, [], ◌∷◌, ◌++◌, length, get_or, set, take, map, sym, ◌∙◌, ap, subst, arith, suc}
 use Rattle.std.proofs.lemmas.List.{get_or-set_same, set-set, set-get_or, take_more, take_all, length-map}
 use Rattle.std.proofs.lemmas.List.Sorted.{IsPermutation-sym, length_permutation, Contains-permutation}
 use Rattle.std.proofs.lemmas.List.Elements.{Contains-get_or}
-use Rattle.std.specs.Prelude.{Contains, AllPairs, IsPermutation}
+use Rattle.std.specs.Prelude.{Contains, IsPermutation}
 use Rattle.link_arena.specs.declared.slot.Slot.{Slot}
 use Rattle.link_arena.specs.declared.slot.Head.{Head}
 use Rattle.link_arena.specs.Links.{others_of, without, IsSimple}
-use Rattle.link_arena.specs.Threads.{IsIn, IsDistinct}
 use Rattle.link_arena.specs.Lists.{nexts, lists, list_at, list_of, head_at, owner_at, owners}
 use Rattle.link_arena.specs.Twins.{twin, other, links, IsArena, IsListed}
-use Rattle.link_arena.proofs.Elements.{Contains-first, Contains-later}
 use Rattle.link_arena.proofs.Orders.{AllPairs-permutation}
 use Rattle.link_arena.proofs.Requeue.{requeued, requeued-push, requeued-whole, requeued-none, IsIn-requeued}
-use Rattle.link_arena.proofs.Simple.{in_from, simple, used_twin}
+use Rattle.link_arena.proofs.Simple.{simple, used_twin}
 use Rattle.link_arena.proofs.Threaded.{list_at-is, length-walk}
 use Rattle.link_arena.proofs.Shown.{at_shown}
 use Rattle.link_arena.proofs.Filed.{in_some_list}
 use Rattle.link_arena.proofs.Found.{length_links, list_bounds, in_list_at}
-
-pub contains_in : (xs : List ℕ) (x : ℕ) → IsIn x xs → Contains xs x
-contains_in [] x has = absurd has
-contains_in (y ∷ ys) x (inl e) = subst (λ (k : ℕ). Contains (y ∷ ys) k) (sym e) (Contains-first y ys)
-contains_in (y ∷ ys) x (inr has) = Contains-later y ys x (contains_in ys x has)
-
-pub distinct_from : (xs : List ℕ) → AllPairs (λ x y. x ≢ y) xs → IsDistinct xs
-distinct_from [] apart = tt
-distinct_from (x ∷ xs) apart = (
-  λ h. (let has : Contains xs x = contains_in xs x h in
-      let within : has.0 < length xs = has.1 in
-      apart 0 (suc has.0) x (omega arith) (omega arith) (sym has.2)),
-  distinct_from xs (λ i j d before within. apart (suc i) (suc j) d (omega arith) (omega arith)),
-)
+use Rattle.link_arena.proofs.Members.{IsIn, IsDistinct, in_from, contains_in, distinct_from, owned_in, filed_in}
 
 -- one more number of the order can move
 pub there_in_order : (V now : List (List ℕ)) (a i : ℕ) (order : List ℕ) → a < length V → IsPermutation order (others_of V a) → i < length order
@@ -86,10 +71,10 @@ order_within heads slots ok a i order same more =
 pub listed_at : (heads : List Head) (slots : List Slot) → IsArena heads slots → (a A : ℕ) → A ≡ suc a → A < length heads
     → (s : ℕ) → IsIn s (list_at heads slots A) → (owner_at slots s ≡ suc a) × ((owner_at slots (twin s) ≢ 0) × (owner_at slots (twin s) < length heads))
 listed_at heads slots ok a A is within s h =
-    let own : owner_at slots s ≡ suc a = ok.filed.threaded.owned A s h ∙ is in
+    let own : owner_at slots s ≡ suc a = owned_in ok.filed.threaded A s h ∙ is in
     let some : owner_at slots (twin s) ≢ 0 = used_twin heads slots ok s a own in
     let twin_within : twin s < length slots = (list_bounds heads slots ok A within s h).1 in
-    let there : IsIn (twin s) (list_at heads slots (owner_at slots (twin s))) = ok.filed.all (twin s) twin_within in
+    let there : IsIn (twin s) (list_at heads slots (owner_at slots (twin s))) = filed_in ok.filed (twin s) twin_within in
     (own, (some, in_heads heads slots (owner_at slots (twin s)) (twin s) there))
   where
     in_heads : (heads : List Head) (slots : List Slot) (j s : ℕ) → IsIn s (list_at heads slots j) → j < length heads
@@ -100,17 +85,17 @@ listed_at heads slots ok a A is within s h =
 pub end_listed : (heads : List Head) (slots : List Slot) → IsArena heads slots → (a A : ℕ) → A ≡ suc a → A < length heads
     → IsListed slots (list_of slots (head_at heads A))
 end_listed heads slots ok a A is within = record {
-  within = λ s h. (list_bounds heads slots ok A within s (in_list_at heads slots A within s h)).0;
-  twin_within = λ s h. (list_bounds heads slots ok A within s (in_list_at heads slots A within s h)).1;
-  some = λ s h. (let n : owner_at slots (twin s) ≢ 0 = (listed_at heads slots ok a A is within s (in_list_at heads slots A within s h)).1.0 in omega arith);
-  few = λ s h. (let n : owner_at slots (twin s) < length heads = (listed_at heads slots ok a A is within s (in_list_at heads slots A within s h)).1.1 in omega (arith, ok.few));
+  within = λ s h. (list_bounds heads slots ok A within s (in_list_at heads slots A within s (in_from (list_of slots (head_at heads A)) s h))).0;
+  twin_within = λ s h. (list_bounds heads slots ok A within s (in_list_at heads slots A within s (in_from (list_of slots (head_at heads A)) s h))).1;
+  some = λ s h. (let n : owner_at slots (twin s) ≢ 0 = (listed_at heads slots ok a A is within s (in_list_at heads slots A within s (in_from (list_of slots (head_at heads A)) s h))).1.0 in omega arith);
+  few = λ s h. (let n : owner_at slots (twin s) < length heads = (listed_at heads slots ok a A is within s (in_list_at heads slots A within s (in_from (list_of slots (head_at heads A)) s h))).1.1 in omega (arith, ok.few));
 }
 
 pub end_single : (heads : List Head) (slots : List Slot) → IsArena heads slots → (a A : ℕ) → A ≡ suc a → A < length heads
-    → (s u : ℕ) → IsIn s (list_of slots (head_at heads A)) → IsIn u (list_of slots (head_at heads A)) → owner_at slots (twin s) ≡ owner_at slots (twin u) → s ≡ u
+    → (s u : ℕ) → Contains (list_of slots (head_at heads A)) s → Contains (list_of slots (head_at heads A)) u → owner_at slots (twin s) ≡ owner_at slots (twin u) → s ≡ u
 end_single heads slots ok a A is within s u hs hu same =
-    let os : owner_at slots s ≡ suc a = (listed_at heads slots ok a A is within s (in_list_at heads slots A within s hs)).0 in
-    let ou : owner_at slots u ≡ suc a = (listed_at heads slots ok a A is within u (in_list_at heads slots A within u hu)).0 in
+    let os : owner_at slots s ≡ suc a = (listed_at heads slots ok a A is within s (in_list_at heads slots A within s (in_from (list_of slots (head_at heads A)) s hs))).0 in
+    let ou : owner_at slots u ≡ suc a = (listed_at heads slots ok a A is within u (in_list_at heads slots A within u (in_from (list_of slots (head_at heads A)) u hu))).0 in
     ok.twinned.single s u (λ z. (let k : suc a ≡ 0 = sym os ∙ z in omega arith)) (os ∙ sym ou) same
 
 -- what an end's list shows

@@ -3,7 +3,8 @@ use Rattle.std.proofs.Common.{◌≡◌, ◌≢◌, ℕ, ◌<◌, List, [], ◌�
 use Rattle.std.proofs.lemmas.Bool.{cases_eq}
 use Rattle.std.proofs.lemmas.List.{get_or-set_same, get_or-set_other, reverse-append, reverse-reverse, append_assoc, length-set}
 use Rattle.link_arena.specs.Links.{without}
-use Rattle.link_arena.specs.Threads.{walk, LeadsThrough, IsThread, IsIn, IsDistinct, start_past, step_past, start_onto, step_onto, last_or, first_or}
+use Rattle.link_arena.specs.Threads.{walk, LeadsThrough, IsThread, start_past, step_past, start_onto, step_onto, last_or, first_or}
+use Rattle.link_arena.proofs.Members.{IsIn, IsDistinct, in_from, pairs_from, thread_within, thread_apart}
 
 -- membership
 
@@ -185,16 +186,16 @@ pub thread-past : (nexts previouses : List ℕ) (first last : ℕ) (ys : List �
     (start_past nexts first at) (start_past previouses last at) (ys ++ zs)
 thread-past nexts previouses first last ys at zs t =
     let back : LeadsThrough previouses last (reverse zs ++ at ∷ reverse ys) = subst (LeadsThrough previouses last) (reverse-around ys at zs) t.back in
-    let apart : IsDistinct (reverse zs ++ at ∷ reverse ys) = subst IsDistinct (reverse-around ys at zs) (distinct-reverse (ys ++ at ∷ zs) t.apart) in
+    let apart : IsDistinct (reverse zs ++ at ∷ reverse ys) = subst IsDistinct (reverse-around ys at zs) (distinct-reverse (ys ++ at ∷ zs) (thread_apart t)) in
     record {
-      ahead = leads-past nexts first ys at zs (get_or previouses at 0) t.ahead t.apart (back_gives nexts previouses first last ys at zs t)
-          (λ x h. (t.within x (IsIn-left x ys (at ∷ zs) h)).0);
+      ahead = leads-past nexts first ys at zs (get_or previouses at 0) t.ahead (thread_apart t) (back_gives nexts previouses first last ys at zs t)
+          (λ x h. (thread_within t x (IsIn-left x ys (at ∷ zs) h)).0);
       back = subst (LeadsThrough (step_past previouses last (get_or nexts at 0) at) (start_past previouses last at)) (sym (reverse-append ys zs))
           (leads-past previouses last (reverse zs) at (reverse ys) (get_or nexts at 0) back apart (ahead_gives nexts previouses first last ys at zs t)
-          (λ x h. (t.within x (IsIn-right x ys (at ∷ zs) (inr (IsIn-reverse x zs h)))).1));
-      apart = distinct-out_of ys at zs t.apart;
+          (λ x h. (thread_within t x (IsIn-right x ys (at ∷ zs) (inr (IsIn-reverse x zs h)))).1));
+      apart = pairs_from (ys ++ zs) (distinct-out_of ys at zs (thread_apart t));
       within = λ x h.
-          let w : (x < length nexts) × (x < length previouses) = t.within x (IsIn-out_of x ys at zs h) in (
+          let w : (x < length nexts) × (x < length previouses) = thread_within t x (IsIn-out_of x ys at zs (in_from (ys ++ zs) x h)) in (
             subst (λ (n : ℕ). x < n) (sym (length-step_past nexts first (get_or previouses at 0) at)) w.0,
             subst (λ (n : ℕ). x < n) (sym (length-step_past previouses last (get_or nexts at 0) at)) w.1,
           );
@@ -207,9 +208,9 @@ pub thread-beside : (nexts previouses : List ℕ) (first last : ℕ) (ys : List 
     → IsThread (step_past nexts first (get_or previouses at 0) at) (step_past previouses last (get_or nexts at 0) at) f l xs
 thread-beside nexts previouses first last ys at zs t f l xs out other =
     let back : LeadsThrough previouses last (reverse zs ++ at ∷ reverse ys) = subst (LeadsThrough previouses last) (reverse-around ys at zs) t.back in
-    let apart : IsDistinct (reverse zs ++ at ∷ reverse ys) = subst IsDistinct (reverse-around ys at zs) (distinct-reverse (ys ++ at ∷ zs) t.apart) in
+    let apart : IsDistinct (reverse zs ++ at ∷ reverse ys) = subst IsDistinct (reverse-around ys at zs) (distinct-reverse (ys ++ at ∷ zs) (thread_apart t)) in
     record {
-      ahead = leads-beside nexts first ys at zs (get_or previouses at 0) t.ahead t.apart (back_gives nexts previouses first last ys at zs t) f xs
+      ahead = leads-beside nexts first ys at zs (get_or previouses at 0) t.ahead (thread_apart t) (back_gives nexts previouses first last ys at zs t) f xs
           (λ x h. out x (IsIn-left x ys (at ∷ zs) h)) other.ahead;
       back = leads-beside previouses last (reverse zs) at (reverse ys) (get_or nexts at 0) back apart (ahead_gives nexts previouses first last ys at zs t) l (reverse xs)
           (λ x h k. out x (IsIn-right x ys (at ∷ zs) (inr (IsIn-reverse x zs h))) (IsIn-reverse x xs k)) other.back;
@@ -263,16 +264,16 @@ pub thread-onto : (nexts previouses : List ℕ) (first last : ℕ) (xs : List �
     → IsThread (step_onto nexts (length xs) last at) (set previouses at last) (start_onto (length xs) first at) at (xs ++ at ∷ [])
 thread-onto nexts previouses first last xs at t out in_nexts in_previouses =
     record {
-      ahead = leads-onto nexts first xs last at t.ahead t.apart (last_gives nexts previouses first last xs t) (λ x h. (t.within x h).0);
+      ahead = leads-onto nexts first xs last at t.ahead (thread_apart t) (last_gives nexts previouses first last xs t) (λ x h. (thread_within t x h).0);
       back =
           let is : get_or (set previouses at last) at 0 ≡ last = get_or-set_same previouses at last 0 in_previouses in
           let rest : LeadsThrough (set previouses at last) last (reverse xs) = leads-set previouses last (reverse xs) at last (λ h. out (IsIn-reverse at xs h)) t.back in
           let rest' : LeadsThrough (set previouses at last) (get_or (set previouses at last) at 0) (reverse xs) = rw is rest in
           subst (LeadsThrough (set previouses at last) at) (sym (reverse-append xs (at ∷ []))) (refl, rest');
-      apart = distinct-push xs at t.apart out;
+      apart = pairs_from (xs ++ at ∷ []) (distinct-push xs at (thread_apart t) out);
       within = λ x h.
-          let w : (x < length nexts) × (x < length previouses) = elim (IsIn-either x xs (at ∷ []) h) [
-            | inl e ↦ t.within x e
+          let w : (x < length nexts) × (x < length previouses) = elim (IsIn-either x xs (at ∷ []) (in_from (xs ++ at ∷ []) x h)) [
+            | inl e ↦ thread_within t x e
             | inr e ↦ elim e [ inl same ↦ subst (λ (k : ℕ). (k < length nexts) × (k < length previouses)) (sym same) (in_nexts, in_previouses) | inr none ↦ absurd none ]
           ] in (
             subst (λ (n : ℕ). x < n) (sym (length-step_onto nexts (length xs) last at)) w.0,

@@ -1,4 +1,5 @@
 pub mod Elements
+pub mod Members
 pub mod Parting
 pub mod Orders
 pub mod Leads

@@ -2,8 +2,9 @@
 use Rattle.std.proofs.Common.{◌≡◌, ℕ, ◌<◌, ◌-◌, List, ◌∷◌, length, get_or, set, sym, ◌∙◌, subst, inl, inr, ◌⊎◌}
 use Rattle.std.proofs.lemmas.Bool.{cases_eq}
 use Rattle.std.proofs.lemmas.List.{get_or-set_same, get_or-set_other}
-use Rattle.link_arena.specs.Threads.{IsIn, walk}
+use Rattle.link_arena.specs.Threads.{walk}
 use Rattle.link_arena.proofs.Walks.{walk_more}
+use Rattle.link_arena.proofs.Members.{IsIn}
 
 pub mark_passed : (key : ℕ → ℕ) (N xs marks : List ℕ) (n at next : ℕ) → 0 < n → next ≡ get_or N at 0 → IsIn at xs → key at < length marks
     → ((s u : ℕ) → IsIn s xs → IsIn u xs → key s ≡ key u → s ≡ u)

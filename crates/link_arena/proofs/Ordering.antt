@@ -5,7 +5,6 @@ use Rattle.std.specs.Prelude.{Contains}
 use Rattle.link_arena.specs.declared.slot.Slot.{Slot}
 use Rattle.link_arena.specs.declared.slot.Head.{Head}
 use Rattle.link_arena.specs.Links.{others_of, without}
-use Rattle.link_arena.specs.Threads.{IsIn}
 use Rattle.link_arena.specs.Lists.{lists, list_of, list_at, owners, owner_at, moved_to, IsFiled}
 use Rattle.link_arena.specs.Twins.{twin, other, shown, links, IsTwinned, IsArena, IsMarkedFor, IsRequeued}
 use Rattle.link_arena.proofs.Filed.{in_some_list}
@@ -13,6 +12,7 @@ use Rattle.link_arena.proofs.Shown.{length-moved}
 use Rattle.link_arena.proofs.Arenas.{owner_within}
 use Rattle.link_arena.proofs.Simple.{IsShownBy, shown_by, used_twin}
 use Rattle.link_arena.proofs.Requeued.{view-requeued}
+use Rattle.link_arena.proofs.Members.{IsIn, contains_in, owned_in, filed_in}
 
 pub record IsBehind (slots : List Slot) (a x s : ℕ) : Type 0 where
   pub own : owner_at slots s ≡ suc a
@@ -24,7 +24,7 @@ pub marked_slot : (heads : List Head) (slots : List Slot) (marks : List ℕ) (a 
 marked_slot heads slots marks a x s A X ok a_is x_is marked has is =
     let by : IsShownBy heads slots a x = shown_by heads slots ok a x has in
     let there : IsIn by.slot (list_at heads slots A) = subst (λ (i : ℕ). IsIn by.slot (list_at heads slots i)) (sym a_is) by.there in
-    let same : by.slot ≡ s = sym (marked by.slot there) ∙ (ap (λ (i : ℕ). get_or marks i 0) (by.leads ∙ sym x_is) ∙ sym is) in
+    let same : by.slot ≡ s = sym (marked by.slot (contains_in (list_at heads slots A) by.slot there)) ∙ (ap (λ (i : ℕ). get_or marks i 0) (by.leads ∙ sym x_is) ∙ sym is) in
     record {
       own = ap (λ (i : ℕ). owner_at slots i) (sym same) ∙ by.own;
       leads = ap (λ (i : ℕ). owner_at slots (twin i)) (sym same) ∙ by.leads;
@@ -44,10 +44,10 @@ requeue_step heads slots heads' slots' marks a x s A ok a_is marked by filed lis
     lists_are ∙ (ap (λ (i : ℕ). moved_to L i A s) by.own ∙ ap (λ (i : ℕ). moved_to L (suc a) i s) a_is) in
     let count : length heads' ≡ length heads =
     sym (length-map heads' (list_of slots')) ∙ (ap length to ∙ (length-moved L (suc a) (suc a) s ∙ length-map heads (list_of slots))) in
-    let in_L : suc a < length L = in_some_list L (suc a) s (subst (λ (i : ℕ). IsIn s (get_or L i [])) by.own (ok.filed.all s by.within)) in
+    let in_L : suc a < length L = in_some_list L (suc a) s (subst (λ (i : ℕ). IsIn s (get_or L i [])) by.own (filed_in ok.filed s by.within)) in
     let x_is : other O s ≡ x = ap (λ (k : ℕ). k - 1) by.leads ∙ (let k : suc x - 1 ≡ x = omega arith in k) in
     let single : (u : ℕ) → IsIn u (get_or L (suc a) []) → u ≢ s → other O u ≢ other O s = λ u h n e.
-    let ou : owner_at slots u ≡ suc a = ok.filed.threaded.owned (suc a) u h in
+    let ou : owner_at slots u ≡ suc a = owned_in ok.filed.threaded (suc a) u h in
     let su : owner_at slots (twin u) ≢ 0 = used_twin heads slots ok u a ou in
     let e' : owner_at slots (twin u) - 1 ≡ x = e ∙ x_is in
     let twins : owner_at slots (twin u) ≡ owner_at slots (twin s) = (let k : owner_at slots (twin s) ≡ suc x = by.leads in omega arith) in
@@ -65,7 +65,7 @@ requeue_step heads slots heads' slots' marks a x s A ok a_is marked by filed lis
       marked = λ u h.
           let ou : owner_at slots' u ≡ A = filed.threaded.owned A u h in
           let ou' : owner_at slots u ≡ A = ap (λ (l : List ℕ). get_or l u 0) (sym same) ∙ ou in
-          let there : IsIn u (list_at heads slots A) = subst (λ (i : ℕ). IsIn u (list_at heads slots i)) ou' (ok.filed.all u (owner_within slots u a (ou' ∙ a_is))) in
-          ap (λ (l : List ℕ). get_or marks (get_or l (twin u) 0) 0) same ∙ marked u there;
+          let there : IsIn u (list_at heads slots A) = subst (λ (i : ℕ). IsIn u (list_at heads slots i)) ou' (filed_in ok.filed u (owner_within slots u a (ou' ∙ a_is))) in
+          ap (λ (l : List ℕ). get_or marks (get_or l (twin u) 0) 0) same ∙ marked u (contains_in (list_at heads slots A) u there);
       view = ap (λ (l : List ℕ). shown l (lists heads' slots')) same ∙ (ap (shown O) to ∙ view);
     }

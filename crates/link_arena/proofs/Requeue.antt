@@ -3,10 +3,10 @@ use Rattle.std.proofs.Common.{◌≡◌, ℕ, List, [], ◌∷◌, ◌++◌, len
 use Rattle.std.proofs.lemmas.Bool.{cases_eq}
 use Rattle.std.proofs.lemmas.List.{append-nil, append_assoc, length-append}
 use Rattle.link_arena.specs.Links.{without}
-use Rattle.link_arena.specs.Threads.{IsIn, IsDistinct}
 use Rattle.link_arena.proofs.Leads.{IsAround, around, without-around, IsIn-either, IsIn-left, IsIn-right, distinct-push}
 use Rattle.link_arena.proofs.Filed.{IsIn-kept}
 use Rattle.link_arena.proofs.Threaded.{distinct-without, IsIn-without}
+use Rattle.link_arena.proofs.Members.{IsIn, IsDistinct}
 
 -- the numbers of an order move to the end of a list, one after another
 pub requeued : List ℕ → List ℕ → List ℕ

@@ -3,10 +3,10 @@ use Rattle.std.proofs.Common.{◌≡◌, ◌≢◌, ℕ, ◌<◌, ◌-◌, List,
 use Rattle.std.proofs.lemmas.Bool.{cases_eq}
 use Rattle.std.proofs.lemmas.List.{get_or-set_same, get_or-set_other, length-set, ext_get_or, map-append}
 use Rattle.link_arena.specs.Links.{without, without_other, others_of}
-use Rattle.link_arena.specs.Threads.{IsIn}
 use Rattle.link_arena.specs.Lists.{moved_to}
 use Rattle.link_arena.specs.Twins.{other, shown}
 use Rattle.link_arena.proofs.Shown.{at_shown, length-shown, length-moved, map-without}
+use Rattle.link_arena.proofs.Members.{IsIn}
 
 pub view-requeued : (O : List ℕ) (L : List (List ℕ)) (a s : ℕ) → suc a < length L
     → ((u : ℕ) → IsIn u (get_or L (suc a) []) → u ≢ s → other O u ≢ other O s)

@@ -2,11 +2,11 @@
 use Rattle.std.proofs.Common.{◌≡◌, ◌≢◌, ℕ, ◌<◌, ◌-◌, List, [], ◌∷◌, ◌++◌, length, get_or, map, refl, sym, ◌∙◌, ap, subst, arith, inl, inr, zero, suc, true, false, eqb, eq-eqb, ne_eqb}
 use Rattle.std.proofs.lemmas.Bool.{cases_eq}
 use Rattle.std.proofs.lemmas.List.{get_or-set_same, get_or-set_other, length-set, length-map, length-drop, ext_get_or, map-append}
-use Rattle.link_arena.specs.Links.{without, with_last, without_other, others_of, joined, parted}
-use Rattle.link_arena.specs.Threads.{IsIn}
+use Rattle.link_arena.specs.Links.{without, with_last, without_other, others_of, joined_ends, parted}
 use Rattle.link_arena.specs.Lists.{moved_to}
 use Rattle.link_arena.specs.Twins.{twin, other, shown, IsTwinned, IsRewritten}
 use Rattle.link_arena.proofs.Twins.{twin-twin, twin_kept, twin_of_second}
+use Rattle.link_arena.proofs.Members.{IsIn}
 
 pub get_or-map_nil : (f : ℕ → ℕ) (L : List (List ℕ)) (j : ℕ) → get_or (map (map f) L) j [] ≡ map f (get_or L j [])
 get_or-map_nil f [] j = refl
@@ -73,7 +73,7 @@ pub view-joined : (O N : List ℕ) (L : List (List ℕ)) (s a b : ℕ)
     → ((j u : ℕ) → IsIn u (get_or L j []) → get_or O u 0 ≡ j)
     → IsRewritten O N s (suc a) (suc b) → get_or O s 0 ≡ 0 → get_or O (twin s) 0 ≡ 0
     → suc a < length L → suc b < length L → a ≢ b
-    → shown N (moved_to (moved_to L 0 (suc a) s) 0 (suc b) (twin s)) ≡ joined (shown O L) a b
+    → shown N (moved_to (moved_to L 0 (suc a) s) 0 (suc b) (twin s)) ≡ joined_ends (shown O L) a b
 view-joined O N L s a b owned w free twin_free a_in b_in differ =
     let t : ℕ = twin s in
     let A : ℕ = suc a in
@@ -94,7 +94,7 @@ view-joined O N L s a b owned w free twin_free a_in b_in differ =
     let W : List (List ℕ) = with_last V a b in
     let lenW : length W ≡ length V = length-set V a (others_of V a ++ b ∷ []) in
     let b_W : b < length W = omega arith in
-    let lens : length (shown N L2) ≡ length (joined V a b) =
+    let lens : length (shown N L2) ≡ length (joined_ends V a b) =
     length-shown N L2 ∙ (ap (λ (n : ℕ). n - 1) two ∙ (sym lenV ∙ (sym lenW ∙ sym (length-set W b (others_of W b ++ a ∷ []))))) in
     let kept : (e : ℕ) → map (other N) (get_or L (suc e) []) ≡ map (other O) (get_or L (suc e) []) = λ e.
     map-same (other N) (other O) (get_or L (suc e) []) (λ u h.
@@ -104,17 +104,17 @@ view-joined O N L s a b owned w free twin_free a_in b_in differ =
     ap (λ (k : ℕ). k - 1) (twin_kept O N s A B w u n m)) in
     let leads_s : other N s ≡ b = ap (λ (k : ℕ). k - 1) w.at_second ∙ (let k : suc b - 1 ≡ b = omega arith in k) in
     let leads_t : other N t ≡ a = ap (λ (k : ℕ). k - 1) (twin_of_second O N s A B w) ∙ (let k : suc a - 1 ≡ a = omega arith in k) in
-    ext_get_or [] (shown N L2) (joined V a b) lens (λ e h.
+    ext_get_or [] (shown N L2) (joined_ends V a b) lens (λ e h.
     at_shown N L2 e ∙ elim (cases_eq e a) [
       | inl ea ↦
           let here : get_or L2 A [] ≡ get_or L A [] ++ s ∷ [] = moved_at_other L1 0 B t A A0 AB ∙ moved_at_to L 0 A s a_in A0 in
           let left : map (other N) (get_or L2 A []) ≡ map (other O) (get_or L A []) ++ b ∷ [] =
           ap (map (other N)) here ∙ (map-append (other N) (get_or L A []) (s ∷ [])
           ∙ (ap (λ (l : List ℕ). l ++ other N s ∷ []) (kept a) ∙ ap (λ (k : ℕ). map (other O) (get_or L A []) ++ k ∷ []) leads_s)) in
-          let right : get_or (joined V a b) a [] ≡ map (other O) (get_or L A []) ++ b ∷ [] =
+          let right : get_or (joined_ends V a b) a [] ≡ map (other O) (get_or L A []) ++ b ∷ [] =
           get_or-set_other W b a (others_of W b ++ a ∷ []) [] differ
           ∙ (get_or-set_same V a (others_of V a ++ b ∷ []) [] a_V ∙ ap (λ (l : List ℕ). l ++ b ∷ []) (at_shown O L a)) in
-          subst (λ (i : ℕ). map (other N) (get_or L2 (suc i) []) ≡ get_or (joined V a b) i []) (sym ea) (left ∙ sym right)
+          subst (λ (i : ℕ). map (other N) (get_or L2 (suc i) []) ≡ get_or (joined_ends V a b) i []) (sym ea) (left ∙ sym right)
       | inr na ↦ elim (cases_eq e b) [
         | inl eb ↦
             let here : get_or L2 B [] ≡ get_or L B [] ++ t ∷ [] =
@@ -122,10 +122,10 @@ view-joined O N L s a b owned w free twin_free a_in b_in differ =
             let left : map (other N) (get_or L2 B []) ≡ map (other O) (get_or L B []) ++ a ∷ [] =
             ap (map (other N)) here ∙ (map-append (other N) (get_or L B []) (t ∷ [])
             ∙ (ap (λ (l : List ℕ). l ++ other N t ∷ []) (kept b) ∙ ap (λ (k : ℕ). map (other O) (get_or L B []) ++ k ∷ []) leads_t)) in
-            let right : get_or (joined V a b) b [] ≡ map (other O) (get_or L B []) ++ a ∷ [] =
+            let right : get_or (joined_ends V a b) b [] ≡ map (other O) (get_or L B []) ++ a ∷ [] =
             get_or-set_same W b (others_of W b ++ a ∷ []) [] b_W
             ∙ ap (λ (l : List ℕ). l ++ a ∷ []) (get_or-set_other V a b (others_of V a ++ b ∷ []) [] ba ∙ at_shown O L b) in
-            subst (λ (i : ℕ). map (other N) (get_or L2 (suc i) []) ≡ get_or (joined V a b) i []) (sym eb) (left ∙ sym right)
+            subst (λ (i : ℕ). map (other N) (get_or L2 (suc i) []) ≡ get_or (joined_ends V a b) i []) (sym eb) (left ∙ sym right)
         | inr nb ↦
             let e0 : suc e ≢ 0 = omega arith in
             let eA : suc e ≢ A = omega arith in

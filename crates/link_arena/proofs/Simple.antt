@@ -1,26 +1,18 @@
 -- The joins that an arena shows are simple.
-use Rattle.std.proofs.Common.{◌≡◌, ◌≢◌, ℕ, ◌<◌, ◌≤◌, ◌-◌, List, [], ◌∷◌, length, get_or, map, refl, sym, ◌∙◌, ap, subst, arith, inl, inr, zero, suc}
+use Rattle.std.proofs.Common.{◌≡◌, ◌≢◌, ℕ, ◌<◌, ◌≤◌, ◌-◌, List, [], ◌∷◌, length, get_or, map, refl, sym, ◌∙◌, ap, subst, arith, inl, inr, suc}
 use Rattle.std.proofs.lemmas.Bool.{cases_lt}
 use Rattle.std.proofs.lemmas.List.{length-map, get_or_past}
 use Rattle.std.specs.Prelude.{Contains, AllPairs}
 use Rattle.link_arena.specs.declared.slot.Slot.{Slot}
 use Rattle.link_arena.specs.declared.slot.Head.{Head}
 use Rattle.link_arena.specs.Links.{others_of, IsSimple}
-use Rattle.link_arena.specs.Threads.{IsIn, IsDistinct}
 use Rattle.link_arena.specs.Lists.{lists, list_of, list_at, owners, owner_at}
 use Rattle.link_arena.specs.Twins.{twin, other, links, IsArena}
 use Rattle.link_arena.proofs.Filed.{in_some_list}
 use Rattle.link_arena.proofs.Twins.{twin-twin}
 use Rattle.link_arena.proofs.Shown.{at_shown, length-shown}
 use Rattle.link_arena.proofs.Arenas.{contains_mapped, owner_within}
-
-pub in_at : (xs : List ℕ) (k d y : ℕ) → k < length xs → get_or xs k d ≡ y → IsIn y xs
-in_at [] k d y within is = absurd (omega arith)
-in_at (x ∷ xs) zero d y within is = inl (sym is)
-in_at (x ∷ xs) (suc k) d y within is = let h : k < length xs = omega arith in inr (in_at xs k d y h is)
-
-pub in_from : (xs : List ℕ) (y : ℕ) → Contains xs y → IsIn y xs
-in_from xs y has = in_at xs has.0 y y has.1 has.2
+use Rattle.link_arena.proofs.Members.{IsIn, IsDistinct, in_from, pairs_from, thread_apart, owned_in, filed_in}
 
 pub record IsFrom (f : ℕ → ℕ) (xs : List ℕ) (y : ℕ) : Type 0 where
   pub source : ℕ
@@ -42,15 +34,6 @@ distinct-map f (x ∷ xs) apart one = (
   distinct-map f xs apart.1 (λ y z a b. one y z (inr a) (inr b)),
 )
 
-pub pairs_from : (xs : List ℕ) → IsDistinct xs → (i j d : ℕ) → i < j → j < length xs → get_or xs i d ≢ get_or xs j d
-pairs_from [] apart i j d before within = absurd (omega arith)
-pairs_from (x ∷ xs) apart i zero d before within = absurd (omega arith)
-pairs_from (x ∷ xs) apart zero (suc j) d before within = λ e. let h : j < length xs = omega arith in apart.0 (in_at xs j d x h (sym e))
-pairs_from (x ∷ xs) apart (suc i) (suc j) d before within =
-    let b : i < j = omega arith in
-    let h : j < length xs = omega arith in
-    pairs_from xs apart.1 i j d b h
-
 -- the slot behind a join that is shown
 pub record IsShownBy (heads : List Head) (slots : List Slot) (a b : ℕ) : Type 0 where
   pub slot : ℕ
@@ -70,7 +53,7 @@ shown_by heads slots ok a b has =
     let L : List (List ℕ) = lists heads slots in
     let has' : IsIn b (map (other O) (get_or L (suc a) [])) = in_from (map (other O) (get_or L (suc a) [])) b (subst (λ (l : List ℕ). Contains l b) (at_shown O L a) has) in
     let from : IsFrom (other O) (get_or L (suc a) []) b = unmapped (other O) (get_or L (suc a) []) b has' in
-    let own : owner_at slots from.source ≡ suc a = ok.filed.threaded.owned (suc a) from.source from.there in
+    let own : owner_at slots from.source ≡ suc a = owned_in ok.filed.threaded (suc a) from.source from.there in
     let some : owner_at slots (twin from.source) ≢ 0 = used_twin heads slots ok from.source a own in
     let is : owner_at slots (twin from.source) - 1 ≡ b = from.is in
     record { slot = from.source; there = from.there; own = own; leads = omega arith }
@@ -80,7 +63,7 @@ pub shows : (heads : List Head) (slots : List Slot) → IsArena heads slots → 
 shows heads slots ok u a b own leads =
     let O : List ℕ = owners slots in
     let L : List (List ℕ) = lists heads slots in
-    let there : IsIn u (get_or L (suc a) []) = subst (λ (i : ℕ). IsIn u (get_or L i [])) own (ok.filed.all u (owner_within slots u a own)) in
+    let there : IsIn u (get_or L (suc a) []) = subst (λ (i : ℕ). IsIn u (get_or L i [])) own (filed_in ok.filed u (owner_within slots u a own)) in
     let is : other O u ≡ b = ap (λ (k : ℕ). k - 1) leads ∙ (let k : suc b - 1 ≡ b = omega arith in k) in
     subst (λ (l : List ℕ). Contains l b) (sym (at_shown O L a))
     (subst (λ (k : ℕ). Contains (map (other O) (get_or L (suc a) [])) k) is (contains_mapped (other O) (get_or L (suc a) []) u there))
@@ -88,7 +71,7 @@ shows heads slots ok u a b own leads =
 pub list_distinct : (heads : List Head) (slots : List Slot) → IsArena heads slots → (id : ℕ) → IsDistinct (list_at heads slots id)
 list_distinct heads slots ok id =
     elim (cases_lt id (length heads)) [
-      | inl h ↦ (ok.filed.threaded.thread id h).apart
+      | inl h ↦ thread_apart (ok.filed.threaded.thread id h)
       | inr h ↦
           let past : length (lists heads slots) ≤ id = omega (arith, length-map heads (list_of slots)) in
           let none : list_at heads slots id ≡ [] = get_or_past (lists heads slots) id [] past in
@@ -103,7 +86,7 @@ simple heads slots ok =
       within = λ a b has.
           let by : IsShownBy heads slots a b = shown_by heads slots ok a b has in
           let there : suc b < length L = in_some_list L (suc b) (twin by.slot)
-          (subst (λ (i : ℕ). IsIn (twin by.slot) (get_or L i [])) by.leads (ok.filed.all (twin by.slot) (owner_within slots (twin by.slot) b by.leads))) in
+          (subst (λ (i : ℕ). IsIn (twin by.slot) (get_or L i [])) by.leads (filed_in ok.filed (twin by.slot) (owner_within slots (twin by.slot) b by.leads))) in
           let len : length (links heads slots) ≡ length L - 1 = length-shown O L in
           omega arith;
       symmetric = λ a b has.
@@ -115,8 +98,8 @@ simple heads slots ok =
       single = λ a.
           let xs : List ℕ = get_or L (suc a) [] in
           let apart : IsDistinct (map (other O) xs) = distinct-map (other O) xs (list_distinct heads slots ok (suc a)) (λ x y hx hy e.
-          let ox : owner_at slots x ≡ suc a = ok.filed.threaded.owned (suc a) x hx in
-          let oy : owner_at slots y ≡ suc a = ok.filed.threaded.owned (suc a) y hy in
+          let ox : owner_at slots x ≡ suc a = owned_in ok.filed.threaded (suc a) x hx in
+          let oy : owner_at slots y ≡ suc a = owned_in ok.filed.threaded (suc a) y hy in
           let sx : owner_at slots (twin x) ≢ 0 = used_twin heads slots ok x a ox in
           let sy : owner_at slots (twin y) ≢ 0 = used_twin heads slots ok y a oy in
           let e' : owner_at slots (twin x) - 1 ≡ owner_at slots (twin y) - 1 = e in

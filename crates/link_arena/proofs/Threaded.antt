@@ -5,9 +5,10 @@ use Rattle.std.proofs.lemmas.List.{get_or-set_same, get_or-set_other, length-set
 use Rattle.link_arena.specs.declared.slot.Slot.{Slot}
 use Rattle.link_arena.specs.declared.slot.Head.{Head}
 use Rattle.link_arena.specs.Links.{without}
-use Rattle.link_arena.specs.Threads.{walk, IsThread, LeadsThrough, IsIn, IsDistinct, start_past, step_past, start_onto, step_onto, last_or, first_or}
+use Rattle.link_arena.specs.Threads.{walk, IsThread, LeadsThrough, start_past, step_past, start_onto, step_onto, last_or, first_or}
 use Rattle.link_arena.specs.Lists.{nexts, previouses, owners, list_of, lists, head_at, list_at, IsThreaded, IsAfter}
 use Rattle.link_arena.proofs.Leads.{walk_is, thread-past, thread-beside, thread-onto, thread_onto-beside, around, IsAround, without-around, IsIn-either, IsIn-out_of, IsIn-left, IsIn-right, without_out, distinct-push, back_gives, leads-after, leads-first, reverse-around, last_or-in, last_gives}
+use Rattle.link_arena.proofs.Members.{IsIn, IsDistinct, in_from, thread_within, thread_apart, owned_in}
 
 pub get_or-mapped : {X Y : Type 0} (f : X → Y) (xs : List X) (i : ℕ) (d : X) (e : Y) → i < length xs → get_or (map f xs) i e ≡ f (get_or xs i d)
 get_or-mapped f [] i d e within = absurd (omega arith)
@@ -80,14 +81,14 @@ rebuilt heads slots id h' slots' xs within mine len beside owned =
                   let R : List ℕ → Type 0 = λ (l : List ℕ). IsThread (nexts slots') (previouses slots') (head_at heads j).first (head_at heads j).last l in
                   subst Q (sym there) (subst R (sym list_is) (beside j jo n))
             ];
-        owned = λ j s h. owned j s (subst (λ (l : List (List ℕ)). IsIn s (get_or l j [])) eq h);
+        owned = λ j s h. owned j s (subst (λ (l : List (List ℕ)). IsIn s (get_or l j [])) eq (in_from (list_at heads' slots' j) s h));
       };
       lists_are = eq;
     }
 
 pub apart_lists : (heads : List Head) (slots : List Slot) → IsThreaded heads slots → (id j : ℕ) → j ≢ id
     → (x : ℕ) → IsIn x (list_at heads slots id) → ¬ IsIn x (list_at heads slots j)
-apart_lists heads slots ok id j n x here there = n (sym (ok.owned j x there) ∙ ok.owned id x here)
+apart_lists heads slots ok id j n x here there = n (sym (owned_in ok j x there) ∙ owned_in ok id x here)
 
 thread-by : (N N' P P' : List ℕ) (f f' l l' : ℕ) (xs : List ℕ) → N' ≡ N → P' ≡ P → f' ≡ f → l' ≡ l → IsThread N P f l xs → IsThread N' P' f' l' xs
 thread-by N N' P P' f f' l l' xs a b c d t =
@@ -117,7 +118,7 @@ unlinked heads slots id at h' slots' ok within there first last len nexts_are pr
     let ys : List ℕ = parts.before in
     let zs : List ℕ = parts.after in
     let t : IsThread N P h.first h.last (ys ++ at ∷ zs) = subst (IsThread N P h.first h.last) parts.is (ok.thread id within) in
-    let cut : without at xs ≡ ys ++ zs = ap (without at) parts.is ∙ without-around ys at zs t.apart in
+    let cut : without at xs ≡ ys ++ zs = ap (without at) parts.is ∙ without-around ys at zs (thread_apart t) in
     let mine : IsThread (nexts slots') (previouses slots') h'.first h'.last (ys ++ zs) =
     thread-by N' (nexts slots') P' (previouses slots') (start_past N h.first at) h'.first (start_past P h.last at) h'.last (ys ++ zs)
     nexts_are previouses_are first last (thread-past N P h.first h.last ys at zs t) in
@@ -137,8 +138,8 @@ unlinked heads slots id at h' slots' ok within there first last len nexts_are pr
           let k1 : IsIn s (get_or (set (lists heads slots) id (without at xs)) id []) = subst (λ (i : ℕ). IsIn s (get_or (set (lists heads slots) id (without at xs)) i [])) e k in
           let k2 : IsIn s (without at xs) = subst (IsIn s) (get_or-set_same (lists heads slots) id (without at xs) [] in_lists) k1 in
           let k3 : IsIn s (ys ++ at ∷ zs) = IsIn-out_of s ys at zs (subst (IsIn s) cut k2) in
-          ok.owned id s (subst (IsIn s) (sym parts.is) k3) ∙ sym e
-      | inr n ↦ ok.owned j s (subst (IsIn s) (get_or-set_other (lists heads slots) id j (without at xs) [] n) k)
+          owned_in ok id s (subst (IsIn s) (sym parts.is) k3) ∙ sym e
+      | inr n ↦ owned_in ok j s (subst (IsIn s) (get_or-set_other (lists heads slots) id j (without at xs) [] n) k)
     ])
 
 -- a list of different numbers below n has n at most
@@ -199,9 +200,9 @@ room_for heads slots id at ok within at_within out =
     let xs : List ℕ = list_at heads slots id in
     let t : IsThread (nexts slots) (previouses slots) (head_at heads id).first (head_at heads id).last xs = ok.thread id within in
     let count : length (nexts slots) ≡ length slots = length-map slots (λ (s : Slot). s.next) in
-    let le : length (xs ++ at ∷ []) ≤ length slots = pigeon (length slots) (xs ++ at ∷ []) (distinct-push xs at t.apart out)
+    let le : length (xs ++ at ∷ []) ≤ length slots = pigeon (length slots) (xs ++ at ∷ []) (distinct-push xs at (thread_apart t) out)
     (λ x h. elim (IsIn-either x xs (at ∷ []) h) [
-      | inl e ↦ subst (λ (n : ℕ). x < n) count (t.within x e).0
+      | inl e ↦ subst (λ (n : ℕ). x < n) count (thread_within t x e).0
       | inr e ↦ elim e [ inl same ↦ subst (λ (k : ℕ). k < length slots) (sym same) at_within | inr none ↦ absurd none ]
     ]) in
     omega (arith, le, length_push xs at, length-list_at heads slots id within)
@@ -246,7 +247,7 @@ linked heads slots id at h' slots' ok within at_within out first last len nexts_
           elim (IsIn-either s xs (at ∷ []) k2) [
             | inl old ↦
                 let n : s ≢ at = λ same. out id (subst (λ (i : ℕ). IsIn i xs) same old) in
-                get_or-set_other (owners slots) at s id 0 n ∙ (ok.owned id s old ∙ sym e)
+                get_or-set_other (owners slots) at s id 0 n ∙ (owned_in ok id s old ∙ sym e)
             | inr new ↦ elim new [
               | inl same ↦ ap (λ (i : ℕ). get_or (set (owners slots) at id) i 0) same ∙ (get_or-set_same (owners slots) at id 0 in_owners ∙ sym e)
               | inr none ↦ absurd none
@@ -255,7 +256,7 @@ linked heads slots id at h' slots' ok within at_within out first last len nexts_
       | inr n ↦
           let old : IsIn s (list_at heads slots j) = subst (IsIn s) (get_or-set_other (lists heads slots) id j (xs ++ at ∷ []) [] n) k in
           let ne : s ≢ at = λ same. out j (subst (λ (i : ℕ). IsIn i (list_at heads slots j)) same old) in
-          get_or-set_other (owners slots) at s id 0 ne ∙ ok.owned j s old
+          get_or-set_other (owners slots) at s id 0 ne ∙ owned_in ok j s old
     ])
 
 -- where the ways of a slot that is taken out lead
@@ -265,7 +266,7 @@ pub bounds_around : (heads : List Head) (slots : List Slot) (id at : ℕ) → Is
 bounds_around heads slots id at ok within there =
     let t : IsThread (nexts slots) (previouses slots) (head_at heads id).first (head_at heads id).last (list_at heads slots id) = ok.thread id within in
     let parts : IsAround (list_at heads slots id) at = around (list_at heads slots id) at there in (
-      subst (λ (n : ℕ). at < n) (length-map slots (λ (s : Slot). s.next)) (t.within at there).0,
+      subst (λ (n : ℕ). at < n) (length-map slots (λ (s : Slot). s.next)) (thread_within t at there).0,
       omega (arith, length-list_at heads slots id within, ap length parts.is, length-append parts.before (at ∷ parts.after)),
     )
 
@@ -277,7 +278,7 @@ before_within heads slots id at ok within there away =
     let t : IsThread (nexts slots) (previouses slots) h.first h.last (parts.before ++ at ∷ parts.after) = subst (IsThread (nexts slots) (previouses slots) h.first h.last) parts.is (ok.thread id within) in
     let b : ℕ = get_or (previouses slots) at 0 in
     let is : last_or b parts.before ≡ b = back_gives (nexts slots) (previouses slots) h.first h.last parts.before at parts.after t in
-    subst (λ (n : ℕ). b < n) (length-map slots (λ (s : Slot). s.next)) (first_part (nexts slots) h.first parts.before at parts.after b t.ahead away is (λ x h. (t.within x (IsIn-left x parts.before (at ∷ parts.after) h)).0))
+    subst (λ (n : ℕ). b < n) (length-map slots (λ (s : Slot). s.next)) (first_part (nexts slots) h.first parts.before at parts.after b t.ahead away is (λ x h. (thread_within t x (IsIn-left x parts.before (at ∷ parts.after) h)).0))
   where
     first_part : (step : List ℕ) (start : ℕ) (ys : List ℕ) (at : ℕ) (zs : List ℕ) (b : ℕ) → LeadsThrough step start (ys ++ at ∷ zs) → start ≢ at → last_or b ys ≡ b
         → ((x : ℕ) → IsIn x ys → x < length step) → b < length step
@@ -295,7 +296,7 @@ after_within heads slots id at ok within there away =
     let back : LeadsThrough (previouses slots) h.last (reverse parts.after ++ at ∷ reverse parts.before) = subst (LeadsThrough (previouses slots) h.last) (reverse-around parts.before at parts.after) t.back in
     subst (λ (n : ℕ). b < n) (length-map slots (λ (s : Slot). s.next))
     (first_of_rest parts.after b (λ none. away (at_end (previouses slots) h.last parts.after at (reverse parts.before) none back)) (leads-first (nexts slots) b parts.after step)
-    (λ x h. (t.within x (IsIn-right x parts.before (at ∷ parts.after) (inr h))).0))
+    (λ x h. (thread_within t x (IsIn-right x parts.before (at ∷ parts.after) (inr h))).0))
   where
     first_of_rest : {n : ℕ} (zs : List ℕ) (b : ℕ) → zs ≢ [] → first_or b zs ≡ b → ((x : ℕ) → IsIn x zs → x < n) → b < n
     first_of_rest [] b some is below = absurd (some refl)
@@ -313,7 +314,7 @@ last_within heads slots id ok within some =
     let xs : List ℕ = list_at heads slots id in
     let t : IsThread (nexts slots) (previouses slots) h.first h.last xs = ok.thread id within in
     let len : 0 < length xs = omega (arith, length-list_at heads slots id within) in
-    subst (λ (n : ℕ). h.last < n) (length-map slots (λ (s : Slot). s.next)) (of_some xs h.last len (last_gives (nexts slots) (previouses slots) h.first h.last xs t) (λ x k. (t.within x k).0))
+    subst (λ (n : ℕ). h.last < n) (length-map slots (λ (s : Slot). s.next)) (of_some xs h.last len (last_gives (nexts slots) (previouses slots) h.first h.last xs t) (λ x k. (thread_within t x k).0))
   where
     of_some : {n : ℕ} (xs : List ℕ) (b : ℕ) → 0 < length xs → last_or b xs ≡ b → ((x : ℕ) → IsIn x xs → x < n) → b < n
     of_some [] b some is below = absurd (omega arith)

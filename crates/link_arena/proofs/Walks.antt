@@ -1,9 +1,10 @@
 -- A walk along a list.
 use Rattle.std.proofs.Common.{◌≡◌, ℕ, ◌<◌, ◌-◌, List, [], ◌∷◌, get_or, map, refl, sym, ◌∙◌, ap, subst, arith, inl, inr, ◌⊎◌, zero, suc}
 use Rattle.link_arena.specs.declared.slot.Slot.{Slot}
-use Rattle.link_arena.specs.Threads.{IsIn, walk}
+use Rattle.link_arena.specs.Threads.{walk}
 use Rattle.link_arena.specs.Lists.{nexts, owners}
 use Rattle.link_arena.specs.Twins.{other, IsListed}
+use Rattle.link_arena.proofs.Members.{IsIn, in_from, contains_in}
 
 pub walk_more : (N : List ℕ) (n at : ℕ) → 0 < n → walk N n at ≡ at ∷ walk N (n - 1) (get_or N at 0)
 walk_more N zero at some = absurd (omega arith)
@@ -37,10 +38,10 @@ walk_none N (suc n) at s none h = absurd (omega arith)
 
 pub listed_some : (slots : List Slot) (xs ys : List ℕ) → ((s : ℕ) → IsIn s ys → IsIn s xs) → IsListed slots xs → IsListed slots ys
 listed_some slots xs ys sub ok = record {
-  within = λ s h. ok.within s (sub s h);
-  twin_within = λ s h. ok.twin_within s (sub s h);
-  some = λ s h. ok.some s (sub s h);
-  few = λ s h. ok.few s (sub s h);
+  within = λ s h. ok.within s (contains_in xs s (sub s (in_from ys s h)));
+  twin_within = λ s h. ok.twin_within s (contains_in xs s (sub s (in_from ys s h)));
+  some = λ s h. ok.some s (contains_in xs s (sub s (in_from ys s h)));
+  few = λ s h. ok.few s (contains_in xs s (sub s (in_from ys s h)));
 }
 
 pub listed_here : (slots : List Slot) (n at : ℕ) → 0 < n → IsListed slots (walk (nexts slots) n at) → IsListed slots (at ∷ [])

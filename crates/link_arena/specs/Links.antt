@@ -37,8 +37,8 @@ abbrev pub with_last : List (List ℕ) → ℕ → ℕ → List (List ℕ)
 with_last links a b = slice_set links a (others_of links a ++ b ∷ [])
 
 -- a and b are joined, each last at the other
-abbrev pub joined : List (List ℕ) → ℕ → ℕ → List (List ℕ)
-joined links a b = with_last (with_last links a b) b a
+abbrev pub joined_ends : List (List ℕ) → ℕ → ℕ → List (List ℕ)
+joined_ends links a b = with_last (with_last links a b) b a
 
 -- b is no other of a any more
 abbrev pub without_other : List (List ℕ) → ℕ → ℕ → List (List ℕ)

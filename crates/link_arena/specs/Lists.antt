@@ -1,9 +1,9 @@
 -- The lists that the slots of an arena stand in.
-use Rattle.std.specs.Prelude.{◌≡◌, ℕ, ◌<◌, List, map, length, slice_index, slice_index_or, slice_set, []}
+use Rattle.std.specs.Prelude.{◌≡◌, ℕ, ◌<◌, List, map, length, slice_index, slice_index_or, slice_set, [], Contains}
 use Rattle.link_arena.specs.declared.slot.Slot.{Slot}
 use Rattle.link_arena.specs.declared.slot.Head.{Head}
 use Rattle.link_arena.specs.Links.{with_last, without_other}
-use Rattle.link_arena.specs.Threads.{walk, IsThread, IsIn}
+use Rattle.link_arena.specs.Threads.{walk, IsThread}
 
 abbrev pub nexts : List Slot → List ℕ
 nexts slots = map (λ slot. slot.next) slots
@@ -30,7 +30,7 @@ list_at heads slots id = slice_index_or (lists heads slots) id []
 pub record IsThreaded (heads : List Head) (slots : List Slot) : Type 0 where
   pub thread : (id : ℕ) → id < length heads
       → IsThread (nexts slots) (previouses slots) (head_at heads id).first (head_at heads id).last (list_at heads slots id)
-  pub owned : (id s : ℕ) → IsIn s (list_at heads slots id) → slice_index (owners slots) s ≡ id
+  pub owned : (id s : ℕ) → Contains (list_at heads slots id) s → slice_index (owners slots) s ≡ id
 
 -- one list of an arena has changed
 pub record IsAfter (heads : List Head) (slots : List Slot) (heads' : List Head) (slots' : List Slot) (id : ℕ) (xs : List ℕ) : Type 0 where
@@ -43,7 +43,7 @@ owner_at slots s = slice_index (owners slots) s
 -- each slot stands in the list that it names, and in no other
 pub record IsFiled (heads : List Head) (slots : List Slot) : Type 0 where
   pub threaded : IsThreaded heads slots
-  pub all : (s : ℕ) → s < length slots → IsIn s (list_at heads slots (owner_at slots s))
+  pub all : (s : ℕ) → s < length slots → Contains (list_at heads slots (owner_at slots s)) s
 
 -- a slot leaves its list, and stands last in one
 abbrev pub moved_to : List (List ℕ) → ℕ → ℕ → ℕ → List (List ℕ)

@@ -1,5 +1,5 @@
 -- Lists that are threaded through a table: from a start each number's step leads to the next.
-use Rattle.std.specs.Prelude.{◌≡◌, ℕ, zero, suc, List, [], ◌∷◌, ◌<◌, length, ◌⊎◌, ◌==◌, cond, reverse, slice_index, slice_set}
+use Rattle.std.specs.Prelude.{◌≡◌, ◌≢◌, ℕ, zero, suc, List, [], ◌∷◌, ◌<◌, length, ◌==◌, cond, reverse, slice_index, slice_set, Contains, AllPairs}
 
 -- the numbers that the steps lead to from a start on, as many as are asked for
 abbrev pub walk : List ℕ → ℕ → ℕ → List ℕ
@@ -10,14 +10,6 @@ walk step (suc n) at = at ∷ walk step n (slice_index step at)
 abbrev pub LeadsThrough : List ℕ → ℕ → List ℕ → Type 0
 LeadsThrough step at [] = Unit {0}
 LeadsThrough step at (x ∷ xs) = (at ≡ x) × LeadsThrough step (slice_index step x) xs
-
-abbrev pub IsIn : ℕ → List ℕ → Type 0
-IsIn x [] = ⊥
-IsIn x (y ∷ ys) = (x ≡ y) ⊎ IsIn x ys
-
-abbrev pub IsDistinct : List ℕ → Type 0
-IsDistinct [] = Unit {0}
-IsDistinct (x ∷ xs) = (¬ IsIn x xs) × IsDistinct xs
 
 -- a number is taken out: the start, and the steps, that pass it
 abbrev pub start_past : List ℕ → ℕ → ℕ → ℕ
@@ -47,5 +39,5 @@ step_onto step (suc n) last at = slice_set step last at
 pub record IsThread (nexts previouses : List ℕ) (first last : ℕ) (xs : List ℕ) : Type 0 where
   pub ahead : LeadsThrough nexts first xs
   pub back : LeadsThrough previouses last (reverse xs)
-  pub apart : IsDistinct xs
-  pub within : (x : ℕ) → IsIn x xs → (x < length nexts) × (x < length previouses)
+  pub apart : AllPairs (λ x y. x ≢ y) xs
+  pub within : (x : ℕ) → Contains xs x → (x < length nexts) × (x < length previouses)

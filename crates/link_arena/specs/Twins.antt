@@ -1,9 +1,8 @@
 -- The two slots of a row are twins: each names, as the list that it stands in, one end of a join. List 0 has the free slots, and the list of an end comes one later.
-use Rattle.std.specs.Prelude.{◌≡◌, ◌≢◌, ℕ, ◌+◌, ◌-◌, ◌%◌, ◌≤◌, ◌<◌, ◌^◌, ◌==◌, ◌++◌, ◌∷◌, [], cond, List, map, drop, length, slice_index, slice_set}
+use Rattle.std.specs.Prelude.{◌≡◌, ◌≢◌, ℕ, ◌+◌, ◌-◌, ◌%◌, ◌≤◌, ◌<◌, ◌^◌, ◌==◌, ◌++◌, ◌∷◌, [], cond, List, map, drop, length, slice_index, slice_set, Contains}
 use Rattle.link_arena.specs.declared.slot.Slot.{Slot}
 use Rattle.link_arena.specs.declared.slot.Head.{Head}
 use Rattle.link_arena.specs.Links.{others_of, without}
-use Rattle.link_arena.specs.Threads.{IsIn}
 use Rattle.link_arena.specs.Lists.{lists, list_at, owners, IsFiled}
 
 -- the other slot of a slot's row
@@ -54,14 +53,14 @@ pub record IsGrown (heads : List Head) (slots grown : List Slot) (at : ℕ) : Ty
 
 -- slots that lead to ends
 pub record IsListed (slots : List Slot) (xs : List ℕ) : Type 0 where
-  pub within : (s : ℕ) → IsIn s xs → s < length slots
-  pub twin_within : (s : ℕ) → IsIn s xs → twin s < length slots
-  pub some : (s : ℕ) → IsIn s xs → 0 < slice_index (owners slots) (twin s)
-  pub few : (s : ℕ) → IsIn s xs → slice_index (owners slots) (twin s) ≤ 2 ^ 32
+  pub within : (s : ℕ) → Contains xs s → s < length slots
+  pub twin_within : (s : ℕ) → Contains xs s → twin s < length slots
+  pub some : (s : ℕ) → Contains xs s → 0 < slice_index (owners slots) (twin s)
+  pub few : (s : ℕ) → Contains xs s → slice_index (owners slots) (twin s) ≤ 2 ^ 32
 
 -- the list that each slot leads to is marked with the slot
 abbrev pub IsMarkedFor : List Slot → List ℕ → List ℕ → Type 0
-IsMarkedFor slots marks xs = (s : ℕ) → IsIn s xs → slice_index marks (slice_index (owners slots) (twin s)) ≡ s
+IsMarkedFor slots marks xs = (s : ℕ) → Contains xs s → slice_index marks (slice_index (owners slots) (twin s)) ≡ s
 
 -- one of the ends that an end is joined to has come last
 pub record IsRequeued (heads : List Head) (slots : List Slot) (heads' : List Head) (slots' : List Slot) (marks : List ℕ) (a A x : ℕ) : Type 0 where

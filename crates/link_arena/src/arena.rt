@@ -1,5 +1,5 @@
 ghost use Rattle.std.specs.Prelude.{◌≡◌, ◌≢◌, ℕ, ◌+◌, ◌<◌, ◌^◌, List, [], ◌++◌, length, replicate, ◌↔◌, IsTrue, IfOk, OnOk, OnErr, Contains, IsPermutation, slice_set, take, ◌≤◌};
-ghost use Rattle.link_arena.specs.Links.{others_of, IsSimple, joined, parted, all_parted};
+ghost use Rattle.link_arena.specs.Links.{others_of, IsSimple, joined_ends, parted, all_parted};
 ghost use Rattle.link_arena.specs.Twins.{no_head, with_free_head};
 
 use crate::others::Others;
@@ -12,7 +12,7 @@ use std::marker::Model;
 
 /// Ends, numbered from 0, and joins between them. A join stands at two different ends, and two ends are joined at
 /// most once. Contracts see an arena as a list: at each end, the ends that it is joined to, in its order.
-#[derive(Debug, Drop)]
+#[derive(Drop)]
 pub struct Arena {
     heads: Vec<Head>,
     slots: Vec<Slot>,
@@ -100,7 +100,7 @@ impl Arena {
         requires first_within { first < length self.old }
         requires second_within { second < length self.old }
         requires unjoined { ¬ Contains (others_of self.old first) second }
-        ensures ok { OnOk result (self.new ≡ joined self.old first second) }
+        ensures ok { OnOk result (self.new ≡ joined_ends self.old first second) }
         ensures err { OnErr result (self.new ≡ self.old) }
     {
         join_at(self.heads.as_mut_slice(), &mut self.slots, first, second)

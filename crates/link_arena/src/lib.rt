@@ -16,6 +16,3 @@ mod slot;
 
 pub use arena::Arena;
 pub use others::Others;
-
-#[cfg(test)]
-mod tests;

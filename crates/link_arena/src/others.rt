@@ -1,6 +1,6 @@
 ghost use Rattle.std.specs.Prelude.{◌≡◌, ℕ, ◌<◌, ◌≤◌, ◌^◌, map, ◌∷◌, []};
 ghost use Rattle.std.specs.Iterator.{YieldsFirst, item_count};
-ghost use Rattle.link_arena.specs.Threads.{walk, IsIn};
+ghost use Rattle.link_arena.specs.Threads.{walk};
 ghost use Rattle.link_arena.specs.Lists.{nexts, owners, list_of};
 ghost use Rattle.link_arena.specs.Twins.{other, IsListed};
 

@@ -1,6 +1,5 @@
 ghost use Rattle.std.specs.Prelude.{◌≡◌, ℕ, ◌+◌, ◌<◌, ◌≤◌, Contains, IsPermutation, length, slice_index, slice_set};
 ghost use Rattle.link_arena.specs.Links.{others_of};
-ghost use Rattle.link_arena.specs.Threads.{IsIn};
 ghost use Rattle.link_arena.specs.Lists.{list_at, list_of, owner_at};
 ghost use Rattle.link_arena.specs.Twins.{twin, IsListed, IsMarkedFor, IsRequeued, links, IsArena};
 
@@ -10,8 +9,8 @@ use crate::slot::{Head, Slot, move_to, next_of, owner_of};
 /// Marks the list that each slot of a list leads to with the slot.
 fn mark(slots: &[Slot], head: Head, marks: &mut [usize])
     requires listed { IsListed slots.now (list_of slots.now head) }
-    requires room { (s : ℕ) → IsIn s (list_of slots.now head) → owner_at slots.now (twin s) < length marks.old }
-    requires single { (s u : ℕ) → IsIn s (list_of slots.now head) → IsIn u (list_of slots.now head) → owner_at slots.now (twin s) ≡ owner_at slots.now (twin u) → s ≡ u }
+    requires room { (s : ℕ) → Contains (list_of slots.now head) s → owner_at slots.now (twin s) < length marks.old }
+    requires single { (s u : ℕ) → Contains (list_of slots.now head) s → Contains (list_of slots.now head) u → owner_at slots.now (twin s) ≡ owner_at slots.now (twin u) → s ≡ u }
     ensures { IsMarkedFor slots.now marks.new (list_of slots.now head) }
 {
     let mut at = head.first;

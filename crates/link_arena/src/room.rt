@@ -1,5 +1,5 @@
 ghost use Rattle.std.specs.Prelude.{◌≡◌, ◌≢◌, ℕ, ◌+◌, ◌<◌, ◌++◌, ◌∷◌, [], length, take, OnOk, OnErr, Contains};
-ghost use Rattle.link_arena.specs.Links.{others_of, joined};
+ghost use Rattle.link_arena.specs.Links.{others_of, joined_ends};
 ghost use Rattle.link_arena.specs.Lists.{list_at};
 ghost use Rattle.link_arena.specs.Twins.{links, IsArena, IsGrown, free_row};
 
@@ -76,7 +76,7 @@ pub(crate) fn join_at(
     requires unjoined { ¬ Contains (others_of (links heads.old slots.old.items) first) second }
     ensures arena { IsArena heads.new slots.new.items }
     ensures count { length heads.new ≡ length heads.old }
-    ensures ok { OnOk result (links heads.new slots.new.items ≡ joined (links heads.old slots.old.items) first second) }
+    ensures ok { OnOk result (links heads.new slots.new.items ≡ joined_ends (links heads.old slots.old.items) first second) }
     ensures err { OnErr result (links heads.new slots.new.items ≡ links heads.old slots.old.items) }
 {
     need_row(heads, slots)?;

@@ -1,7 +1,6 @@
 ghost use Rattle.std.specs.Prelude.{◌≡◌, ◌↔◌, IsTrue, ◌≢◌, ℕ, ◌+◌, ◌-◌, ◌<◌, ◌^◌, [], length, IfSome, IfNone, Contains, slice_index};
 ghost use Rattle.std.specs.Bool.{OnTrue, OnFalse};
-ghost use Rattle.link_arena.specs.Links.{others_of, joined, parted, all_parted, IsPartedSomewhere};
-ghost use Rattle.link_arena.specs.Threads.{IsIn};
+ghost use Rattle.link_arena.specs.Links.{others_of, joined_ends, parted, all_parted, IsPartedSomewhere};
 ghost use Rattle.link_arena.specs.Lists.{list_of, list_at, nexts, owner_at};
 ghost use Rattle.link_arena.specs.Twins.{twin, links, IsArena};
 
@@ -26,7 +25,7 @@ fn join_by(heads: &mut [Head], slots: &mut [Slot], at: usize, first: u32, second
     requires unjoined { ¬ Contains (others_of (links heads.old slots.old) first) second }
     ensures arena { IsArena heads.new slots.new }
     ensures count { length heads.new ≡ length heads.old }
-    ensures view { links heads.new slots.new ≡ joined (links heads.old slots.old) first second }
+    ensures view { links heads.new slots.new ≡ joined_ends (links heads.old slots.old) first second }
 {
     let twin = twin_of(at);
     move_to(heads, slots, first as usize + 1, at);
@@ -49,9 +48,9 @@ pub(crate) fn part_by(heads: &mut [Head], slots: &mut [Slot], at: usize)
 
 /// The slot of a list that leads to an end, which has the list of the given number.
 pub(crate) fn find(slots: &[Slot], head: Head, id: usize) -> Option<usize>
-    requires within { (s : ℕ) → IsIn s (list_of slots.now head) → (s < length slots.now) × (twin s < length slots.now) }
-    ensures found { IfSome result (λ s. IsIn s (list_of slots.now head) × (owner_at slots.now (twin s) ≡ id)) }
-    ensures none { IfNone result ((s : ℕ) → IsIn s (list_of slots.now head) → owner_at slots.now (twin s) ≢ id) }
+    requires within { (s : ℕ) → Contains (list_of slots.now head) s → (s < length slots.now) × (twin s < length slots.now) }
+    ensures found { IfSome result (λ s. Contains (list_of slots.now head) s × (owner_at slots.now (twin s) ≡ id)) }
+    ensures none { IfNone result ((s : ℕ) → Contains (list_of slots.now head) s → owner_at slots.now (twin s) ≢ id) }
 {
     let mut at = head.first;
     let mut left = head.len;
@@ -187,7 +186,7 @@ pub(crate) fn join_first(heads: &mut [Head], slots: &mut [Slot], first: u32, sec
     requires room { 0 < length (list_at heads.old slots.old 0) }
     ensures arena { IsArena heads.new slots.new }
     ensures count { length heads.new ≡ length heads.old }
-    ensures view { links heads.new slots.new ≡ joined (links heads.old slots.old) first second }
+    ensures view { links heads.new slots.new ≡ joined_ends (links heads.old slots.old) first second }
 {
     if let Some(at) = first_of(heads, slots, 0) {
         join_by(heads, slots, at, first, second);

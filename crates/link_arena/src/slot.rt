@@ -1,10 +1,10 @@
-ghost use Rattle.std.specs.Prelude.{◌≡◌, ℕ, ◌++◌, ◌∷◌, [], ◌<◌, ◌≢◌, ◌-◌, ◌+◌, length, slice_index, slice_set};
-ghost use Rattle.link_arena.specs.Threads.{start_past, step_past, start_onto, step_onto, IsIn};
+ghost use Rattle.std.specs.Prelude.{◌≡◌, ℕ, ◌++◌, ◌∷◌, [], ◌<◌, ◌≢◌, ◌-◌, ◌+◌, length, slice_index, slice_set, Contains};
+ghost use Rattle.link_arena.specs.Threads.{start_past, step_past, start_onto, step_onto};
 ghost use Rattle.link_arena.specs.Links.{without};
 ghost use Rattle.link_arena.specs.Lists.{nexts, previouses, owners, owner_at, lists, list_at, moved_to, IsThreaded, IsAfter, IsFiled};
 
 /// One side of a row: the number of the list that it stands in, and its neighbours there.
-#[derive(Clone, Copy, Debug, Drop)]
+#[derive(Clone, Copy)]
 pub struct Slot {
     pub owner: usize,
     pub next: usize,
@@ -12,7 +12,7 @@ pub struct Slot {
 }
 
 /// A list of slots: its ends, and how many it has.
-#[derive(Clone, Copy, Debug, Drop)]
+#[derive(Clone, Copy)]
 pub struct Head {
     pub first: usize,
     pub last: usize,
@@ -149,7 +149,7 @@ fn put_last(slots: &mut [Slot], head: Head, at: usize) -> Head
 fn unlink(heads: &mut [Head], slots: &mut [Slot], id: usize, at: usize)
     requires threaded { IsThreaded heads.old slots.old }
     requires within { id < length heads.old }
-    requires there { IsIn at (list_at heads.old slots.old id) }
+    requires there { Contains (list_at heads.old slots.old id) at }
     ensures after { IsAfter heads.old slots.old heads.new slots.new id (without at (list_at heads.old slots.old id)) }
     ensures owners { owners slots.new ≡ owners slots.old }
 {
@@ -161,7 +161,7 @@ pub(crate) fn link(heads: &mut [Head], slots: &mut [Slot], id: usize, at: usize)
     requires threaded { IsThreaded heads.old slots.old }
     requires within { id < length heads.old }
     requires slot_within { at < length slots.old }
-    requires out { (other : ℕ) → ¬ IsIn at (list_at heads.old slots.old other) }
+    requires out { (other : ℕ) → ¬ Contains (list_at heads.old slots.old other) at }
     ensures after { IsAfter heads.old slots.old heads.new slots.new id (list_at heads.old slots.old id ++ at ∷ []) }
     ensures owners { owners slots.new ≡ slice_set (owners slots.old) at id }
 {

@@ -1,7 +1,8 @@
 use Rattle.std.proofs.Common.{◌≡◌, ℕ, ◌⊎◌, get_or}
-use Rattle.link_arena.specs.Threads.{IsIn, walk}
+use Rattle.link_arena.specs.Threads.{walk}
 use Rattle.link_arena.specs.Lists.{nexts, list_of, owner_at}
 use Rattle.link_arena.specs.Twins.{twin}
+use Rattle.link_arena.proofs.Members.{IsIn}
 use Rattle.link_arena.proofs.reorder.mark.Given as goal
 
 abbrev pub invariant-loop-left : goal.invariant-loop-left

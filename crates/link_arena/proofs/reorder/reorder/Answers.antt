@@ -1,9 +1,12 @@
+use Rattle.link_arena.specs.Lists.{head_at}
+use Rattle.link_arena.specs.Lists.{list_of}
 use Rattle.std.proofs.Common.{arith, ◌<◌, ◌+◌, length, subst, sym}
 use Rattle.link_arena.specs.Lists.{owner_at}
 use Rattle.link_arena.specs.Twins.{twin, IsMarkedFor}
 use Rattle.link_arena.proofs.Found.{in_list_at}
 use Rattle.link_arena.proofs.Threaded.{list_at-is}
 use Rattle.link_arena.proofs.InOrder.{listed_at, end_listed, end_single}
+use Rattle.link_arena.proofs.Members.{in_from}
 use Rattle.link_arena.proofs.reorder.reorder.Goals as goal
 
 pub mark-requires-clause-listed : goal.mark-requires-clause-listed
@@ -13,7 +16,7 @@ mark-requires-clause-listed c =
 pub mark-requires-clause-room : goal.mark-requires-clause-room
 mark-requires-clause-room c = λ s h.
     let n : owner_at c.args.slots.now (twin s) < length c.args.heads.now = (listed_at c.args.heads.now c.args.slots.now c.requires.arena c.args.end (c.args.end + 1) (omega arith) c.requires.within s
-    (in_list_at c.args.heads.now c.args.slots.now (c.args.end + 1) c.requires.within s h)).1.1 in
+    (in_list_at c.args.heads.now c.args.slots.now (c.args.end + 1) c.requires.within s (in_from (list_of c.args.slots.now (head_at c.args.heads.now (c.args.end + 1))) s h))).1.1 in
     omega arith
 
 pub mark-requires-clause-single : goal.mark-requires-clause-single

@@ -1,5 +1,7 @@
+use Rattle.link_arena.specs.Lists.{list_at}
 use Rattle.std.proofs.Common.{take, refl, arith, ◌+◌}
 use Rattle.link_arena.proofs.Grown.{grown_arena, grown_threaded, grown_out, grown_out_next}
+use Rattle.link_arena.proofs.Members.{in_from}
 use Rattle.link_arena.proofs.room.thread_row.Goals as goal
 
 pub returns-clause-arena : goal.returns-clause-arena
@@ -22,9 +24,10 @@ pub link-requires-clause-threaded : goal.link-requires-clause-threaded
 link-requires-clause-threaded c = grown_threaded c.args.heads.now (take c.args.at c.args.slots.now) c.args.slots.now c.args.at c.requires
 
 pub link-requires-clause-out : goal.link-requires-clause-out
-link-requires-clause-out c = grown_out c.args.heads.now (take c.args.at c.args.slots.now) c.args.slots.now c.args.at c.args.at c.requires (omega arith)
+link-requires-clause-out c = λ j h. grown_out c.args.heads.now (take c.args.at c.args.slots.now) c.args.slots.now c.args.at c.args.at c.requires (omega arith) j
+    (in_from (list_at c.args.heads.now c.args.slots.now j) c.args.at h)
 
 pub link-requires-2-clause-out : goal.link-requires-2-clause-out
-link-requires-2-clause-out c =
+link-requires-2-clause-out c = λ j h.
     grown_out_next c.args.heads.now (take c.args.at c.args.slots.now) c.args.slots.now c.args.at (c.args.at + 1) c.link.new.heads c.link.new.slots
-    c.requires (omega arith) c.link.ensures.after
+    c.requires (omega arith) c.link.ensures.after j (in_from (list_at c.link.new.heads c.link.new.slots j) (c.args.at + 1) h)

@@ -1,8 +1,8 @@
 use Rattle.std.proofs.Common.{arith, rules, ◌≢◌, ℕ, ◌<◌, length, sym, ◌∙◌, ap, subst, inl, inr}
-use Rattle.link_arena.specs.Threads.{IsIn}
 use Rattle.link_arena.specs.Lists.{nexts, list_of, owner_at}
 use Rattle.link_arena.specs.Twins.{twin}
 use Rattle.link_arena.proofs.Walks.{walk_here, walk_rest, walk_passed, walk_none}
+use Rattle.link_arena.proofs.Members.{IsIn, in_from, contains_in}
 use Rattle.link_arena.proofs.sides.find.Goals as goal
 
 pub loop-left-init : goal.loop-left-init
@@ -11,23 +11,23 @@ loop-left-init c = record { rest = λ s h. h; passed = λ s h. inl h }
 pub twin_of-requires : goal.twin_of-requires
 twin_of-requires c =
     let here : IsIn c.loop-left.at (list_of c.args.slots.now c.args.head) = walk_here (nexts c.args.slots.now) (list_of c.args.slots.now c.args.head) c.loop-left.left c.loop-left.at (omega arith) c.loop-left.invariant.rest in
-    let h : c.loop-left.at < length c.args.slots.now = (c.requires.within c.loop-left.at here).0 in
+    let h : c.loop-left.at < length c.args.slots.now = (c.requires.within c.loop-left.at (contains_in (list_of c.args.slots.now c.args.head) c.loop-left.at here)).0 in
     search rules
 
 pub owner_of-requires : goal.owner_of-requires
 owner_of-requires c =
     let here : IsIn c.loop-left.at (list_of c.args.slots.now c.args.head) = walk_here (nexts c.args.slots.now) (list_of c.args.slots.now c.args.head) c.loop-left.left c.loop-left.at (omega arith) c.loop-left.invariant.rest in
-    subst (λ (i : ℕ). i < length c.args.slots.now) (sym c.twin_of.ensures) (c.requires.within c.loop-left.at here).1
+    subst (λ (i : ℕ). i < length c.args.slots.now) (sym c.twin_of.ensures) (c.requires.within c.loop-left.at (contains_in (list_of c.args.slots.now c.args.head) c.loop-left.at here)).1
 
 pub next_of-at-requires : goal.next_of-at-requires
 next_of-at-requires c =
     let here : IsIn c.loop-left.at (list_of c.args.slots.now c.args.head) = walk_here (nexts c.args.slots.now) (list_of c.args.slots.now c.args.head) c.loop-left.left c.loop-left.at (omega arith) c.loop-left.invariant.rest in
-    (c.requires.within c.loop-left.at here).0
+    (c.requires.within c.loop-left.at (contains_in (list_of c.args.slots.now c.args.head) c.loop-left.at here)).0
 
 pub returns-then-owner_of-id-clause-found : goal.returns-then-owner_of-id-clause-found
 returns-then-owner_of-id-clause-found c =
     let here : IsIn c.loop-left.at (list_of c.args.slots.now c.args.head) = walk_here (nexts c.args.slots.now) (list_of c.args.slots.now c.args.head) c.loop-left.left c.loop-left.at (omega arith) c.loop-left.invariant.rest in
-    (here, ap (λ (i : ℕ). owner_at c.args.slots.now i) (sym c.twin_of.ensures) ∙ (sym c.owner_of.ensures ∙ c.if-owner_of-id.true))
+    (contains_in (list_of c.args.slots.now c.args.head) c.loop-left.at here, ap (λ (i : ℕ). owner_at c.args.slots.now i) (sym c.twin_of.ensures) ∙ (sym c.owner_of.ensures ∙ c.if-owner_of-id.true))
 
 pub loop-left-preserved : goal.loop-left-preserved
 loop-left-preserved c = record {
@@ -36,7 +36,7 @@ loop-left-preserved c = record {
 }
 
 pub returns-clause-none : goal.returns-clause-none
-returns-clause-none c = λ s h. elim (c.loop-left.invariant.passed s h) [
+returns-clause-none c = λ s h. elim (c.loop-left.invariant.passed s (in_from (list_of c.args.slots.now c.args.head) s h)) [
   | inl w ↦ absurd (walk_none (nexts c.args.slots.now) c.loop-left.left c.loop-left.at s (omega arith) w)
   | inr p ↦ p
 ]

@@ -1,7 +1,7 @@
 use Rattle.std.proofs.Common.{◌<◌, arith}
-use Rattle.link_arena.specs.Threads.{IsIn}
 use Rattle.link_arena.specs.Lists.{head_at, list_at}
 use Rattle.link_arena.proofs.Found.{first_there, list_bounds}
+use Rattle.link_arena.proofs.Members.{IsIn, owned_in}
 use Rattle.link_arena.proofs.sides.first_of.Goals as goal
 
 pub returns-else-head-eq0-clause-some : goal.returns-else-head-eq0-clause-some
@@ -10,5 +10,5 @@ returns-else-head-eq0-clause-some c =
     let there : IsIn (head_at c.args.heads.now c.args.id).first (list_at c.args.heads.now c.args.slots.now c.args.id) =
     first_there c.args.heads.now c.args.slots.now c.requires.arena c.args.id c.requires.within some in (
       (list_bounds c.args.heads.now c.args.slots.now c.requires.arena c.args.id c.requires.within _ there).0,
-      c.requires.arena.filed.threaded.owned c.args.id _ there,
+      owned_in c.requires.arena.filed.threaded c.args.id _ there,
     )

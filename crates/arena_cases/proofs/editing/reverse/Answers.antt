@@ -2,10 +2,10 @@ use Rattle.std.proofs.Common.{sym, subst, List, ℕ}
 use Rattle.std.specs.Prelude.{IsPermutation}
 use Rattle.std.proofs.lemmas.List.Sorted.{IsPermutation-sym}
 use Rattle.link_arena.specs.Links.{others_of}
-use Rattle.link_arena.proofs.tests.reverse.Goals as goal
+use Rattle.arena_cases.proofs.editing.reverse.Goals as goal
 
 pub set_order-requires-clause-same : goal.set_order-requires-clause-same
-set_order-requires-clause-same g c =
+set_order-requires-clause-same c =
     let reversed : IsPermutation c.reverse.new.self.items (others_of c.args.arena.now c.args.end) =
     subst (λ (l : List ℕ). IsPermutation c.reverse.new.self.items l) c.in_ok-order.ensures
     (IsPermutation-sym c.in_ok-order.order.items c.reverse.new.self.items c.reverse.ensures.permutation) in

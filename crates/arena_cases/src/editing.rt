@@ -1,0 +1,81 @@
+ghost use Rattle.std.specs.Prelude.{◌≡◌, ◌<◌, length, IfOk};
+ghost use Rattle.link_arena.specs.Links.{others_of};
+
+use link_arena::Arena;
+use std::alloc::{AllocError, Global};
+
+/// An arena with so many ends.
+pub fn with_ends(alloc: Global, count: u32) -> Result<Arena, AllocError> {
+    let mut arena = Arena::new(alloc);
+    if count < u32::MAX {
+        arena.add_ends(count)?;
+    }
+    Ok(arena)
+}
+
+/// Joins two ends that may be joined.
+pub fn join(arena: &mut Arena, first: u32, second: u32) -> Result<(), AllocError> {
+    let count = arena.end_count();
+    if first == second || first >= count || second >= count {
+        return Ok(());
+    }
+    if arena.is_joined(first, second) {
+        return Ok(());
+    }
+    arena.join(first, second)
+}
+
+/// Parts two ends that are joined.
+pub fn part(arena: &mut Arena, first: u32, second: u32) {
+    let count = arena.end_count();
+    if first < count && second < count && arena.is_joined(first, second) {
+        arena.part(first, second);
+    }
+}
+
+/// Parts an end that is there from all.
+pub fn part_all(arena: &mut Arena, end: u32) {
+    if end < arena.end_count() {
+        arena.part_all(end);
+    }
+}
+
+/// The ends that an end is joined to.
+fn listed(alloc: Global, arena: &Arena, end: u32) -> Result<Vec<u32>, AllocError>
+    requires { end < length arena.now }
+    ensures { IfOk result (λ order. order.items ≡ others_of arena.now end) }
+{
+    arena.others(end).collect(alloc)
+}
+
+/// Turns the order of an end that is there.
+pub fn reverse(alloc: Global, arena: &mut Arena, end: u32) -> Result<(), AllocError> {
+    if end >= arena.end_count() {
+        return Ok(());
+    }
+    let mut order = listed(alloc, arena, end)?;
+    order.reverse();
+    arena.set_order(end, order.as_slice());
+    Ok(())
+}
+
+/// An arena whose ends stand in a ring, each joined to the next one and to the seventh.
+pub fn ring(alloc: Global, count: u32) -> Result<Arena, AllocError> {
+    let mut arena = with_ends(alloc, count)?;
+    for end in 0..count {
+        let next = (u64::from(end) + 1) % u64::from(count);
+        let seventh = (u64::from(end) + 7) % u64::from(count);
+        join(&mut arena, end, next as u32)?;
+        join(&mut arena, end, seventh as u32)?;
+    }
+    Ok(arena)
+}
+
+/// An arena whose end 0 is joined to each other one.
+pub fn star(alloc: Global, count: u32) -> Result<Arena, AllocError> {
+    let mut arena = with_ends(alloc, count)?;
+    for end in 1..count {
+        join(&mut arena, 0, end)?;
+    }
+    Ok(arena)
+}

@@ -1,0 +1,36 @@
+//! Cases of an arena of links. They stand in the standard input, a line each, and those that ask for something are printed
+//! again with their answers behind ` => `.
+//!
+//! | line | what it does or answers |
+//! |---|---|
+//! | `ends COUNT` | begins an arena with so many ends |
+//! | `ring COUNT` | the same, with each end joined to the next one and to the seventh |
+//! | `star COUNT` | the same, with end 0 joined to each other one |
+//! | `join A B`, `part A B`, `part_all A` | edits the arena |
+//! | `part_evens` | parts each even end from all |
+//! | `part_from A B` | parts end A from B and all ends above |
+//! | `reverse A` | turns the order of an end |
+//! | `copy` | keeps a copy of the arena |
+//! | `ends?` | how many ends there are |
+//! | `others A`, `others_in_copy A` | how many ends an end is joined to, and which |
+//!
+//! A case whose ends aren't there, or are joined where they may not be, does nothing. Lines that are empty or begin with `#`
+//! are passed over.
+#![tactic(auto)]
+
+mod editing;
+mod session;
+
+use session::Session;
+use std::io;
+
+fn main(rt: HostRuntime) -> io::Result<()> {
+    let mut session = Session::new(rt.alloc());
+    for line in rt.lines(rt.alloc()) {
+        let line = line?;
+        if let Some(text) = session.answer(line.as_str())? {
+            println!(rt; "{line} => {text}")?;
+        }
+    }
+    Ok(())
+}
