@@ -2,6 +2,7 @@
 use Rattle.std.proofs.Common.{◌≡◌, ◌≢◌, ℕ, ◌+◌, ◌<◌, ◌≤◌, ◌^◌, ◌⊎◌, zero, suc, List, [], ◌∷◌, ◌++◌, length, get_or, map, replicate, refl, ap, sym, ◌∙◌, arith, subst, Option, Some, None, Bool, true, false, cond, inl, inr}
 use Rattle.std.specs.Prelude.{Contains, option_map, is_some, count_by, encode_utf8_all, Result, Ok, Err, IfOk, IfErr}
 use Rattle.mof_metamodel.specs.declared.limits.TheConstants.{MAX_OBJECTS}
+use Rattle.object_tables.specs.declared.limit.TheConstants.{MAX_ADDED}
 use Rattle.object_tables.specs.declared.fault.AddFault.{AddFault}
 use Rattle.object_tables.specs.declared.fault.AddFault.TheVariants as faults
 use Rattle.object_tables.specs.AddFaults.{IsAddFault}
@@ -157,7 +158,7 @@ fresh-joined named n k = elim (cases_lt k n) [
 
 pub tied-add : (meta : MetaDesc) (rows new : List Row) (number number' : List ℕ → Option ℕ) (live live' : ℕ) (named : Named) (n : ℕ) → IsTied meta rows number live
     → new ≡ rows ++ fresh_row named n ∷ [] → live' ≡ live + 1
-    → length rows < 4000000000 → named.class < class_count meta → (meta_class meta named.class).is_abstract ≡ false → n ≡ suc (suc (length (props_of meta named.class))) → n < 2 ^ 32
+    → length rows < MAX_ADDED → named.class < class_count meta → (meta_class meta named.class).is_abstract ≡ false → n ≡ suc (suc (length (props_of meta named.class))) → n < 2 ^ 32
     → number (encode_utf8_all named.id) ≡ None
     → ((cs : List ℕ) → number' cs ≡ update bytes_eq number (encode_utf8_all named.id) (Some (length rows)) cs)
     → IsTied meta new number' live'
@@ -262,23 +263,23 @@ count_seen (r ∷ rows) =
     ∙ sym (sum_by-cons (λ r. cond (is_some r.named) 1 0) r rows)
 
 pub full_from : (meta : MetaDesc) (rows : List Row) (v : ModelData) (number : List ℕ → Option ℕ) (live : ℕ) → IsTied meta rows number live → seen meta rows ≡ v
-    → (MAX_OBJECTS ≤ live) ⊎ (4000000000 ≤ length rows) → IsFull v
+    → (MAX_OBJECTS ≤ live) ⊎ (MAX_ADDED ≤ length rows) → IsFull v
 full_from meta rows v number live t e h =
     let el : live ≡ live_count v = t.count ∙ sym (count_seen rows) ∙ ap live_count e in
     let en : length rows ≡ length v.objects = sym (length-map rows object_of) ∙ ap (λ m. length m.objects) e in
     elim h [ inl a ↦ inl (subst (λ (z : ℕ). MAX_OBJECTS ≤ z) el a) | inr b ↦ inr (omega arith) ]
 
 pub room_from : (meta : MetaDesc) (rows : List Row) (v : ModelData) (number : List ℕ → Option ℕ) (live : ℕ) → IsTied meta rows number live → seen meta rows ≡ v
-    → live < MAX_OBJECTS → length rows < 4000000000 → IsFull v → ⊥
+    → live < MAX_OBJECTS → length rows < MAX_ADDED → IsFull v → ⊥
 room_from meta rows v number live t e l m h =
     let el : live ≡ live_count v = t.count ∙ sym (count_seen rows) ∙ ap live_count e in
     let en : length rows ≡ length v.objects = sym (length-map rows object_of) ∙ ap (λ m. length m.objects) e in
     elim h [ inl a ↦ (let a' : MAX_OBJECTS ≤ live = subst (λ (z : ℕ). MAX_OBJECTS ≤ z) (sym el) a in absurd (omega arith)) | inr b ↦ absurd (omega arith) ]
 
-few_from : (meta : MetaDesc) (rows : List Row) (v : ModelData) → seen meta rows ≡ v → (IsFull v → ⊥) → length rows < 4000000000
+few_from : (meta : MetaDesc) (rows : List Row) (v : ModelData) → seen meta rows ≡ v → (IsFull v → ⊥) → length rows < MAX_ADDED
 few_from meta rows v e h =
     let en : length rows ≡ length v.objects = sym (length-map rows object_of) ∙ ap (λ m. length m.objects) e in
-    elim (cases_lt (length rows) 4000000000) [ inl l ↦ l | inr le ↦ absurd (h (inr (omega arith))) ]
+    elim (cases_lt (length rows) MAX_ADDED) [ inl l ↦ l | inr le ↦ absurd (h (inr (omega arith))) ]
 
 pub tied-enter : (meta : MetaDesc) (rows new : List Row) (v : ModelData) (number number' : List ℕ → Option ℕ) (live live' class n o : ℕ) (id bytes : List ℕ) → IsTied meta rows number live → seen meta rows ≡ v
     → IsAddable v class id → class < class_count v.meta → n ≡ suc (suc (length (props_of v.meta class))) → n < 2 ^ 32

@@ -14,7 +14,7 @@ use Rattle.object_tables.specs.Kept.{Kept}
 use Rattle.object_tables.specs.Places.{IsPlaceOf}
 use Rattle.object_tables.proofs.ListLemmas.{Contains-map, Contains-from_map}
 use Rattle.object_tables.proofs.ModelLemmas.{seen, class_seen, placed_seen, partners_seen, live_class, same_class, class_of_rows, has_seen, near-within, index-within, index-found}
-use Rattle.object_tables.proofs.MetaLemmas.{prop_known}
+use Rattle.mof_metamodel.proofs.PropLemmas.{prop_known}
 use Rattle.object_tables.proofs.InheritLemmas.{pair_of_opposites}
 use Rattle.object_tables.proofs.DistinctLemmas.{property_place}
 use Rattle.object_tables.proofs.KeptLemmas.{sound_of, linked_reference}
@@ -72,7 +72,7 @@ place_of_property v o c i props d k hc lc same l =
     let at : get_or (prop_numbers props) i d.0 ≡ (get_or props i d).0 = get_or-map (λ p. p.0) props i d d.0 l in
     let number : get_or (props_of v.meta c) i d.0 ≡ (get_or props i d).0 = ap (λ xs. get_or xs i d.0) (sym same) ∙ at in
     let inside : i < length (props_of v.meta c) = subst (λ (xs : List ℕ). i < length xs) same (omega arith) in
-    let first : index_of (props_of v.meta c) (get_or (props_of v.meta c) i d.0) ≡ i = property_place v.meta c i d.0 k.well lc inside in
+    let first : index_of (props_of v.meta c) (get_or (props_of v.meta c) i d.0) ≡ i = property_place v.meta c i d.0 inside in
     record {
       class = c;
       class_is = hc;

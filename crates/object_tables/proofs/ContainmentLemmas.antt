@@ -3,7 +3,7 @@ use Rattle.std.proofs.Common.{◌≡◌, ◌≢◌, ℕ, ◌+◌, ◌<◌, ◌�
 use Rattle.std.specs.Prelude.{Contains, IsSome, ◌⊎◌}
 use Rattle.std.proofs.lemmas.Bool.{cases_eq, cases_lt}
 use Rattle.std.proofs.lemmas.List.{get_or_past, length-append}
-use Rattle.link_arena.specs.Threads.{IsIn, IsDistinct}
+use Rattle.link_arena.proofs.Members.{IsIn, IsDistinct}
 use Rattle.link_arena.proofs.Threaded.{pigeon}
 use Rattle.object_tables.specs.Objects.{Object}
 use Rattle.object_tables.specs.Kept.{Kept}
@@ -125,7 +125,7 @@ cycle-begin m o (a, path, up, h) =
     let few = distinct-few m a q o (container-live m o a up) g apart in
     record { path = a ∷ q; up = (up, g); more = omega arith; few = omega arith }
 
-container-same : (m : ModelData) (o a b : ℕ) → Kept m → IsContainer m o a → IsContainer m o b → a ≡ b
+pub container-same : (m : ModelData) (o a b : ℕ) → Kept m → IsContainer m o a → IsContainer m o b → a ≡ b
 container-same m o a b kept (p, h) (q, g) = (kept.containers o a b p q h g).0
 
 pub cycle-step : (m : ModelData) (at o k n c : ℕ) → Kept m → LeadsBack m at o k n → IsContainer m at c → c ≢ o → LeadsBack m c o (k + 1) n
@@ -155,6 +155,3 @@ cycle-top m at o k n back top = of_path back.path back.up back.more where
   of_path : (path : List ℕ) → IsContainerPath m at path o → 0 < length path → ⊥
   of_path [] h more = absurd (omega arith)
   of_path (b ∷ path) (first, rest) more = top b first.0 first.1
-
-pub cycle-end : (m : ModelData) (at o n : ℕ) → LeadsBack m at o n n → ⊥
-cycle-end m at o n back = let more = back.more in let few = back.few in absurd (omega arith)

@@ -7,7 +7,7 @@ use Rattle.std.proofs.lemmas.List.Elements.{Contains-push_cases}
 use borrow.Author.Tests.{ltb-true}
 use Rattle.mof_metamodel.specs.declared.desc.MetaDesc.{MetaDesc}
 use Rattle.mof_metamodel.specs.Metamodels.{props_of, prop_at, opposite_of}
-use Rattle.mof_metamodel.specs.MetaFaults.{WellMeta}
+use Rattle.mof_metamodel.specs.WellMeta.{WellMeta}
 use Rattle.object_tables.specs.declared.tables.Named.{Named}
 use Rattle.object_tables.specs.Lists.{update_at}
 use Rattle.object_tables.specs.Rows.{Row, Place, row_at, place_at, joined_at, no_row, no_place, with_place, with_joined, with_last, without_join, without_address, is_address}
@@ -17,7 +17,8 @@ use Rattle.object_tables.specs.Tied.{near, far, far_among, nameless, named_in, c
 use Rattle.object_tables.proofs.ListLemmas.{length-update_at, get_or-update_at_same, get_or-update_at_other, update_at_past, map-update_at_at, update_at_agree, count_by-update_at, Contains-map, Contains-from_map, Contains-filter, filter-map_all}
 use Rattle.object_tables.proofs.ObjectLemmas.{objects-nameless}
 use Rattle.object_tables.proofs.ModelLemmas.{seen, class_seen, object_seen, IsPlaced, placed, index-within, index-same, index-found, live_class, class_of_rows, near-within, partners_seen}
-use Rattle.object_tables.proofs.MetaLemmas.{prop_known, opposite_back, opposite_other}
+use Rattle.mof_metamodel.proofs.PropLemmas.{prop_known}
+use Rattle.object_tables.proofs.InheritLemmas.{opposite_back, opposite_other}
 
 -- ---- rows that differ in what their places hold and are joined to
 

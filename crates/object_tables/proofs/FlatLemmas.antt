@@ -8,7 +8,7 @@ use Rattle.std.proofs.lemmas.Bool.{cases_lt}
 use Rattle.std.proofs.lemmas.List.{get_or_past, length-map, get_or-map, get_or-set_same, get_or-set_other, length-set, map-append}
 use Rattle.std.specs.Prelude.{Contains, All}
 use Rattle.std.proofs.lemmas.List.Elements.{Contains-get_or}
-use Rattle.link_arena.specs.Links.{joined, parted, all_parted, without, IsSimple}
+use Rattle.link_arena.specs.Links.{joined_ends, parted, all_parted, without, IsSimple}
 use Rattle.object_tables.specs.Lists.{update_at}
 use Rattle.object_tables.proofs.ListLemmas.{Contains-map, Contains-from_map, filter-map_all, map-same, map-same_all, map-update_at, get_or-update_at_same, get_or-update_at_other, length-update_at}
 use Rattle.object_tables.specs.Rows.{Row, no_place, no_row, row_at, place_at, joined_at, with_joined, with_last, without_join, without_address, is_address, with_values, fresh_row, row_without, place_without, cleared_place, unnamed, IsRanged, IsMutual}
@@ -88,13 +88,13 @@ rows-with_last es hs ls o k i j f s t =
 
 -- two ends are joined, each last at the other
 pub rows-joined : (es : List Entry) (hs : List Home) (ls : List (List ℕ)) (v : List Row) (o k i j : ℕ) → IsFlat es hs ls → IsSpot es o k → IsSpot es i j → rows_of es hs ls ≡ v
-    → rows_of es hs (joined ls (end_at es o k) (end_at es i j)) ≡ with_last (with_last v o k (i, j)) i j (o, k)
+    → rows_of es hs (joined_ends ls (end_at es o k) (end_at es i j)) ≡ with_last (with_last v o k (i, j)) i j (o, k)
 rows-joined es hs ls v o k i j f s t e =
     let ms : List (List ℕ) = set ls (end_at es o k) (get_or ls (end_at es o k) [] ++ end_at es i j ∷ []) in
     let f' : IsFlat es hs ms = flat-links es hs ls ms f (length-set ls (end_at es o k) _) in
     rows-with_last es hs ms i j o k f' t s ∙ ap (λ rows. with_last rows i j (o, k)) (rows-with_last es hs ls o k i j f s t ∙ ap (λ rows. with_last rows o k (i, j)) e)
 
-pub length-joined : (ls : List (List ℕ)) (a b : ℕ) → length (joined ls a b) ≡ length ls
+pub length-joined : (ls : List (List ℕ)) (a b : ℕ) → length (joined_ends ls a b) ≡ length ls
 length-joined ls a b = length-set (set ls a (get_or ls a [] ++ b ∷ [])) b _ ∙ length-set ls a _
 
 -- what the view shows at a place
@@ -113,10 +113,10 @@ pub ends_apart : (es : List Entry) (hs : List Home) (ls : List (List ℕ)) (o k 
 ends_apart es hs ls o k i j f s t ne e = let w = same_spot es hs ls i j o k f t s e in ne w.0 w.1
 
 pub rows-joined_at : (es : List Entry) (hs : List Home) (ls ms : List (List ℕ)) (v : List Row) (o k i j a b : ℕ) → IsFlat es hs ls → IsSpot es o k → IsSpot es i j → rows_of es hs ls ≡ v
-    → a ≡ end_at es o k → b ≡ end_at es i j → ms ≡ joined ls a b
+    → a ≡ end_at es o k → b ≡ end_at es i j → ms ≡ joined_ends ls a b
     → rows_of es hs ms ≡ with_last (with_last v o k (i, j)) i j (o, k)
 rows-joined_at es hs ls ms v o k i j a b f s t e ea eb em =
-    ap (rows_of es hs) em ∙ ap (λ x. rows_of es hs (joined ls x b)) ea ∙ ap (λ x. rows_of es hs (joined ls (end_at es o k) x)) eb ∙ rows-joined es hs ls v o k i j f s t e
+    ap (rows_of es hs) em ∙ ap (λ x. rows_of es hs (joined_ends ls x b)) ea ∙ ap (λ x. rows_of es hs (joined_ends ls (end_at es o k) x)) eb ∙ rows-joined es hs ls v o k i j f s t e
 
 -- an other of an end is an end
 pub others_ranged : (ls : List (List ℕ)) (a b : ℕ) → IsSimple ls → Contains (get_or ls a []) b → b < length ls

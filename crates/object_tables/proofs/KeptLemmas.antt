@@ -3,7 +3,7 @@ use Rattle.std.proofs.Common.{◌≡◌, ◌≢◌, ℕ, ◌<◌, ◌⊎◌, Lis
 use Rattle.std.specs.Prelude.{Contains, AllPairs, ◌↔◌, IsTrue}
 use Rattle.mof_metamodel.specs.Characters.{is_identifier_text}
 use Rattle.mof_metamodel.specs.Metamodels.{class_count, class_at as meta_class, props_of, prop_at, type_of, opposite_of}
-use Rattle.mof_metamodel.specs.MetaFaults.{WellMeta}
+use Rattle.mof_metamodel.specs.WellMeta.{WellMeta}
 use Rattle.object_tables.specs.Objects.{Object, Slot}
 use Rattle.object_tables.specs.Models.{ModelData, object_at, class_at, id_at, is_class_type, IsLinked, IsReferenceOf, IsAttributeOf, IsPartnerFor, IsSlotOf, IsContainedIn, IsTop, with_slot}
 use Rattle.object_tables.specs.Kept.{Kept, IsWellObject, IsWellAttribute, IsWellReference}

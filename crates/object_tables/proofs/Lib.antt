@@ -3,7 +3,6 @@ pub mod RowLemmas
 pub mod ObjectLemmas
 pub mod FlatLemmas
 pub mod ModelLemmas
-pub mod MetaLemmas
 pub mod EditLemmas
 pub mod AddLemmas
 pub mod DeleteLemmas
@@ -19,7 +18,10 @@ pub mod KeptEdits
 pub mod KeptObjects
 pub mod WholeLemmas
 pub mod ContainmentLemmas
+pub mod ClimbLemmas
+pub mod DepthLemmas
 pub mod BreachLemmas
 pub mod DistinctLemmas
 pub mod ContainerLemmas
 pub mod PlaceLemmas
+pub mod ConditionLemmas

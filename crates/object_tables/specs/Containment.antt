@@ -1,6 +1,6 @@
 -- Containment between the objects of a model (MOF 2.5.1, 12.4 and UML 2.5.1, 9.5.3: composite properties).
-use Rattle.std.specs.Prelude.{◌≡◌, ℕ, suc, List, [], ◌∷◌, length}
-use Rattle.object_tables.specs.Models.{ModelData, IsContainedIn, IsTop}
+use Rattle.std.specs.Prelude.{◌≡◌, ◌⊎◌, ◌≤◌, ℕ, suc, List, [], ◌∷◌, length}
+use Rattle.object_tables.specs.Models.{ModelData, IsLive, IsContainedIn, IsTop}
 
 -- a contains o, by some property
 abbrev pub IsContainer : ModelData → ℕ → ℕ → Type 0
@@ -22,3 +22,8 @@ IsAcyclic m = (o : ℕ) → ¬ IsOnCycle m o
 -- the object has this depth: 1 for a top object, and one more for each container on the path up to one
 abbrev pub IsDepth : ModelData → ℕ → ℕ → Type 0
 IsDepth m o n = (path : List ℕ) × (top : ℕ) × IsContainerPath m o path top × IsTop m top × (n ≡ suc (length path))
+
+-- no object is deeper, and one has this depth, or the model has no object and this is 0
+pub record IsGreatestDepth (m : ModelData) (n : ℕ) : Type 0 where
+  pub most : (o d : ℕ) → IsLive m o → IsDepth m o d → d ≤ n
+  pub reached : (n ≡ 0) ⊎ ((o : ℕ) × IsLive m o × IsDepth m o n)

@@ -4,7 +4,7 @@ use Rattle.std.specs.Prelude.{◌≡◌, ◌≢◌, ◌↔◌, ℕ, ◌<◌, fal
 use Rattle.mof_metamodel.specs.declared.desc.MetaDesc.{MetaDesc}
 use Rattle.mof_metamodel.specs.Characters.{is_identifier_text}
 use Rattle.mof_metamodel.specs.Metamodels.{class_count, class_at as meta_class, props_of, opposite_of}
-use Rattle.mof_metamodel.specs.MetaFaults.{WellMeta}
+use Rattle.mof_metamodel.specs.WellMeta.{WellMeta}
 use Rattle.object_tables.specs.Objects.{Object}
 use Rattle.object_tables.specs.Models.{ModelData, object_at, id_at, values_at, partners_at, IsLinked, IsAttributeOf, IsReferenceOf, IsSlotOf, IsPartnerFor, IsContainedIn}
 

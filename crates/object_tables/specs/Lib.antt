@@ -12,4 +12,6 @@ pub mod Kept
 pub mod Whole
 pub mod Places
 pub mod Containment
+pub mod Climbs
 pub mod Validity
+pub mod Words

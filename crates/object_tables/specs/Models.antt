@@ -7,6 +7,7 @@ use Rattle.mof_metamodel.specs.declared.desc.PropType.TheVariants as types
 use Rattle.mof_metamodel.specs.Metamodels.{props_of, prop_at, type_of, opposite_of, enum_at, Conforms, class_at as meta_class}
 use Rattle.mof_metamodel.specs.declared.limits.TheConstants.{MAX_OBJECTS}
 use Rattle.mof_metamodel.specs.Characters.{is_storable_text}
+use Rattle.object_tables.specs.declared.limit.TheConstants.{MAX_ADDED}
 use Rattle.object_tables.specs.declared.value.Value.{Value}
 use Rattle.object_tables.specs.declared.value.Value.TheVariants as values
 use Rattle.object_tables.specs.Lists.{update_at}
@@ -176,7 +177,7 @@ HasId m id = (o : ℕ) × (id_at m o ≡ Some id)
 
 -- there are as many live objects, or numbers, as a model may have
 abbrev pub IsFull : ModelData → Type 0
-IsFull m = (MAX_OBJECTS ≤ live_count m) ⊎ (4000000000 ≤ length m.objects)
+IsFull m = (MAX_OBJECTS ≤ live_count m) ⊎ (MAX_ADDED ≤ length m.objects)
 
 -- an object of the class and the identifier can be added
 pub record IsAddable (m : ModelData) (class : ℕ) (id : List ℕ) : Type 0 where

@@ -3,7 +3,8 @@
 use Rattle.std.specs.Prelude.{◌≡◌, ℕ, suc, ◌<◌, ◌≤◌, ◌^◌, false, if◌then◌else◌, nat_lt, List, length, count_by, Option, None, Some, is_some, option_map, encode_utf8_all, Contains}
 use Rattle.mof_metamodel.specs.declared.desc.MetaDesc.{MetaDesc}
 use Rattle.mof_metamodel.specs.Metamodels.{class_count, class_at, props_of, prop_at, opposite_of}
-use Rattle.mof_metamodel.specs.MetaFaults.{WellMeta}
+use Rattle.mof_metamodel.specs.WellMeta.{WellMeta}
+use Rattle.object_tables.specs.declared.limit.TheConstants.{MAX_ADDED}
 use Rattle.object_tables.specs.declared.tables.Named.{Named}
 use Rattle.object_tables.specs.Rows.{Row, row_at, joined_at}
 use Rattle.object_tables.specs.Models.{index_of, slot_number}
@@ -55,7 +56,7 @@ pub record IsNearEnd (meta : MetaDesc) (rows : List Row) (c k : ℕ) (e : ℕ ×
 -- what the parts of a model have to do with each other; `number` looks an identifier up by its bytes
 pub record IsTied (meta : MetaDesc) (rows : List Row) (number : List ℕ → Option ℕ) (live : ℕ) : Type 0 where
   pub well : WellMeta meta
-  pub few : length rows ≤ 4000000000
+  pub few : length rows ≤ MAX_ADDED
   pub count : live ≡ count_by (λ r. is_some r.named) rows
   pub shaped : (o : ℕ) (n : Named) → named_in rows o ≡ Some n → IsShaped meta (row_at rows o) n
   pub far_ends : (o c p : ℕ) (e : ℕ × ℕ) → class_in rows o ≡ Some c → Contains (props_of meta c) p

@@ -5,8 +5,11 @@ ghost use Rattle.object_tables.specs.Kept.{Kept};
 ghost use Rattle.object_tables.specs.Models.{object_at, IsLive, class_at, id_at, values_at, partners_at, IsLinked, IsReferenceOf, IsAttributeOf, live_count};
 
 mod changes;
+mod conditions;
 mod containment;
+mod contents;
 mod copies;
+mod cycles;
 mod depths;
 mod links;
 mod orders;
@@ -19,13 +22,14 @@ use crate::value::{ObjId, Value};
 use mof_metamodel::{ClassId, MetaModel, NoMemory, PropId, Seq, Text};
 use std::alloc::{AllocError, Global};
 use std::collections::HashMap;
+use std::hash::{BuildHasherDefault, DefaultHasher};
 
 /// Objects of a metamodel's classes, their attribute values and their links (MOF 2.5.1, Reflection).
 #[derive(Drop)]
 pub struct Model<'m> {
     meta: &'m MetaModel,
     tables: Tables,
-    names: HashMap<String, u32>,
+    names: HashMap<String, u32, BuildHasherDefault<DefaultHasher>>,
     live: u32,
     alloc: Global,
 }
@@ -53,7 +57,7 @@ impl<'m> Model<'m> {
         Model {
             meta,
             tables: Tables::new(alloc),
-            names: HashMap::new(alloc),
+            names: HashMap::with_hasher(alloc, BuildHasherDefault::default()),
             live: 0,
             alloc,
         }

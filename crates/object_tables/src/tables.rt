@@ -16,14 +16,14 @@ use std::alloc::{AllocError, Global};
 use std::marker::Model;
 
 /// What an object is: its class and its identifier.
-#[derive(Debug, Drop)]
+#[derive(Drop)]
 pub struct Named {
     pub class: u32,
     pub id: Text,
 }
 
 /// An object's part of the table of places: from `first` on, `count` places.
-#[derive(Debug, Drop)]
+#[derive(Drop)]
 pub(crate) struct Entry {
     named: Option<Named>,
     first: u32,
@@ -31,7 +31,7 @@ pub(crate) struct Entry {
 }
 
 /// A place: whose it is, which of its places it is, and the values there.
-#[derive(Debug, Drop)]
+#[derive(Drop)]
 pub(crate) struct Home {
     object: u32,
     place: u32,
@@ -40,7 +40,7 @@ pub(crate) struct Home {
 
 /// Objects with places that hold values and are joined to each other, in flat tables: an object's places stand one after
 /// another in the table of places, and each is an end of one arena of links.
-#[derive(Debug, Drop)]
+#[derive(Drop)]
 pub(crate) struct Tables {
     entries: Vec<Entry>,
     homes: Vec<Home>,

@@ -5,14 +5,12 @@ ghost use Rattle.object_tables.specs.Models.{IsAttributeOf, IsSlotOf, IsLive, wi
 ghost use Rattle.object_tables.specs.AddFaults.{IsAddFault};
 
 use crate::fault::AddFault;
+use crate::limit::MAX_ADDED;
 use crate::model::Model;
 use crate::places::{near_place, place_count};
 use crate::tables::Named;
 use crate::value::{ObjId, Value};
 use mof_metamodel::{ClassId, MAX_OBJECTS, PropId, Seq, Text};
-
-/// The greatest number that an object may get, and one more.
-const MAX_END: usize = 4_000_000_000;
 
 impl<'m> Model<'m> {
     /// Adds an object of a class, with no values and no partners. After a refusal, and without memory, the model stays as it was.
@@ -24,7 +22,7 @@ impl<'m> Model<'m> {
         ensures causes { IfErr result (IsAddFault self.old class.0 id) }
         ensures err { OnErr result (self.new ≡ self.old) }
     {
-        if self.live >= MAX_OBJECTS || self.tables.len() >= MAX_END {
+        if self.live >= MAX_OBJECTS || self.tables.len() >= MAX_ADDED {
             return Err(AddFault::Limit);
         }
         if self.meta.is_abstract(class) {

@@ -37,7 +37,7 @@ impl<'m> Model<'m> {
     }
 
     /// The first bound that is broken.
-    fn broken_bound(&self) -> Option<Breach>
+    pub(super) fn broken_bound(&self) -> Option<Breach>
         ensures breach { IfSome result (λ b. IsFirstBreach self.now b) }
         ensures none { IfNone result ((o p : ℕ) → KeepsBounds self.now o p) }
     {
@@ -100,7 +100,7 @@ impl<'m> Model<'m> {
     }
 
     /// The least object on a cycle of containers.
-    fn least_on_cycle(&self) -> Option<ObjId>
+    pub fn least_on_cycle(&self) -> Option<ObjId>
         ensures least { IfSome result (λ o. IsLeastOnCycle self.now o.0) }
         ensures none { IfNone result (IsAcyclic self.now) }
     {

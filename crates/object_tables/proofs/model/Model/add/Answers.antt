@@ -1,28 +1,29 @@
-use Rattle.std.proofs.Common.{arith, sym, ◌∙◌, ap, inl, inr}
+use Rattle.std.proofs.Common.{length, suc, arith, sym, ◌∙◌, ap, inl, inr}
 use Rattle.std.specs.Prelude.{is_some}
 use Rattle.std.specs.HashMap.{get_by_text}
-use Rattle.mof_metamodel.specs.Metamodels.{class_at as meta_class}
+use Rattle.mof_metamodel.specs.Metamodels.{class_at as meta_class, props_of}
+use Rattle.object_tables.specs.Models.{ModelData}
 use Rattle.object_tables.proofs.AddLemmas.{full_from, room_from, is_found, is_absent, if_ok_any, memory_cause}
 use Rattle.object_tables.proofs.model.Model.add.Goals as goal
-use Rattle.object_tables.proofs.model.Model.add.Goals.{then-self-ge-MAX_OBJECTS-via-then-self-ge-MAX_OBJECTS, then-self-ge-MAX_OBJECTS-via-else-self-ge-MAX_OBJECTS+then-len-ge-MAX_END}
+use Rattle.object_tables.proofs.model.Model.add.Goals.{then-self-ge-MAX_OBJECTS-via-then-self-ge-MAX_OBJECTS, then-self-ge-MAX_OBJECTS-via-else-self-ge-MAX_OBJECTS+then-len-ge-MAX_ADDED}
 
 pub returns-then-self-ge-MAX_OBJECTS-clause-causes : goal.returns-then-self-ge-MAX_OBJECTS-clause-causes
 returns-then-self-ge-MAX_OBJECTS-clause-causes c =
     full_from _ _ _ _ _ c.self.invariant.tied c.self.view_is
     (elim c.then-self-ge-MAX_OBJECTS.branch [
       | then-self-ge-MAX_OBJECTS-via-then-self-ge-MAX_OBJECTS w ↦ inl (omega arith)
-      | then-self-ge-MAX_OBJECTS-via-else-self-ge-MAX_OBJECTS+then-len-ge-MAX_END w ↦ inr (omega arith)
+      | then-self-ge-MAX_OBJECTS-via-else-self-ge-MAX_OBJECTS+then-len-ge-MAX_ADDED w ↦ inr (omega arith)
     ])
 
 pub returns-then-is_abstract-clause-causes : goal.returns-then-is_abstract-clause-causes
 returns-then-is_abstract-clause-causes c = (
-  room_from _ _ _ _ _ c.self.invariant.tied c.self.view_is c.if-self-ge-MAX_OBJECTS.false (let e = c.len.ensures in let l = c.if-len-ge-MAX_END.false in omega arith),
+  room_from _ _ _ _ _ c.self.invariant.tied c.self.view_is c.if-self-ge-MAX_OBJECTS.false (let e = c.len.ensures in let l = c.if-len-ge-MAX_ADDED.false in omega arith),
   ap (λ m. (meta_class m.meta c.args.class.0).is_abstract) (sym c.self.view_is) ∙ sym c.is_abstract.ensures ∙ c.if-is_abstract.true,
 )
 
 pub returns-then-contains_key-clause-causes : goal.returns-then-contains_key-clause-causes
 returns-then-contains_key-clause-causes c = (
-  room_from _ _ _ _ _ c.self.invariant.tied c.self.view_is c.if-self-ge-MAX_OBJECTS.false (let e = c.len.ensures in let l = c.if-len-ge-MAX_END.false in omega arith),
+  room_from _ _ _ _ _ c.self.invariant.tied c.self.view_is c.if-self-ge-MAX_OBJECTS.false (let e = c.len.ensures in let l = c.if-len-ge-MAX_ADDED.false in omega arith),
   ap (λ m. (meta_class m.meta c.args.class.0).is_abstract) (sym c.self.view_is) ∙ sym c.is_abstract.ensures ∙ c.if-is_abstract.false,
   is_found _ _ _ _ _ c.args.id c.self.invariant.tied c.self.view_is
       (ap (λ b. is_some (get_by_text c.self.inside.names b)) (sym c.as_str.ensures.bytes) ∙ sym c.contains_key.ensures ∙ c.if-contains_key.true),
@@ -30,7 +31,7 @@ returns-then-contains_key-clause-causes c = (
 
 pub returns-in-None-clause-causes : goal.returns-in-None-clause-causes
 returns-in-None-clause-causes c = record {
-  room = room_from _ _ _ _ _ c.self.invariant.tied c.self.view_is c.if-self-ge-MAX_OBJECTS.false (let e = c.len.ensures in let l = c.if-len-ge-MAX_END.false in omega arith);
+  room = room_from _ _ _ _ _ c.self.invariant.tied c.self.view_is c.if-self-ge-MAX_OBJECTS.false (let e = c.len.ensures in let l = c.if-len-ge-MAX_ADDED.false in omega arith);
   concrete = ap (λ m. (meta_class m.meta c.args.class.0).is_abstract) (sym c.self.view_is) ∙ sym c.is_abstract.ensures ∙ c.if-is_abstract.false;
   new = is_absent _ _ _ _ _ c.args.id c.self.invariant.tied c.self.view_is
       (ap (λ b. is_some (get_by_text c.self.inside.names b)) (sym c.as_str.ensures.bytes) ∙ sym c.contains_key.ensures ∙ c.if-contains_key.false);
@@ -38,7 +39,7 @@ returns-in-None-clause-causes c = record {
 
 pub enter-requires-clause-addable : goal.enter-requires-clause-addable
 enter-requires-clause-addable c = record {
-  room = room_from _ _ _ _ _ c.self.invariant.tied c.self.view_is c.if-self-ge-MAX_OBJECTS.false (let e = c.len.ensures in let l = c.if-len-ge-MAX_END.false in omega arith);
+  room = room_from _ _ _ _ _ c.self.invariant.tied c.self.view_is c.if-self-ge-MAX_OBJECTS.false (let e = c.len.ensures in let l = c.if-len-ge-MAX_ADDED.false in omega arith);
   concrete = ap (λ m. (meta_class m.meta c.args.class.0).is_abstract) (sym c.self.view_is) ∙ sym c.is_abstract.ensures ∙ c.if-is_abstract.false;
   new = is_absent _ _ _ _ _ c.args.id c.self.invariant.tied c.self.view_is
       (ap (λ b. is_some (get_by_text c.self.inside.names b)) (sym c.as_str.ensures.bytes) ∙ sym c.contains_key.ensures ∙ c.if-contains_key.false);
@@ -46,7 +47,7 @@ enter-requires-clause-addable c = record {
 
 pub returns-clause-causes_ok : goal.returns-clause-causes_ok
 returns-clause-causes_ok c = if_ok_any c.enter.result _ (record {
-  room = room_from _ _ _ _ _ c.self.invariant.tied c.self.view_is c.if-self-ge-MAX_OBJECTS.false (let e = c.len.ensures in let l = c.if-len-ge-MAX_END.false in omega arith);
+  room = room_from _ _ _ _ _ c.self.invariant.tied c.self.view_is c.if-self-ge-MAX_OBJECTS.false (let e = c.len.ensures in let l = c.if-len-ge-MAX_ADDED.false in omega arith);
   concrete = ap (λ m. (meta_class m.meta c.args.class.0).is_abstract) (sym c.self.view_is) ∙ sym c.is_abstract.ensures ∙ c.if-is_abstract.false;
   new = is_absent _ _ _ _ _ c.args.id c.self.invariant.tied c.self.view_is
       (ap (λ b. is_some (get_by_text c.self.inside.names b)) (sym c.as_str.ensures.bytes) ∙ sym c.contains_key.ensures ∙ c.if-contains_key.false);
@@ -54,8 +55,11 @@ returns-clause-causes_ok c = if_ok_any c.enter.result _ (record {
 
 pub returns-clause-causes : goal.returns-clause-causes
 returns-clause-causes c = memory_cause c.enter.result c.args.self.now c.args.class.0 c.args.id c.enter.ensures.memory (record {
-  room = room_from _ _ _ _ _ c.self.invariant.tied c.self.view_is c.if-self-ge-MAX_OBJECTS.false (let e = c.len.ensures in let l = c.if-len-ge-MAX_END.false in omega arith);
+  room = room_from _ _ _ _ _ c.self.invariant.tied c.self.view_is c.if-self-ge-MAX_OBJECTS.false (let e = c.len.ensures in let l = c.if-len-ge-MAX_ADDED.false in omega arith);
   concrete = ap (λ m. (meta_class m.meta c.args.class.0).is_abstract) (sym c.self.view_is) ∙ sym c.is_abstract.ensures ∙ c.if-is_abstract.false;
   new = is_absent _ _ _ _ _ c.args.id c.self.invariant.tied c.self.view_is
       (ap (λ b. is_some (get_by_text c.self.inside.names b)) (sym c.as_str.ensures.bytes) ∙ sym c.contains_key.ensures ∙ c.if-contains_key.false);
 })
+
+pub enter-requires-clause-count : goal.enter-requires-clause-count
+enter-requires-clause-count c = c.in-Some.ensures ∙ ap (λ (v : ModelData). suc (suc (length (props_of v.meta c.args.class.0)))) c.self.view_is

@@ -1,5 +1,9 @@
-use Rattle.object_tables.proofs.ModelLemmas.{placed_seen, has_seen}
-use Rattle.object_tables.proofs.MetaLemmas.{prop_known}
+use Rattle.std.proofs.Common.{ℕ, ap, ◌∙◌}
+use Rattle.mof_metamodel.specs.declared.desc.MetaDesc.{MetaDesc}
+use Rattle.object_tables.specs.Models.{ModelData}
+use Rattle.object_tables.specs.Tied.{near, far}
+use Rattle.object_tables.proofs.ModelLemmas.{placed_seen, has_seen, same_class}
+use Rattle.mof_metamodel.proofs.PropLemmas.{prop_known}
 use Rattle.object_tables.proofs.model.Model.ends.Goals as goal
 
 pub near_place-near-requires-clause-class : goal.near_place-near-requires-clause-class
@@ -17,3 +21,15 @@ far_place-far-requires-clause-prop c =
 
 pub far_place-far-requires-clause-small : goal.far_place-far-requires-clause-small
 far_place-far-requires-clause-small c = (placed_seen _ _ _ _ _ _ _ c.self.invariant.tied c.self.view_is c.class_of-2.ensures.class).small
+
+pub returns-clause-near : goal.returns-clause-near
+returns-clause-near c = λ k h.
+    c.near_place-near.ensures
+    ∙ ap (λ (m : MetaDesc). near m c.class_of.result.0 c.args.p.0) (ap (λ (v : ModelData). v.meta) c.self.view_is)
+    ∙ ap (λ (x : ℕ). near c.args.self.now.meta x c.args.p.0) (same_class c.args.self.now c.args.a.0 c.class_of.result.0 k c.class_of.ensures.class h)
+
+pub returns-clause-far : goal.returns-clause-far
+returns-clause-far c = λ k h.
+    c.far_place-far.ensures
+    ∙ ap (λ (m : MetaDesc). far m c.class_of-2.result.0 c.args.p.0) (ap (λ (v : ModelData). v.meta) c.self.view_is)
+    ∙ ap (λ (x : ℕ). far c.args.self.now.meta x c.args.p.0) (same_class c.args.self.now c.args.b.0 c.class_of-2.result.0 k c.class_of-2.ensures.class h)

@@ -1,3 +1,0 @@
-mod ListLemmas
-mod FreeLemmas
-mod OrderLemmas
