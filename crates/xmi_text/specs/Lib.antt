@@ -1,4 +1,5 @@
 pub mod ByteClass
+pub mod Words
 pub mod UtfEight
 pub mod References
 pub mod AttrNames
@@ -8,6 +9,7 @@ pub mod Automaton
 pub mod Reading
 pub mod Fixing
 pub mod Names
+pub mod Spellings
 pub mod Writing
 pub mod Trees
 pub mod Markup

@@ -95,19 +95,19 @@ is_reference (Hexadecimal digits) = is_number is_hexadecimal_digit digits (numbe
 is_reference _ = true
 
 -- a part of an attribute's value: characters as they are, or a reference
-pub data Part : Type 0 where
-  Literal : (text : List ℕ) → Part
-  Named : (reference : Reference) → Part
+pub data ValuePart : Type 0 where
+  Literal : (text : List ℕ) → ValuePart
+  Named : (reference : Reference) → ValuePart
 
-abbrev pub is_literal : Part → Bool
+abbrev pub is_literal : ValuePart → Bool
 is_literal (Literal text) = true
 is_literal (Named reference) = false
 
-abbrev pub part_text : Part → List ℕ
+abbrev pub part_text : ValuePart → List ℕ
 part_text (Literal text) = text
 part_text (Named reference) = reference_text reference
 
-abbrev pub part_value : Part → List ℕ
+abbrev pub part_value : ValuePart → List ℕ
 part_value (Literal text) = map spaced (line_ends false text)
 part_value (Named reference) = referred reference ∷ []
 
@@ -115,15 +115,15 @@ part_value (Named reference) = referred reference ∷ []
 abbrev pub is_value_character : ℕ → ℕ → Bool
 is_value_character quote c = is_storable_character c && (not (c == 60) && (not (c == 38) && not (c == quote)))
 
-abbrev pub is_part : ℕ → Part → Bool
+abbrev pub is_part : ℕ → ValuePart → Bool
 is_part quote (Literal text) = list_all (is_value_character quote) text
 is_part quote (Named reference) = is_reference reference
 
-abbrev pub value_text : List Part → List ℕ
+abbrev pub value_text : List ValuePart → List ℕ
 value_text [] = []
 value_text (part ∷ parts) = part_text part ++ value_text parts
 
-abbrev pub value_of : List Part → List ℕ
+abbrev pub value_of : List ValuePart → List ℕ
 value_of [] = []
 value_of (part ∷ parts) = part_value part ++ value_of parts
 
@@ -134,7 +134,7 @@ pub record Attribute : Type 0 where
   pub behind_name : List ℕ
   pub before_value : List ℕ
   pub quote : ℕ
-  pub value : List Part
+  pub value : List ValuePart
 
 abbrev pub attribute_text : Attribute → List ℕ
 attribute_text a = a.before ++ (a.name ++ (a.behind_name ++ (61 ∷ (a.before_value ++ (a.quote ∷ (value_text a.value ++ a.quote ∷ []))))))
@@ -305,11 +305,11 @@ say [] rest = rest
 say (c ∷ cs) rest = Says (c ∷ cs) ∷ rest
 
 -- neighbouring characters in one run
-abbrev pub joined : List Event → List Event
-joined [] = []
-joined (Says cs ∷ rest) = say cs (joined rest)
-joined (Opens name attrs ∷ rest) = Opens name attrs ∷ joined rest
-joined (Closes ∷ rest) = Closes ∷ joined rest
+abbrev pub joined_runs : List Event → List Event
+joined_runs [] = []
+joined_runs (Says cs ∷ rest) = say cs (joined_runs rest)
+joined_runs (Opens name attrs ∷ rest) = Opens name attrs ∷ joined_runs rest
+joined_runs (Closes ∷ rest) = Closes ∷ joined_runs rest
 
 -- a document (2.1): a byte order mark or none, what stands before the root element, its tag, its pieces up to its end
 -- tag, and what stands behind it
@@ -339,7 +339,7 @@ pub record Markup (bytes : List ℕ) (tree : Tree) : Type 0 where
   pub whole : IsDocument document
   pub scalars : all_scalars (document_text document) ≡ true
   pub written : bytes ≡ encode_utf8_all (document_text document)
-  pub means : joined (all_said (document.root ∷ document.inner)) ≡ events tree
+  pub means : joined_runs (all_said (document.root ∷ document.inner)) ≡ events tree
 
 -- the bytes begin a document
 abbrev pub Begins : List ℕ → Type 0

@@ -18,8 +18,8 @@ abbrev pub size : List ℕ → ℕ
 size characters = length (encode_utf8_all characters)
 
 -- the place behind a piece
-abbrev pub behind : ℕ → Piece → ℕ
-behind at piece = at + size (piece_text piece)
+abbrev pub piece_end : ℕ → Piece → ℕ
+piece_end at piece = at + size (piece_text piece)
 
 -- attributes from this place on: the place of one is the first byte of its name
 abbrev pub attrs_at : ℕ → List Attribute → List Attr
@@ -33,9 +33,9 @@ open_at at tag = marks.Open tag.name (attrs_at (at + size (60 ∷ tag.name)) tag
 
 -- the marks of a tag: their place is its `<`, for both marks of an empty tag, and its `>` completes them
 abbrev pub tag_marks : ℕ → Piece → List Timed
-tag_marks at (StartTag tag) = timed (behind at (StartTag tag)) (open_at at tag) ∷ []
-tag_marks at (EmptyTag tag) = timed (behind at (EmptyTag tag)) (open_at at tag) ∷ timed (behind at (EmptyTag tag)) (marks.Close at) ∷ []
-tag_marks at (EndTag name blanks) = timed (behind at (EndTag name blanks)) (marks.Close at) ∷ []
+tag_marks at (StartTag tag) = timed (piece_end at (StartTag tag)) (open_at at tag) ∷ []
+tag_marks at (EmptyTag tag) = timed (piece_end at (EmptyTag tag)) (open_at at tag) ∷ timed (piece_end at (EmptyTag tag)) (marks.Close at) ∷ []
+tag_marks at (EndTag name blanks) = timed (piece_end at (EndTag name blanks)) (marks.Close at) ∷ []
 tag_marks at _ = []
 
 -- the characters up to the next tag, where a comment or an instruction says none
@@ -54,7 +54,7 @@ run_end at [] = at
 run_end at (StartTag tag ∷ pieces) = at + size (60 ∷ take 1 tag.name)
 run_end at (EmptyTag tag ∷ pieces) = at + size (60 ∷ take 1 tag.name)
 run_end at (EndTag name blanks ∷ pieces) = at + size (60 ∷ 47 ∷ [])
-run_end at (piece ∷ pieces) = run_end (behind at piece) pieces
+run_end at (piece ∷ pieces) = run_end (piece_end at piece) pieces
 
 -- the mark of a run of text, whose place is the first byte behind the tag before it; no character gives no mark
 abbrev pub data_at : ℕ → List ℕ → ℕ → List Timed
@@ -74,7 +74,7 @@ is_tag _ = false
 abbrev pub marks_at : ℕ → List Piece → List Timed
 marks_at at [] = []
 marks_at at (piece ∷ pieces) =
-    tag_marks at piece ++ ((if is_tag piece then run_marks (behind at piece) pieces else []) ++ marks_at (behind at piece) pieces)
+    tag_marks at piece ++ ((if is_tag piece then run_marks (piece_end at piece) pieces else []) ++ marks_at (piece_end at piece) pieces)
 
 -- the marks of a document, each with the bytes that complete it
 abbrev pub timed_marks : Document → List Timed

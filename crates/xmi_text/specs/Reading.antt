@@ -70,10 +70,10 @@ abbrev pub counted : Mark → ℕ
 counted marks.End = 0
 counted _ = 1
 
-abbrev pub behind : Result Step TextError → Fed → Fed
-behind (Ok (answers.Mark mark)) fed = record fed { given = fed.given + counted mark }
-behind (Ok answers.NotYet) fed = fed
-behind (Err e) fed = fed
+abbrev pub after_answer : Result Step TextError → Fed → Fed
+after_answer (Ok (answers.Mark mark)) fed = record fed { given = fed.given + counted mark }
+after_answer (Ok answers.NotYet) fed = fed
+after_answer (Err e) fed = fed
 
 -- what was answered is this, unless memory could not be had
 abbrev pub Answers : Result Step TextError → Result Step TextError → Type 0

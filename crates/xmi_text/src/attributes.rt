@@ -10,7 +10,7 @@ use std::mem;
 
 /// The attributes of a start tag in their order, with their names in an ordered set, so that a look-up takes
 /// logarithmic time whatever names a stranger chooses. Contracts see the attributes.
-#[derive(Debug, Drop)]
+#[derive(Drop)]
 pub(crate) struct Attributes {
     items: Vec<Attr>,
     names: BTreeSet<Text>,

@@ -200,7 +200,7 @@ impl State {
         ensures ok { OnOk result (self.new ≡ automaton.whole self.old mode lead at c) }
         ensures err { OnErr result (self.new ≡ self.old) }
     {
-        if mode == Mode::Start {
+        if matches!(mode, Mode::Start) {
             self.step_start(lead, c);
             return Ok(());
         }
@@ -366,7 +366,7 @@ impl State {
     fn cut_fault(&self, mode: Mode, partial: Partial, length: u64) -> TextFault
         ensures { result ≡ automaton.cut_fault self.now mode partial length }
     {
-        if mode == Mode::Start {
+        if matches!(mode, Mode::Start) {
             return cut_start(partial, length);
         }
         if self.admits(mode) {
@@ -386,7 +386,7 @@ impl State {
     fn open_fault(&self, mode: Mode, length: u64) -> Option<TextFault>
         ensures { result ≡ automaton.open_fault self.now mode length }
     {
-        if mode == Mode::Outside && self.rooted {
+        if matches!(mode, Mode::Outside) && self.rooted {
             None
         } else {
             Some(TextFault {

@@ -1,6 +1,6 @@
 ghost use Rattle.std.specs.Prelude.{◌≡◌, ℕ, List, ◌∷◌, ◌++◌, length, true, take, encode_utf8_all};
 ghost use Rattle.std.specs.Str.{all_scalars};
-ghost use Rattle.xmi_text.specs.Markup.{Document, IsDocument, Markup, document_text, all_said, joined};
+ghost use Rattle.xmi_text.specs.Markup.{Document, IsDocument, Markup, document_text, all_said, joined_runs};
 ghost use Rattle.xmi_text.specs.Places.{document_marks, complete_marks};
 ghost use Rattle.xmi_text.specs.Reading.{marks_of};
 ghost use Rattle.xmi_text.specs.Trees.{Tree, told};
@@ -23,5 +23,5 @@ pub fn first_bytes_are_read()
 
 /// The marks of a document without their places are what it says.
 pub fn marks_tell_documents()
-    ensures { (d : Document) → IsDocument d → told (document_marks d) ≡ joined (all_said (d.root ∷ d.inner)) }
+    ensures { (d : Document) → IsDocument d → told (document_marks d) ≡ joined_runs (all_said (d.root ∷ d.inner)) }
 {}

@@ -1,10 +1,14 @@
+ghost use Rattle.std.specs.Prelude.{◌≡◌};
+ghost use Rattle.xmi_text.specs.Words.{kind_word};
+
 use mof_metamodel::NoMemory;
 use thiserror::Error;
 
-/// Why bytes have no tree of elements, or why a call has no answer.
-#[derive(Clone, Copy, Debug, PartialEq, Eq, Error)]
+/// Why bytes are no document, or why a call has no answer.
+#[derive(Clone, Copy, Debug, Error)]
 pub enum TextError {
-    /// No continuation of the bytes has a tree.
+    /// The bytes are no document, and this is the first fault that stands in them. With `OpenTag` they begin one, with
+    /// any other kind no bytes that go on from them are one.
     #[error("the markup is faulty")]
     Fault(TextFault),
     /// Memory could not be had.
@@ -13,7 +17,7 @@ pub enum TextError {
 }
 
 /// A fault, and the byte at which it stands, counted from 0.
-#[derive(Clone, Copy, Debug, PartialEq, Eq)]
+#[derive(Clone, Copy, Debug)]
 pub struct TextFault {
     pub kind: TextKind,
     pub at: u64,
@@ -21,7 +25,7 @@ pub struct TextFault {
 
 /// What is wrong. Where several faults stand at one place, the first of this order is answered, but
 /// `BadMark` only where no other stands.
-#[derive(Clone, Copy, Debug, PartialEq, Eq)]
+#[derive(Clone, Copy, Debug)]
 pub enum TextKind {
     /// No whole character of UTF-8 stands here.
     BadUtf8,
@@ -39,8 +43,27 @@ pub enum TextKind {
     BadEntity,
     /// A document type begins here.
     Doctype,
-    /// The element that begins here is nested too deep.
+    /// The element that begins here is nested too deep: in `MAX_XMI_NESTING` others.
     Limit,
+}
+
+impl TextKind {
+    /// The word that is printed of the kind.
+    pub fn word(self) -> &'static str
+        ensures { result.now ≡ kind_word self }
+    {
+        match self {
+            TextKind::BadUtf8 => "BadUtf8",
+            TextKind::BadMark => "BadMark",
+            TextKind::BadName => "BadName",
+            TextKind::OpenTag => "OpenTag",
+            TextKind::WrongEnd => "WrongEnd",
+            TextKind::DuplicateAttribute => "DuplicateAttribute",
+            TextKind::BadEntity => "BadEntity",
+            TextKind::Doctype => "Doctype",
+            TextKind::Limit => "Limit",
+        }
+    }
 }
 
 impl From<NoMemory> for TextError {

@@ -35,15 +35,20 @@ pub fn trees_are_documents()
     ensures { (bytes : List ℕ) (tree : Tree) → Spells bytes tree → Markup bytes tree }
 {}
 
+/// Bytes without a fault are those of a document, and no others.
+pub fn faultless_bytes_are_documents()
+    ensures { (bytes : List ℕ) → (end_fault_of bytes ≡ None) ↔ ((tree : Tree) × Markup bytes tree) }
+{}
+
 /// The bytes that begin a document are those that may go on to a whole text.
 pub fn documents_begin()
     ensures { (bytes : List ℕ) → Begins bytes ↔ MayGoOn bytes }
 {}
 
-/// Bytes that are whole, or end before the text does, are made whole by their completion, and no others are made
+/// Bytes that are whole, or end before the text does, are made a document by their completion, and no others are made
 /// whole by any bytes.
 pub fn completions_end()
-    ensures completed { (bytes : List ℕ) → MayGoOn bytes → end_fault_of (bytes ++ completion (state_of bytes)) ≡ None }
+    ensures completed { (bytes : List ℕ) → MayGoOn bytes → (tree : Tree) × Markup (bytes ++ completion (state_of bytes)) tree }
     ensures only { (bytes more : List ℕ) → end_fault_of (bytes ++ more) ≡ None → MayGoOn bytes }
 {}
 

@@ -1,7 +1,7 @@
 use mof_metamodel::{Seq, Text};
 
 /// What a reader answers.
-#[derive(Debug, Drop, PartialEq, Eq)]
+#[derive(Drop)]
 pub enum Step {
     /// The next mark of the text.
     Mark(Mark),
@@ -10,7 +10,7 @@ pub enum Step {
 }
 
 /// A tag or a run of character data (XML 1.0, 2.4 and 3.1). Places are bytes of the whole text, from 0.
-#[derive(Debug, Drop, PartialEq, Eq)]
+#[derive(Drop)]
 pub enum Mark {
     /// A start tag. Its place is that of its `<`.
     Open {
@@ -32,7 +32,7 @@ pub enum Mark {
 }
 
 /// An attribute of a start tag (XML 1.0, 3.1). Its place is the first byte of its name.
-#[derive(Debug, Drop, PartialEq, Eq)]
+#[derive(Drop)]
 pub struct Attr {
     pub name: Text,
     pub value: Text,

@@ -1,6 +1,6 @@
 ghost use Rattle.std.specs.Prelude.{◌≡◌, ◌<◌, ◌≤◌, ℕ, [], false, true, ◌++◌, length, OnOk, OnErr};
 ghost use Rattle.xmi_text.specs.Fixing.{Tells};
-ghost use Rattle.xmi_text.specs.Reading.{Reached, Answers, answer, behind, last_by};
+ghost use Rattle.xmi_text.specs.Reading.{Reached, Answers, answer, after_answer, last_by};
 ghost use Rattle.xmi_text.specs.declared.state.Ready.TheVariants as ready;
 
 use crate::error::TextError;
@@ -11,7 +11,7 @@ use std::alloc::Global;
 use std::marker::Model;
 
 /// Reads the markup of a text that comes in pieces. Contracts see what it was fed and how many marks it gave.
-#[derive(Debug, Drop)]
+#[derive(Drop)]
 pub struct Reader {
     alloc: Global,
     bytes: Vec<u8>,
@@ -69,7 +69,7 @@ impl Reader {
     pub fn next(&mut self) -> Result<Step, TextError>
         ensures answer { Answers result (answer self.old) }
         ensures tells { Tells result self.old }
-        ensures behind { self.new ≡ behind result self.old }
+        ensures behind { self.new ≡ after_answer result self.old }
     {
         advance(
             self.alloc,

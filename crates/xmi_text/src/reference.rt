@@ -1,10 +1,11 @@
 ghost use Rattle.std.specs.Prelude.{◌≡◌};
 ghost use Rattle.xmi_text.specs.References as refs;
 
+use crate::names::is_storable_character;
 use crate::utf_eight::scalar;
 
 /// What stands of a reference behind its `&` (XML 1.0, 4.1 and 4.6).
-#[derive(Clone, Copy, Debug, PartialEq, Eq)]
+#[derive(Clone, Copy)]
 pub(crate) enum Reference {
     Begun,
     A,
@@ -158,7 +159,7 @@ fn storable(value: u32) -> Option<char>
     ensures { result ≡ refs.storable value }
 {
     let c = scalar(value)?;
-    if matches!(c, '\t' | '\n' | '\r') || (c >= ' ' && c != '\u{fffe}' && c != '\u{ffff}') {
+    if is_storable_character(c) {
         Some(c)
     } else {
         None

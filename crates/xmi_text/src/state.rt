@@ -11,21 +11,21 @@ use std::alloc::Global;
 use std::mem;
 
 /// Which quote ends an attribute's value (XML 1.0, AttValue).
-#[derive(Clone, Copy, Debug, PartialEq, Eq)]
+#[derive(Clone, Copy)]
 pub(crate) enum Quote {
     Double,
     Single,
 }
 
 /// Where a reference stands.
-#[derive(Clone, Copy, Debug, PartialEq, Eq)]
+#[derive(Clone, Copy)]
 pub(crate) enum Within {
     Content,
     Value(Quote),
 }
 
 /// How many `]` stand behind one another at the end of what was read of a CDATA section, two at most.
-#[derive(Clone, Copy, Debug, PartialEq, Eq)]
+#[derive(Clone, Copy)]
 pub(crate) enum Brackets {
     None,
     One,
@@ -34,7 +34,7 @@ pub(crate) enum Brackets {
 
 /// Where in the grammar the bytes so far end. A `u64` is the place of a byte, a `bool` says whether a name
 /// has its `:`.
-#[derive(Clone, Copy, Debug, PartialEq, Eq)]
+#[derive(Clone, Copy)]
 pub(crate) enum Mode {
     /// No byte came yet.
     Start,
@@ -103,7 +103,7 @@ pub(crate) enum Mode {
 }
 
 /// Which marks the last byte has completed.
-#[derive(Clone, Copy, Debug, PartialEq, Eq)]
+#[derive(Clone, Copy)]
 pub(crate) enum Ready {
     Nothing,
     Data,
@@ -114,7 +114,7 @@ pub(crate) enum Ready {
 
 /// All that the bytes so far leave to know: where they end in the grammar, the open elements, and what has
 /// come of the next mark.
-#[derive(Debug, Drop)]
+#[derive(Drop)]
 pub(crate) struct State {
     pub mode: Mode,
     /// The character of several bytes that isn't whole yet.
@@ -217,9 +217,7 @@ impl State {
         ensures ok { OnOk result (self.new ≡ states.add self.old (states.cdata) (states.brackets brackets ++ c ∷ []) returned) }
         ensures err { OnErr result (self.new ≡ self.old) }
     {
-        let mut piece = bracketed(alloc, brackets)?;
-        piece.push(c)?;
-        self.run.push_str(piece.as_str())?;
+        push_behind(alloc, &mut self.run, brackets, c)?;
         self.mode = Mode::Cdata(Brackets::None);
         self.returned = returned;
         Ok(())
@@ -408,6 +406,22 @@ impl State {
             name: mem::replace(&mut self.tag, empty_text(alloc)),
             attrs: attrs.into_items(),
             at: self.tag_at,
+        }
+    }
+}
+
+/// Adds the brackets that were held back, and a character, to a text, both or neither. Where none was held back, no
+/// memory is taken beside the text's own.
+fn push_behind(alloc: Global, text: &mut Text, brackets: Brackets, c: char) -> Result<(), NoMemory>
+    ensures ok { OnOk result (text.new ≡ text.old ++ (states.brackets brackets ++ c ∷ [])) }
+    ensures err { OnErr result (text.new ≡ text.old) }
+{
+    match brackets {
+        Brackets::None => text.push(c),
+        held => {
+            let mut piece = bracketed(alloc, held)?;
+            piece.push(c)?;
+            text.push_str(piece.as_str())
         }
     }
 }

@@ -55,7 +55,7 @@ impl State {
     {
         match byte {
             b']' => self.step_bracket(brackets)?,
-            b'>' if brackets == Brackets::Two => self.go(Mode::Inside),
+            b'>' if matches!(brackets, Brackets::Two) => self.go(Mode::Inside),
             b'\r' => self.add_behind(alloc, brackets, '\n', true)?,
             b'\n' if self.returned => self.go(Mode::Cdata(Brackets::None)),
             _ if is_storable_byte(byte) => {

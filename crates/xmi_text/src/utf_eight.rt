@@ -2,7 +2,7 @@ ghost use Rattle.std.specs.Prelude.{◌≡◌};
 ghost use Rattle.xmi_text.specs.UtfEight as utf;
 
 /// A character of several bytes, of which some have come (Unicode 15, table 3-7).
-#[derive(Clone, Copy, Debug, PartialEq, Eq)]
+#[derive(Clone, Copy)]
 pub(crate) struct Partial {
     /// The place of its first byte.
     pub lead: u64,
@@ -13,7 +13,7 @@ pub(crate) struct Partial {
 }
 
 /// How many bytes a character still has, with the bits that have come.
-#[derive(Clone, Copy, Debug, PartialEq, Eq)]
+#[derive(Clone, Copy)]
 pub(crate) enum Rest {
     Three(u8),
     Two(u16),
@@ -21,7 +21,7 @@ pub(crate) enum Rest {
 }
 
 /// What a further byte makes of a partial character.
-#[derive(Clone, Copy, Debug, PartialEq, Eq)]
+#[derive(Clone, Copy)]
 pub(crate) enum Growth {
     Broken,
     Partial(Partial),

@@ -1,23 +1,25 @@
-ghost use Rattle.std.specs.Prelude.{◌≡◌, List, ◌==◌, length, [], ◌∷◌, ◌++◌, IsTrue, IfOk, OnOk, OnErr, None, chars, encode_utf8_all};
+ghost use Rattle.std.specs.Prelude.{◌≡◌, List, ◌==◌, length, [], ◌∷◌, ◌++◌, IsTrue, IfOk, OnOk, OnErr, None, chars, nat_eq, encode_utf8_all};
+ghost use Rattle.std.specs.Cmp.Lexicographic.{pointwise};
 ghost use Rattle.xmi_text.specs.Writing as writing;
 ghost use Rattle.xmi_text.specs.Calls.{Call, AllMay, wrote, meant};
-ghost use Rattle.xmi_text.specs.Markup.{joined, Markup};
+ghost use Rattle.xmi_text.specs.Markup.{joined_runs, Markup};
 ghost use Rattle.xmi_text.specs.Trees.{Tree, events};
 ghost use Rattle.xmi_text.specs.Names.{is_name};
 ghost use Rattle.mof_metamodel.specs.Characters.{is_storable_text};
 
 use crate::attributes::empty_text;
-use mof_metamodel::{NoMemory, Seq, Text};
+use mof_metamodel::{MAX_XMI_NESTING, NoMemory, Seq, Text};
 use std::alloc::Global;
 use std::marker::Model;
 
-/// Writes the markup of one root element. Contracts see the characters so far, the names of the open elements,
-/// and the names of the attributes of the start tag that isn't ended yet, if there is one. After `NoMemory` a
-/// writer is as it was.
-#[derive(Debug, Drop)]
+/// Writes the markup of one root element. Contracts see the characters so far, whether the root element was begun, the
+/// names of the open elements, and the names of the attributes of the start tag that isn't ended yet, if there is one.
+/// After `NoMemory` a writer is as it was.
+#[derive(Drop)]
 pub struct Writer {
     alloc: Global,
     text: Text,
+    rooted: bool,
     elements: Vec<Text>,
     in_tag: bool,
     names: Vec<Text>,
@@ -28,7 +30,7 @@ impl Model for Writer {
 
     ghost Value = { Written };
 
-    ghost view = { λ w. record { text = w.text; elements = w.elements.items; names = names_of w.in_tag w.names.items } };
+    ghost view = { λ w. record { text = w.text; rooted = w.rooted; elements = w.elements.items; names = names_of w.in_tag w.names.items } };
 }
 
 impl Writer {
@@ -39,10 +41,74 @@ impl Writer {
         Writer {
             alloc,
             text: empty_text(alloc),
+            rooted: false,
             elements: Vec::new(alloc),
             in_tag: false,
             names: Vec::new(alloc),
         }
+    }
+
+    /// Whether nothing was written yet.
+    pub fn is_empty(&self) -> bool
+        ensures { result ≡ writing.is_empty self.now }
+    {
+        is_empty(self.text.as_str())
+    }
+
+    /// Whether an element is open.
+    pub fn is_inside(&self) -> bool
+        ensures { result ≡ writing.is_inside self.now }
+    {
+        self.elements.len() > 0
+    }
+
+    /// Whether an element may begin: the root, or one in fewer than `MAX_XMI_NESTING` others.
+    pub fn may_open(&self) -> bool
+        ensures { result ≡ writing.may_open self.now }
+    {
+        if self.is_inside() {
+            self.elements.len() < MAX_XMI_NESTING
+        } else {
+            !self.rooted
+        }
+    }
+
+    /// Whether a start tag isn't ended yet and has no attribute of this name. It takes time in the number of the tag's
+    /// attributes.
+    pub fn may_attr(&self, name: &str) -> bool
+        ensures { result ≡ writing.may_attr self.now (chars name.now) }
+    {
+        self.in_tag && !has(self.names.as_slice(), name)
+    }
+
+    /// Whether the root element was written, and ended.
+    pub fn is_whole(&self) -> bool
+        ensures { result ≡ writing.is_whole self.now }
+    {
+        !self.is_inside() && self.rooted
+    }
+
+    /// Writes the XML declaration (XML 1.0, 2.8), which comes before all else.
+    pub fn declare(&mut self) -> Result<(), NoMemory>
+        requires { IsTrue (writing.is_empty self.old) }
+        ensures ok { OnOk result (self.new ≡ writing.declared self.old) }
+        ensures err { OnErr result (self.new ≡ self.old) }
+    {
+        push_declaration(&mut self.text)?;
+        Ok(())
+    }
+
+    /// Ends the line, and indents the next one by two spaces for each level of depth. They are written as they are, so
+    /// that in an element they are characters of it.
+    pub fn line(&mut self, depth: usize) -> Result<(), NoMemory>
+        ensures ok { OnOk result (self.new ≡ writing.with_line self.old depth) }
+        ensures err { OnErr result (self.new ≡ self.old) }
+    {
+        let mut piece = start(self.alloc, self.in_tag)?;
+        end_line(&mut piece, depth)?;
+        self.text.push_str(piece.as_str())?;
+        self.in_tag = false;
+        Ok(())
     }
 
     /// Begins an element: the root, or one in the innermost open element.
@@ -57,6 +123,7 @@ impl Writer {
         piece.push_str(name)?;
         let name = Text::new(self.alloc, name)?;
         put(&mut self.elements, name, &mut self.text, &piece)?;
+        self.rooted = true;
         self.in_tag = true;
         self.names.clear();
         Ok(())
@@ -115,7 +182,7 @@ impl Writer {
     pub fn into_bytes(self) -> Seq<u8>
         requires { IsTrue (writing.is_whole self) }
         ensures text { result ≡ encode_utf8_all self.text }
-        ensures tree { (calls : List Call) → AllMay writing.nothing calls → wrote writing.nothing calls ≡ self → (tree : Tree) × (joined (meant calls) ≡ events tree) × Markup result tree }
+        ensures tree { (calls : List Call) → AllMay writing.nothing calls → wrote writing.nothing calls ≡ self → (tree : Tree) × (joined_runs (meant calls) ≡ events tree) × Markup result tree }
     {
         let Writer { text, .. } = self;
         Seq::from_vec(text.into_string().into_bytes())
@@ -127,6 +194,40 @@ fn is_empty(text: &str) -> bool
     ensures { result ≡ (length (chars text.now) == 0) }
 {
     text.is_empty()
+}
+
+/// Whether a name has these characters.
+fn is_same(one: &Text, name: &str) -> bool
+    ensures { result ≡ pointwise nat_eq one.now (chars name.now) }
+{
+    one.is(name)
+}
+
+/// Whether one of the names has these characters.
+fn has(names: &[Text], name: &str) -> bool
+    ensures { result ≡ writing.has names.now (chars name.now) }
+{
+    names.iter().any(|one| is_same(one, name))
+}
+
+/// Adds the XML declaration.
+fn push_declaration(piece: &mut Text) -> Result<(), NoMemory>
+    ensures ok { OnOk result (piece.new ≡ piece.old ++ writing.declaration) }
+    ensures err { OnErr result (piece.new ≡ piece.old) }
+{
+    piece.push_str("<?xml version=\"1.0\" encoding=\"UTF-8\"?>")
+}
+
+/// Adds the end of a line and the next one's indent.
+fn end_line(piece: &mut Text, depth: usize) -> Result<(), NoMemory>
+    ensures { OnOk result (piece.new ≡ piece.old ++ writing.line_end depth) }
+{
+    piece.push('\n')?;
+    for _level in 0..depth {
+        piece.push(' ')?;
+        piece.push(' ')?;
+    }
+    Ok(())
 }
 
 /// What ends a start tag that is open.
@@ -187,7 +288,7 @@ fn escape(piece: &mut Text, text: &str) -> Result<(), NoMemory>
 }
 
 /// Adds a character, as a reference if markup uses it.
-#[tactic(auto, using(crate::proofs::Literals::amp_characters, crate::proofs::Literals::lt_characters, crate::proofs::Literals::gt_characters, crate::proofs::Literals::quot_characters, crate::proofs::Literals::apos_characters, crate::proofs::Literals::tab_characters, crate::proofs::Literals::feed_characters, crate::proofs::Literals::carriage_characters))]
+#[tactic(auto, using(crate::proofs::writing::Literals::amp_characters, crate::proofs::writing::Literals::lt_characters, crate::proofs::writing::Literals::gt_characters, crate::proofs::writing::Literals::quot_characters, crate::proofs::writing::Literals::apos_characters, crate::proofs::writing::Literals::tab_characters, crate::proofs::writing::Literals::feed_characters, crate::proofs::writing::Literals::carriage_characters))]
 fn push_escaped(piece: &mut Text, c: char) -> Result<(), NoMemory>
     ensures { OnOk result (piece.new ≡ piece.old ++ writing.escaped_character c) }
 {

@@ -1,4 +1,4 @@
-use Rattle.xmi_text.proofs.Timing.{first_marks_read, beginning_read}
+use Rattle.xmi_text.proofs.forward.Timing.{first_marks_read, beginning_read}
 use Rattle.xmi_text.proofs.document_laws.first_bytes_are_read.Goals as goal
 
 pub returns-clause-first : goal.returns-clause-first

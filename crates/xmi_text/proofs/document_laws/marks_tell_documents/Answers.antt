@@ -1,4 +1,4 @@
-use Rattle.xmi_text.proofs.Placed.{told_document}
+use Rattle.xmi_text.proofs.forward.Placed.{told_document}
 use Rattle.xmi_text.proofs.document_laws.marks_tell_documents.Goals as goal
 
 pub returns : goal.returns

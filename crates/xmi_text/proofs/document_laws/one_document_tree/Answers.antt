@@ -1,5 +1,5 @@
-use Rattle.xmi_text.proofs.Spelled.{markup_spelled}
-use Rattle.xmi_text.proofs.Staying.{one_spelled}
+use Rattle.xmi_text.proofs.forward.Spelled.{markup_spelled}
+use Rattle.xmi_text.proofs.reading.Staying.{one_spelled}
 use Rattle.xmi_text.proofs.document_laws.one_document_tree.Goals as goal
 
 pub returns : goal.returns

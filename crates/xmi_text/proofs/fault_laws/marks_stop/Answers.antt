@@ -1,5 +1,5 @@
-use Rattle.xmi_text.proofs.Stopping.{marks_stop}
-use Rattle.xmi_text.proofs.Deepest.{limit_marks}
+use Rattle.xmi_text.proofs.forward.Stopping.{marks_stop}
+use Rattle.xmi_text.proofs.forward.Deepest.{limit_marks}
 use Rattle.xmi_text.proofs.fault_laws.marks_stop.Goals as goal
 
 pub returns-clause-behind : goal.returns-clause-behind

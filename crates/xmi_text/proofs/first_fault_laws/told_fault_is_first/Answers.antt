@@ -1,4 +1,4 @@
-use Rattle.xmi_text.proofs.FirstFault.{told_first, first_told}
+use Rattle.xmi_text.proofs.faults.FirstFault.{told_first, first_told}
 use Rattle.xmi_text.proofs.first_fault_laws.told_fault_is_first.Goals as goal
 
 pub returns : goal.returns

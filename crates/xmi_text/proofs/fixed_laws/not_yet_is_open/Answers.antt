@@ -1,4 +1,4 @@
-use Rattle.xmi_text.proofs.Fixed.{not_yet_open, open_not_yet}
+use Rattle.xmi_text.proofs.reading.Fixed.{not_yet_open, open_not_yet}
 use Rattle.xmi_text.proofs.fixed_laws.not_yet_is_open.Goals as goal
 
 pub returns : goal.returns

@@ -1,6 +1,6 @@
 use Rattle.std.proofs.Common.{length}
 use Rattle.xmi_text.specs.Reading.{state_of, marks_from}
-use Rattle.xmi_text.proofs.Reached.{marks_of-append}
+use Rattle.xmi_text.proofs.reading.Reached.{marks_of-append}
 use Rattle.xmi_text.proofs.laws.marks_stay.Goals as goal
 
 pub returns : goal.returns

@@ -1,4 +1,4 @@
-use Rattle.xmi_text.proofs.Staying.{one_spelled}
+use Rattle.xmi_text.proofs.reading.Staying.{one_spelled}
 use Rattle.xmi_text.proofs.laws.one_tree.Goals as goal
 
 pub returns : goal.returns

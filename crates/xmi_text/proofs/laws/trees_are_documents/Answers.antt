@@ -1,4 +1,4 @@
-use Rattle.xmi_text.proofs.Whole.{spelled_markup}
+use Rattle.xmi_text.proofs.backward.Whole.{spelled_markup}
 use Rattle.xmi_text.proofs.laws.trees_are_documents.Goals as goal
 
 pub returns : goal.returns

@@ -1,5 +1,5 @@
 use Rattle.std.proofs.Common.{refl, arith}
-use Rattle.xmi_text.proofs.Reached.{Reached-byte}
+use Rattle.xmi_text.proofs.reading.Reached.{Reached-byte}
 use Rattle.xmi_text.proofs.reader.advance.Goals as goal
 
 -- one byte more was stepped over

@@ -3,7 +3,7 @@ use Rattle.std.proofs.lemmas.List.{map-id}
 use Rattle.std.proofs.lemmas.Iterator.{YieldsList-from_chars}
 use Rattle.std.proofs.lemmas.Iterator.Consumers.{YieldsList-end}
 use Rattle.xmi_text.specs.Writing.{escaped, escaped_character}
-use Rattle.xmi_text.proofs.Literals.{escaped-push}
+use Rattle.xmi_text.proofs.writing.Literals.{escaped-push}
 use Rattle.xmi_text.proofs.writer.escape.Goals as goal
 
 -- one more character

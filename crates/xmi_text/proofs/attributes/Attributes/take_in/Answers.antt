@@ -1,4 +1,4 @@
-use Rattle.xmi_text.proofs.AttrLemmas.{has_after}
+use Rattle.xmi_text.proofs.reading.AttrLemmas.{has_after}
 use Rattle.xmi_text.proofs.attributes.Attributes.take_in.Goals as goal
 
 -- the set has the new name beside the old ones

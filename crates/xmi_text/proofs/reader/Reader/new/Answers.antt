@@ -1,4 +1,4 @@
-use Rattle.xmi_text.proofs.Reached.{Reached-none}
+use Rattle.xmi_text.proofs.reading.Reached.{Reached-none}
 use Rattle.xmi_text.proofs.reader.Reader.new.Goals as goal
 
 -- nothing was read

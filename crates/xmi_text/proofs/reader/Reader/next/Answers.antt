@@ -1,8 +1,8 @@
 use Rattle.std.proofs.Common.{◌∙◌, sym, ap, length, arith, Ok}
-use Rattle.xmi_text.specs.Reading.{behind, last_by}
+use Rattle.xmi_text.specs.Reading.{after_answer, last_by}
 use Rattle.xmi_text.specs.declared.mark.Step.TheVariants as answers
-use Rattle.xmi_text.proofs.Reached.{Reached-moved, Reached-mark, given_few, answered, answered_last, behind_last}
-use Rattle.xmi_text.proofs.Fixed.{tells}
+use Rattle.xmi_text.proofs.reading.Reached.{Reached-moved, Reached-mark, given_few, answered, answered_last, behind_last}
+use Rattle.xmi_text.proofs.reading.Fixed.{tells}
 use Rattle.xmi_text.proofs.reader.Reader.next.Goals as goal
 
 -- at most two marks a byte were given
@@ -32,7 +32,7 @@ returns-in-None-clause-answer c =
 
 pub returns-in-None-clause-behind : goal.returns-in-None-clause-behind
 returns-in-None-clause-behind c =
-    c.self.view_is ∙ sym (ap (λ r. behind r c.args.self.now) c.last_answer.ensures ∙ behind_last c.args.self.now c.self.inside.finished c.take_mark.new.self c.advance.new.at)
+    c.self.view_is ∙ sym (ap (λ r. after_answer r c.args.self.now) c.last_answer.ensures ∙ behind_last c.args.self.now c.self.inside.finished c.take_mark.new.self c.advance.new.at)
 
 pub returns-in-Some-clause-tells : goal.returns-in-Some-clause-tells
 returns-in-Some-clause-tells c = tells c.args.self.now (Ok (answers.Mark c.in-Some.mark)) (returns-in-Some-clause-answer c)

@@ -1,7 +1,7 @@
 use Rattle.std.proofs.Common.{◌≡◌, ℕ, List, true, sym, ◌∙◌, ap, subst, encode_utf8_all}
 use Rattle.xmi_text.specs.Writing.{is_whole}
 use Rattle.xmi_text.specs.Markup.{Markup}
-use Rattle.xmi_text.proofs.Written.{written_markup}
+use Rattle.xmi_text.proofs.writing.Written.{written_markup}
 use Rattle.xmi_text.proofs.writer.Writer.into_bytes.Goals as goal
 
 -- what the calls wrote is the document of their tree

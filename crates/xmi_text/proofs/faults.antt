@@ -1,0 +1,24 @@
+-- Where a fault stands, and that the first one is told.
+pub mod Standing
+pub mod Prefixes
+pub mod Lettered
+pub mod Probes
+pub mod Told
+pub mod ToldNames
+pub mod ToldReferences
+pub mod ToldBytes
+pub mod Named
+pub mod ToldEnds
+pub mod Blanks
+pub mod ToldDuplicates
+pub mod FirstFault
+pub mod Reasons
+pub mod History
+pub mod Probing
+pub mod Entities
+pub mod Depths
+pub mod Cuts
+pub mod OpenNames
+pub mod WrongEnds
+pub mod Twins
+pub mod Found
