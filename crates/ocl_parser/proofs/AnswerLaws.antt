@@ -4,10 +4,10 @@ use Rattle.ql_lex.specs.Lexed.{LexedText}
 use Rattle.qv_syntax.specs.declared.expr.Expr.{Expr}
 use Rattle.ocl_parser.specs.Beginnings.{IsTree, IsStuck, IsDeep}
 use Rattle.ocl_parser.specs.Runs.{Answer, Tree, Stuck, Deep, answer}
-use Rattle.ocl_parser.specs.Answers.{Answers, Tells, place_of, result_of}
+use Rattle.ocl_parser.specs.Answers.{Answers, IsAnswered, Tells, place_of, result_of}
 use Rattle.ocl_parser.specs.declared.error.ParseError.{ParseError}
 use Rattle.ocl_parser.specs.declared.error.ParseError.TheVariants as errors
-use Rattle.ocl_parser.proofs.CompletionAnswers.{tree_is, stuck_is, deep_is}
+use Rattle.ocl_parser.proofs.CompletionAnswers.{tree_is, stuck_is, deep_is, tree_answered, stuck_answered, deep_answered}
 
 tree_told : (text : LexedText) (levels from : ℕ) (found : Expr × ℕ) → from ≤ length text.lexemes → result_of text (answer text.lexemes levels from) ≡ Ok found
     → IsTree text.lexemes from levels found.0 found.1
@@ -59,3 +59,20 @@ answered text levels from (Err errors.NoMemory) within stands = tt
 pub answers_told : (text : LexedText) (levels from : ℕ) (result : Result (Expr × ℕ) ParseError) → from ≤ length text.lexemes
     → Answers text (answer text.lexemes levels from) result ↔ Tells text from levels result
 answers_told text levels from result within = (told text levels from result within, answered text levels from result within)
+
+-- ---- what stands is what is answered
+
+given : (text : LexedText) (a b : Answer) (result : Result (Expr × ℕ) ParseError) → a ≡ b → Answers text a result → Answers text b result
+given text a b result same answers = subst (λ (x : Answer). Answers text x result) same answers
+
+pub tree_given : (text : LexedText) (levels from : ℕ) (result : Result (Expr × ℕ) ParseError) → Answers text (answer text.lexemes levels from) result
+    → (tree : Expr) (end : ℕ) → IsTree text.lexemes from levels tree end → IsAnswered (Ok (tree, end)) result
+tree_given text levels from result answers tree end t = given text (answer text.lexemes levels from) (Tree tree end) result (tree_answered text.lexemes levels from tree end t) answers
+
+pub stuck_given : (text : LexedText) (levels from : ℕ) (result : Result (Expr × ℕ) ParseError) → Answers text (answer text.lexemes levels from) result
+    → (k : ℕ) → IsStuck text.lexemes from levels k → IsAnswered (Err (errors.Parse (place_of text k))) result
+stuck_given text levels from result answers k s = given text (answer text.lexemes levels from) (Stuck k) result (stuck_answered text.lexemes levels from k s) answers
+
+pub deep_given : (text : LexedText) (levels from : ℕ) (result : Result (Expr × ℕ) ParseError) → Answers text (answer text.lexemes levels from) result
+    → (k : ℕ) → IsDeep text.lexemes from levels k → IsAnswered (Err (errors.Limit (place_of text k))) result
+deep_given text levels from result answers k d = given text (answer text.lexemes levels from) (Deep k) result (deep_answered text.lexemes levels from k d) answers

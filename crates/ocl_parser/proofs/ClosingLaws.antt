@@ -4,7 +4,7 @@ use Rattle.mof_metamodel.specs.declared.span.Span.{Span}
 use Rattle.ocl_parser.specs.Moves.{close_by, refused}
 use Rattle.ocl_parser.specs.declared.symbol.Symbol.{Symbol}
 use Rattle.ocl_parser.specs.declared.symbol.Symbol.TheVariants as symbols
-use Rattle.ocl_parser.specs.declared.frame.Part.{Part}
+use Rattle.ocl_parser.specs.declared.frame.Subtree.{Subtree}
 use Rattle.ocl_parser.specs.declared.frame.Frame.{Frame}
 use Rattle.ocl_parser.specs.declared.frame.Frame.TheVariants as frames
 
@@ -18,24 +18,24 @@ pub record IsUnfit (symbol : Symbol) : Type 0 where
   pub endif_word : symbol ≡ symbols.Endif → ⊥
   pub in_word : symbol ≡ symbols.In → ⊥
 
-pub unfit : (frame : Frame) (stack : List Frame) (part : Part) (symbol : Symbol) (span : Span) → IsUnfit symbol
-    → close_by (frame ∷ stack) part symbol span ≡ refused (frame ∷ stack)
-unfit (frames.Parens start) stack part symbols.CloseParenthesis span n = absurd (n.parenthesis refl)
-unfit (frames.Parens start) stack part _ span n = refl
-unfit (frames.Arguments called values) stack part symbols.CloseParenthesis span n = absurd (n.parenthesis refl)
-unfit (frames.Arguments called values) stack part symbols.Comma span n = absurd (n.comma refl)
-unfit (frames.Arguments called values) stack part _ span n = refl
-unfit (frames.Elements start kind elements) stack part symbols.CloseBrace span n = absurd (n.brace refl)
-unfit (frames.Elements start kind elements) stack part symbols.Comma span n = absurd (n.comma refl)
-unfit (frames.Elements start kind elements) stack part _ span n = refl
-unfit (frames.Body iterated ty) stack part symbols.CloseParenthesis span n = absurd (n.parenthesis refl)
-unfit (frames.Body iterated ty) stack part _ span n = refl
-unfit (frames.If start) stack part symbols.Then span n = absurd (n.then_word refl)
-unfit (frames.If start) stack part _ span n = refl
-unfit (frames.Then start condition) stack part symbols.Else span n = absurd (n.else_word refl)
-unfit (frames.Then start condition) stack part _ span n = refl
-unfit (frames.Else start condition one) stack part symbols.Endif span n = absurd (n.endif_word refl)
-unfit (frames.Else start condition one) stack part _ span n = refl
-unfit (frames.Let start name ty) stack part symbols.In span n = absurd (n.in_word refl)
-unfit (frames.Let start name ty) stack part _ span n = refl
-unfit _ stack part symbol span n = refl
+pub unfit : (frame : Frame) (stack : List Frame) (subtree : Subtree) (symbol : Symbol) (span : Span) → IsUnfit symbol
+    → close_by (frame ∷ stack) subtree symbol span ≡ refused (frame ∷ stack)
+unfit (frames.Parens start) stack subtree symbols.CloseParenthesis span n = absurd (n.parenthesis refl)
+unfit (frames.Parens start) stack subtree _ span n = refl
+unfit (frames.Arguments called values) stack subtree symbols.CloseParenthesis span n = absurd (n.parenthesis refl)
+unfit (frames.Arguments called values) stack subtree symbols.Comma span n = absurd (n.comma refl)
+unfit (frames.Arguments called values) stack subtree _ span n = refl
+unfit (frames.Elements start kind elements) stack subtree symbols.CloseBrace span n = absurd (n.brace refl)
+unfit (frames.Elements start kind elements) stack subtree symbols.Comma span n = absurd (n.comma refl)
+unfit (frames.Elements start kind elements) stack subtree _ span n = refl
+unfit (frames.Body iterated ty) stack subtree symbols.CloseParenthesis span n = absurd (n.parenthesis refl)
+unfit (frames.Body iterated ty) stack subtree _ span n = refl
+unfit (frames.If start) stack subtree symbols.Then span n = absurd (n.then_word refl)
+unfit (frames.If start) stack subtree _ span n = refl
+unfit (frames.Then start condition) stack subtree symbols.Else span n = absurd (n.else_word refl)
+unfit (frames.Then start condition) stack subtree _ span n = refl
+unfit (frames.Else start condition one) stack subtree symbols.Endif span n = absurd (n.endif_word refl)
+unfit (frames.Else start condition one) stack subtree _ span n = refl
+unfit (frames.Let start name ty) stack subtree symbols.In span n = absurd (n.in_word refl)
+unfit (frames.Let start name ty) stack subtree _ span n = refl
+unfit _ stack subtree symbol span n = refl

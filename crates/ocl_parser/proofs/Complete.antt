@@ -4,14 +4,14 @@ use Rattle.std.proofs.lemmas.List.{drop_all}
 use Rattle.ql_lex.specs.Lexed.{Lexeme}
 use Rattle.qv_syntax.specs.declared.expr.Expr.{Expr, roll-Expr, map-Expr, ind-Expr}
 use Rattle.qv_syntax.specs.declared.expr.Expr.TheVariants as exprs
-use Rattle.qv_syntax.specs.declared.expr.Link.{Link, roll-Link}
-use Rattle.qv_syntax.specs.declared.expr.Step.{Step, roll-Step, map-Step}
-use Rattle.qv_syntax.specs.declared.expr.Step.TheVariants as steps
+use Rattle.qv_syntax.specs.declared.expr.Infix.{Infix, roll-Infix}
+use Rattle.qv_syntax.specs.declared.expr.Postfix.{Postfix, roll-Postfix, map-Postfix}
+use Rattle.qv_syntax.specs.declared.expr.Postfix.TheVariants as postfixes
 use Rattle.qv_syntax.specs.declared.expr.Args.{Args, roll-Args, map-Args}
 use Rattle.qv_syntax.specs.declared.expr.Args.TheVariants as args
 use Rattle.qv_syntax.specs.declared.expr.Args.TheOpen as of
 use Rattle.ocl_parser.specs.Grammar.{form, spelled}
-use Rattle.ocl_parser.specs.Moves.{settled}
+use Rattle.ocl_parser.specs.Moves.{reduced}
 use Rattle.ocl_parser.specs.Runs.{answer, run, ended_by, nowhere, Tree}
 use Rattle.ocl_parser.specs.declared.symbol.Symbol.TheVariants as symbols
 use Rattle.ocl_parser.proofs.CompleteRuns.{going}
@@ -19,9 +19,9 @@ use Rattle.ocl_parser.proofs.CompleteForms.{IsRead, rolled, closing, parens_read
 use Rattle.ocl_parser.proofs.CompleteAtoms.{number_read, string_read, constant_read, null_read, invalid_read, named_read}
 use Rattle.ocl_parser.proofs.CompleteNests.{if_read, not_read, negated_read, let_read}
 use Rattle.ocl_parser.proofs.CompleteLists.{all_of}
-use Rattle.ocl_parser.proofs.CompleteChains.{IsLinkRead, chain_read}
+use Rattle.ocl_parser.proofs.CompleteChains.{IsInfixRead, chain_read}
 use Rattle.ocl_parser.proofs.CompleteCalls.{AreArgsRead, args_rolled, values_read, class_argument_read, call_read, coll_read}
-use Rattle.ocl_parser.proofs.CompleteSteps.{IsStepRead, step_rolled, property_read, dot_read, arrow_read, iterator_read, calls_read}
+use Rattle.ocl_parser.proofs.CompleteSteps.{IsPostfixRead, step_rolled, property_read, dot_read, arrow_read, iterator_read, calls_read}
 
 -- what one layer of an expression holds, each with the fact that it is read
 abbrev ReadArgs : List Lexeme → Type 0
@@ -31,13 +31,13 @@ abbrev ReadExpr : List Lexeme → Type 0
 ReadExpr ts = (e : Expr) × IsRead ts e
 
 abbrev ReadStep : List Lexeme → Type 0
-ReadStep ts = (s : Step) × IsStepRead ts s
+ReadStep ts = (s : Postfix) × IsPostfixRead ts s
 
 abbrev ReadLink : List Lexeme → Type 0
-ReadLink ts = (l : Link) × IsLinkRead ts l
+ReadLink ts = (l : Infix) × IsInfixRead ts l
 
 args_formed : (ts : List Lexeme) (y : of.Args-F (ReadArgs ts) (ReadExpr ts) (ReadStep ts) (ReadLink ts))
-    → AreArgsRead ts (roll-Args (map-Args (ReadArgs ts) (ReadExpr ts) (ReadStep ts) (ReadLink ts) Args Expr Step Link (λ e. e.0) (λ e. e.0) (λ e. e.0) (λ e. e.0) y))
+    → AreArgsRead ts (roll-Args (map-Args (ReadArgs ts) (ReadExpr ts) (ReadStep ts) (ReadLink ts) Args Expr Postfix Infix (λ e. e.0) (λ e. e.0) (λ e. e.0) (λ e. e.0) y))
 args_formed ts (of.Values vs) =
     let es : List Expr = map (λ e. e.0) vs in
     let all = all_of (IsRead ts) vs in
@@ -45,37 +45,37 @@ args_formed ts (of.Values vs) =
 args_formed ts (of.Class p) = subst (AreArgsRead ts) (sym (args.rolls-Class p))
     (args_rolled ts (of.Class p) (args.Class p) (args.rolls-Class p) (class_argument_read ts p))
 
-step_formed : (ts : List Lexeme) (y : of.Step-F (ReadArgs ts) (ReadExpr ts) (ReadStep ts) (ReadLink ts))
-    → IsStepRead ts (roll-Step (map-Step (ReadArgs ts) (ReadExpr ts) (ReadStep ts) (ReadLink ts) Args Expr Step Link (λ e. e.0) (λ e. e.0) (λ e. e.0) (λ e. e.0) y))
-step_formed ts (of.Property x) = subst (IsStepRead ts) (sym (steps.rolls-Property x))
-    (step_rolled ts (of.Property x) (steps.Property x) (steps.rolls-Property x) (property_read ts x))
-step_formed ts (of.Dot x a span) = subst (IsStepRead ts) (sym (steps.rolls-Dot x a.0 span))
-    (step_rolled ts (of.Dot x a.0 span) (steps.Dot x a.0 span) (steps.rolls-Dot x a.0 span) (dot_read ts x a.0 span a.1))
-step_formed ts (of.Arrow x a span) = subst (IsStepRead ts) (sym (steps.rolls-Arrow x a.0 span))
-    (step_rolled ts (of.Arrow x a.0 span) (steps.Arrow x a.0 span) (steps.rolls-Arrow x a.0 span) (arrow_read ts x a.0 span a.1))
-step_formed ts (of.Iterator x v ty body span) = subst (IsStepRead ts) (sym (steps.rolls-Iterator x v ty body.0 span))
-    (step_rolled ts (of.Iterator x v ty body.0 span) (steps.Iterator x v ty body.0 span) (steps.rolls-Iterator x v ty body.0 span)
+step_formed : (ts : List Lexeme) (y : of.Postfix-F (ReadArgs ts) (ReadExpr ts) (ReadStep ts) (ReadLink ts))
+    → IsPostfixRead ts (roll-Postfix (map-Postfix (ReadArgs ts) (ReadExpr ts) (ReadStep ts) (ReadLink ts) Args Expr Postfix Infix (λ e. e.0) (λ e. e.0) (λ e. e.0) (λ e. e.0) y))
+step_formed ts (of.Property x) = subst (IsPostfixRead ts) (sym (postfixes.rolls-Property x))
+    (step_rolled ts (of.Property x) (postfixes.Property x) (postfixes.rolls-Property x) (property_read ts x))
+step_formed ts (of.Dot x a span) = subst (IsPostfixRead ts) (sym (postfixes.rolls-Dot x a.0 span))
+    (step_rolled ts (of.Dot x a.0 span) (postfixes.Dot x a.0 span) (postfixes.rolls-Dot x a.0 span) (dot_read ts x a.0 span a.1))
+step_formed ts (of.Arrow x a span) = subst (IsPostfixRead ts) (sym (postfixes.rolls-Arrow x a.0 span))
+    (step_rolled ts (of.Arrow x a.0 span) (postfixes.Arrow x a.0 span) (postfixes.rolls-Arrow x a.0 span) (arrow_read ts x a.0 span a.1))
+step_formed ts (of.Iterator x v ty body span) = subst (IsPostfixRead ts) (sym (postfixes.rolls-Iterator x v ty body.0 span))
+    (step_rolled ts (of.Iterator x v ty body.0 span) (postfixes.Iterator x v ty body.0 span) (postfixes.rolls-Iterator x v ty body.0 span)
     (iterator_read ts x v ty body.0 span body.1))
 
 expr_formed : (ts : List Lexeme) (y : of.Expr-F (ReadArgs ts) (ReadExpr ts) (ReadStep ts) (ReadLink ts))
-    → IsRead ts (roll-Expr (map-Expr (ReadArgs ts) (ReadExpr ts) (ReadStep ts) (ReadLink ts) Args Expr Step Link (λ e. e.0) (λ e. e.0) (λ e. e.0) (λ e. e.0) y))
+    → IsRead ts (roll-Expr (map-Expr (ReadArgs ts) (ReadExpr ts) (ReadStep ts) (ReadLink ts) Args Expr Postfix Infix (λ e. e.0) (λ e. e.0) (λ e. e.0) (λ e. e.0) y))
 expr_formed ts (of.Let x ty value body span) = subst (IsRead ts) (sym (exprs.rolls-Let x ty value.0 body.0 span))
     (rolled ts (of.Let x ty value.0 body.0 span) (exprs.Let x ty value.0 body.0 span) (exprs.rolls-Let x ty value.0 body.0 span)
     (let_read ts x ty value.0 body.0 span value.1 body.1))
 expr_formed ts (of.Chain first rest span) =
-    let ls : List Link = map (λ e. e.0) rest in
-    let all = all_of (IsLinkRead ts) rest in
+    let ls : List Infix = map (λ e. e.0) rest in
+    let all = all_of (IsInfixRead ts) rest in
     subst (IsRead ts) (sym (exprs.rolls-Chain first.0 ls span))
     (rolled ts (of.Chain first.0 ls span) (exprs.Chain first.0 ls span) (exprs.rolls-Chain first.0 ls span) (chain_read ts first.0 ls span first.1 all))
 expr_formed ts (of.Not operand span) = subst (IsRead ts) (sym (exprs.rolls-Not operand.0 span))
     (rolled ts (of.Not operand.0 span) (exprs.Not operand.0 span) (exprs.rolls-Not operand.0 span) (not_read ts operand.0 span operand.1))
 expr_formed ts (of.Negated operand span) = subst (IsRead ts) (sym (exprs.rolls-Negated operand.0 span))
     (rolled ts (of.Negated operand.0 span) (exprs.Negated operand.0 span) (exprs.rolls-Negated operand.0 span) (negated_read ts operand.0 span operand.1))
-expr_formed ts (of.Calls part rest span) =
-    let ss : List Step = map (λ e. e.0) rest in
-    let all = all_of (IsStepRead ts) rest in
-    subst (IsRead ts) (sym (exprs.rolls-Calls part.0 ss span))
-    (rolled ts (of.Calls part.0 ss span) (exprs.Calls part.0 ss span) (exprs.rolls-Calls part.0 ss span) (calls_read ts part.0 ss span part.1 all))
+expr_formed ts (of.Calls subtree rest span) =
+    let ss : List Postfix = map (λ e. e.0) rest in
+    let all = all_of (IsPostfixRead ts) rest in
+    subst (IsRead ts) (sym (exprs.rolls-Calls subtree.0 ss span))
+    (rolled ts (of.Calls subtree.0 ss span) (exprs.Calls subtree.0 ss span) (exprs.rolls-Calls subtree.0 ss span) (calls_read ts subtree.0 ss span subtree.1 all))
 expr_formed ts (of.Number value span) = subst (IsRead ts) (sym (exprs.rolls-Number value span))
     (rolled ts (of.Number value span) (exprs.Number value span) (exprs.rolls-Number value span) (number_read ts value span))
 expr_formed ts (of.Str value span) = subst (IsRead ts) (sym (exprs.rolls-Str value span))
@@ -101,21 +101,21 @@ expr_formed ts (of.Named p) = subst (IsRead ts) (sym (exprs.rolls-Named p)) (rol
 
 -- the tokens of an expression, wherever they stand, lead to it
 pub expr_read : (ts : List Lexeme) (e : Expr) → IsRead ts e
-expr_read ts = ind-Expr (AreArgsRead ts) (IsRead ts) (IsStepRead ts) (IsLinkRead ts)
+expr_read ts = ind-Expr (AreArgsRead ts) (IsRead ts) (IsPostfixRead ts) (IsInfixRead ts)
     (λ x y is. subst (λ d. AreArgsRead ts (roll-Args d)) is (args_formed ts y))
     (λ x y is. subst (λ d. IsRead ts (roll-Expr d)) is (expr_formed ts y))
-    (λ x y is. subst (λ d. IsStepRead ts (roll-Step d)) is (step_formed ts y))
-    (λ x y is. subst (λ d. IsLinkRead ts (roll-Link d)) is y.right.1)
+    (λ x y is. subst (λ d. IsPostfixRead ts (roll-Postfix d)) is (step_formed ts y))
+    (λ x y is. subst (λ d. IsInfixRead ts (roll-Infix d)) is y.right.1)
 
 -- the tokens of an expression, with nothing behind them, are read as it
 pub complete_within : (ts : List Lexeme) (levels n : ℕ) (e : Expr) (from : ℕ) → n ≤ levels → spelled ts n e from ≡ Some (length ts)
     → answer ts levels from ≡ Tree e (length ts)
-unfolding spelled answer run going settled
+unfolding spelled answer run going reduced
 complete_within ts levels n e from few h =
     let r = expr_read ts e levels n from (length ts) [] tt (omega arith) h in
     let ended = closing levels ts e (form ts e).binding [] from (length ts) r symbols.Other nowhere refl in
     let none : drop (length ts) ts ≡ [] = drop_all (length ts) ts (omega arith) in
-    r.runs ∙ rw none (ap (λ m. ended_by m.outcome (length ts)) ended)
+    r.runs ∙ rw none (ap (λ m. ended_by m.action (length ts)) ended)
 
 pub complete : (ts : List Lexeme) (levels : ℕ) (e : Expr) (from : ℕ) → spelled ts levels e from ≡ Some (length ts) → answer ts levels from ≡ Tree e (length ts)
 complete ts levels e from h = complete_within ts levels levels e from (omega arith) h

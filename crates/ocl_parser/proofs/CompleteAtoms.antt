@@ -12,7 +12,7 @@ use Rattle.ocl_parser.specs.Moves.{move, base_of, path_by, after_path}
 use Rattle.ocl_parser.specs.declared.symbol.Symbol.{Symbol}
 use Rattle.ocl_parser.specs.declared.symbol.Symbol.TheVariants as symbols
 use Rattle.ocl_parser.specs.declared.frame.Frame.{Frame}
-use Rattle.ocl_parser.specs.declared.place.Place.TheVariants as places
+use Rattle.ocl_parser.specs.declared.state.State.TheVariants as states
 use Rattle.ocl_parser.proofs.CompletePaths.{path_parts}
 use Rattle.ocl_parser.proofs.CompleteTypes.{named_read as path_named_read}
 use Rattle.ocl_parser.proofs.CompleteForms.{goes_on, Holds, Reading, atom, one_token}
@@ -50,7 +50,7 @@ held_by (x ∷ y ∷ ns) stack p symbols.OpenParenthesis span e = cc
 held_by (x ∷ y ∷ ns) stack p symbols.DoubleColon span e = cc
 held_by (x ∷ y ∷ ns) stack p s span e = refl
 
-pub held_path : (stack : List Frame) (p : Path) → Holds stack (places.Path p) (base_of (exprs.Named p) p.span)
+pub held_path : (stack : List Frame) (p : Path) → Holds stack (states.Path p) (base_of (exprs.Named p) p.span)
 unfolding move
 held_path stack p s span e = held_by p.names stack p s span e
 
@@ -61,5 +61,5 @@ pub named_read : (ts : List Lexeme) (p : Path) → Reading ts (expr_step ts (of.
 unfolding move
 named_read ts p levels n i j stack fit few e =
     let r = path_named_read levels ts stack p n i j (omega arith) e in
-    atom levels ts (exprs.Named p) stack i j (places.Path p) r.0 r.1
-    (subst (λ (s : Span). Holds stack (places.Path p) (base_of (exprs.Named p) s)) (path_at ts 3 p n i j e) (held_path stack p))
+    atom levels ts (exprs.Named p) stack i j (states.Path p) r.0 r.1
+    (subst (λ (s : Span). Holds stack (states.Path p) (base_of (exprs.Named p) s)) (path_at ts 3 p n i j e) (held_path stack p))

@@ -15,32 +15,32 @@ use Rattle.ocl_parser.specs.Runs.{run, ended_by, nowhere}
 use Rattle.ocl_parser.specs.declared.symbol.Symbol.{Symbol}
 use Rattle.ocl_parser.specs.declared.symbol.Symbol.TheVariants as symbols
 use Rattle.ocl_parser.specs.declared.frame.Frame.{Frame}
-use Rattle.ocl_parser.specs.declared.place.Place.{Place}
+use Rattle.ocl_parser.specs.declared.state.State.{State}
 use Rattle.ocl_parser.proofs.TokenLaws.{stands_some, stands_none}
 use Rattle.ocl_parser.proofs.SymbolLaws.{test_of, is_told, tested, symbol_is}
 use Rattle.ocl_parser.proofs.CompleteRuns.{going, moved, coming, there}
 use Rattle.ocl_parser.proofs.CompletePieces.{parts, taken}
 use Rattle.ocl_parser.proofs.CompletePaths.{further_names}
 
--- ---- two places from which each symbol leads the same way
+-- ---- two states from which each symbol leads the same way
 
-pub same_here : (levels : ℕ) (ts : List Lexeme) (k : ℕ) (stack stack' : List Frame) (place place' : Place)
-    → ((s : Symbol) (span : Span) → (is_told s ≡ true → stands (test_of s) ts k ≡ true) → move stack place s span ≡ move stack' place' s span)
-    → going levels ts stack place k ≡ going levels ts stack' place' k
+pub same_here : (levels : ℕ) (ts : List Lexeme) (k : ℕ) (stack stack' : List Frame) (state place' : State)
+    → ((s : Symbol) (span : Span) → (is_told s ≡ true → stands (test_of s) ts k ≡ true) → move stack state s span ≡ move stack' place' s span)
+    → going levels ts stack state k ≡ going levels ts stack' place' k
 unfolding going run
-same_here levels ts k stack stack' place place' m = by (slice_get_cases ts k).1
+same_here levels ts k stack stack' state place' m = by (slice_get_cases ts k).1
   where
     by : ((x : Lexeme) × (k < length ts) × (slice_get ts k ≡ Some x) × (get_or ts k x ≡ x)) ⊎ ((length ts ≤ k) × (slice_get ts k ≡ None))
-        → run levels (drop k ts) stack place k ≡ run levels (drop k ts) stack' place' k
+        → run levels (drop k ts) stack state k ≡ run levels (drop k ts) stack' place' k
     by (inl c) =
         let l : Lexeme = c.0 in
         let ls : List Lexeme = drop (k + 1) ts in
         let d : drop k ts ≡ l ∷ ls = drop_more ts k l c.1 ∙ ap (λ (x : Lexeme). x ∷ ls) c.3 in
         let e = m (symbol_of l) l.token.span (λ told. stands_some (test_of (symbol_of l)) ts k l c.2 ∙ tested l) in
-        rw d (moved levels l ls stack place k ∙ ap (coming levels ls k) e ∙ sym (moved levels l ls stack' place' k))
+        rw d (moved levels l ls stack state k ∙ ap (coming levels ls k) e ∙ sym (moved levels l ls stack' place' k))
     by (inr c) =
         let e = m symbols.Other nowhere (λ told. cc) in
-        rw (drop_of_length-le ts c.0) (ap (λ (x : Move). ended_by x.outcome k) e)
+        rw (drop_of_length-le ts c.0) (ap (λ (x : Move). ended_by x.action k) e)
 
 abbrev pub name_of : Symbol → Option Name
 name_of (symbols.Name x) = Some x
@@ -52,7 +52,7 @@ is_typing symbols.Colon = true
 is_typing symbols.Bar = true
 is_typing s = false
 
--- none of these signs stands at a place
+-- none of these signs stands at a number
 abbrev pub IsPlain : List Lexeme → ℕ → Type 0
 IsPlain ts k = (stands (is_sign (codes ":")) ts k ≡ false) × (stands (is_sign (codes "|")) ts k ≡ false)
 
@@ -63,7 +63,7 @@ absent passes ts k h = by (stands passes ts k) refl
     by true e = absurd (h e)
     by false e = refl
 
--- one token at a place has one symbol
+-- one token at a number has one symbol
 pub one_symbol : (ts : List Lexeme) (k : ℕ) (s t : Symbol) → is_told s ≡ true → is_told t ≡ true → stands (test_of s) ts k ≡ true → stands (test_of t) ts k ≡ true
     → s ≡ t
 one_symbol ts k s t told told' e f =
@@ -93,7 +93,7 @@ plain_names ts (y ∷ rest) n i j e =
     let c = taken (is_sign (codes "::")) ts n i b.0 b.1 in
     inr (plain_at ts i symbols.DoubleColon refl refl c.0)
 
--- a name stands at a place, or none
+-- a name stands at a number, or none
 named_is : (s : Symbol) (v : Name) → name_of s ≡ Some v → s ≡ symbols.Name v
 named_is (symbols.Name x) v e = let same : x ≡ v = cc in ap symbols.Name same
 named_is s v e = cc

@@ -12,12 +12,12 @@ use Rattle.qv_syntax.specs.declared.expr.Expr.TheVariants as exprs
 use Rattle.qv_syntax.specs.declared.expr.Args.TheOpen as of
 use Rattle.ocl_parser.specs.Pieces.{Piece, ◌▸◌, stands, sign, word, is_sign, is_word, span_at, nested, only}
 use Rattle.ocl_parser.specs.Grammar.{form, expr_step, bound}
-use Rattle.ocl_parser.specs.Moves.{move, base_of, settled, begins_expression, open_levels}
+use Rattle.ocl_parser.specs.Moves.{move, base_of, reduced, begins_expression, open_levels}
 use Rattle.ocl_parser.specs.declared.symbol.Symbol.TheVariants as symbols
 use Rattle.ocl_parser.specs.declared.frame.Base.{Base}
 use Rattle.ocl_parser.specs.declared.frame.Frame.{Frame}
 use Rattle.ocl_parser.specs.declared.frame.Frame.TheVariants as frames
-use Rattle.ocl_parser.specs.declared.place.Place.TheVariants as places
+use Rattle.ocl_parser.specs.declared.state.State.TheVariants as states
 use Rattle.ocl_parser.proofs.CompleteRuns.{step}
 use Rattle.ocl_parser.proofs.CompletePieces.{parts, held, within, token_first, token_last}
 use Rattle.ocl_parser.proofs.CompleteHeads.{bound_read}
@@ -25,7 +25,7 @@ use Rattle.ocl_parser.proofs.CompleteForms.{Reads, Fits, Reading, IsRead, by_spa
 
 pub if_read : (ts : List Lexeme) (condition one other : Expr) (span : Span) → IsRead ts condition → IsRead ts one → IsRead ts other
     → Reading ts (expr_step ts (of.If (form ts condition) (form ts one) (form ts other) span)) (exprs.If condition one other span)
-unfolding move settled span_at
+unfolding move reduced span_at
 if_read ts condition one other span ih₁ ih₂ ih₃ =
     let p₁ : Piece = word ts (codes "if") ▸ (form ts condition).piece in
     let p₂ : Piece = p₁ ▸ word ts (codes "then") in
@@ -51,27 +51,27 @@ if_read ts condition one other span ih₁ ih₂ ih₃ =
     let f₁ : List Frame = frames.If start ∷ stack in
     let f₂ : List Frame = frames.Then start condition ∷ stack in
     let f₃ : List Frame = frames.Else start condition one ∷ stack in
-    let s₁ = step levels ts symbols.If i stack f₁ places.Operand places.Operand refl a₁.0 refl (omega (arith, few, c.1)) in
+    let s₁ = step levels ts symbols.If i stack f₁ states.Operand states.Operand refl a₁.0 refl (omega (arith, few, c.1)) in
     let r₁ = ih₁ levels m (i + 1) k₁ f₁ tt (omega (arith, few, c.1)) a₁.1 in
-    let s₂ = step levels ts symbols.Then k₁ r₁.on f₂ r₁.place places.Operand refl a₂.2
+    let s₂ = step levels ts symbols.Then k₁ r₁.on f₂ r₁.state states.Operand refl a₂.2
     (closing levels ts condition (form ts condition).binding f₁ (i + 1) k₁ r₁ symbols.Then (span_at ts k₁ (k₁ + 1)) refl) (omega (arith, few, c.1)) in
     let r₂ = ih₂ levels m (k₁ + 1) k₂ f₂ tt (omega (arith, few, c.1)) spelled₂ in
-    let s₃ = step levels ts symbols.Else k₂ r₂.on f₃ r₂.place places.Operand refl a₄.2
+    let s₃ = step levels ts symbols.Else k₂ r₂.on f₃ r₂.state states.Operand refl a₄.2
     (closing levels ts one (form ts one).binding f₂ (k₁ + 1) k₂ r₂ symbols.Else (span_at ts k₂ (k₂ + 1)) refl) (omega (arith, few, c.1)) in
     let r₃ = ih₃ levels m (k₂ + 1) k₃ f₃ tt (omega (arith, few, c.1)) spelled₃ in
     let tree : Expr = exprs.If condition one other (span_at ts i (k₃ + 1)) in
     let base : Base = base_of tree (span_at ts i (k₃ + 1)) in
-    let s₄ = step levels ts symbols.Endif k₃ r₃.on stack r₃.place (places.After base) refl a₆.2
+    let s₄ = step levels ts symbols.Endif k₃ r₃.on stack r₃.state (states.After base) refl a₆.2
     (closing levels ts other (form ts other).binding f₃ (k₂ + 1) k₃ r₃ symbols.Endif (span_at ts k₃ (k₃ + 1)) refl) (omega (arith, few)) in
     subst (λ (x : ℕ). Reads levels ts (exprs.If condition one other (span_at ts i x)) 10 stack i x) (sym a₆.3)
-    (atom levels ts tree stack i (k₃ + 1) (places.After base) (omega (arith, r₁.further, r₂.further, r₃.further)) (s₁ ∙ r₁.runs ∙ s₂ ∙ r₂.runs ∙ s₃ ∙ r₃.runs ∙ s₄)
+    (atom levels ts tree stack i (k₃ + 1) (states.After base) (omega (arith, r₁.further, r₂.further, r₃.further)) (s₁ ∙ r₁.runs ∙ s₂ ∙ r₂.runs ∙ s₃ ∙ r₃.runs ∙ s₄)
     (held_after stack base)))
 
 -- ---- `not` and `-`
 
 pub not_read : (ts : List Lexeme) (operand : Expr) (span : Span) → IsRead ts operand
     → Reading ts (expr_step ts (of.Not (form ts operand) span)) (exprs.Not operand span)
-unfolding move settled span_at
+unfolding move reduced span_at
 not_read ts operand span ih =
     let body : Piece = word ts (codes "not") ▸ (form ts operand).piece in
     by_span ts 8 (exprs.Not operand) span (only (nat_le 8 (form ts operand).binding) (nested body)) (λ levels n i j stack fit few e.
@@ -81,22 +81,22 @@ not_read ts operand span ih =
     let m : ℕ = c.0 in
     let d = token_first (is_word (codes "not")) ts (form ts operand).piece m i j c.2 in
     let inside : List Frame = frames.Not (span_at ts i (i + 1)).start ∷ stack in
-    let one = step levels ts symbols.Not i stack inside places.Operand places.Operand refl d.0 refl (omega (arith, few, c.1)) in
+    let one = step levels ts symbols.Not i stack inside states.Operand states.Operand refl d.0 refl (omega (arith, few, c.1)) in
     let r = ih levels m (i + 1) j inside tight (omega (arith, few, c.1)) d.1 in
     record {
       on = r.on;
-      place = r.place;
+      state = r.state;
       base = r.base;
       further = omega (arith, r.further);
       runs = one ∙ r.runs;
       holds = r.holds;
-      settles = λ x h. r.settles x (omega (arith, tight));
+      reduces = λ x h. r.reduces x (omega (arith, tight));
       tight = λ h. absurd (omega arith);
     })
 
 pub negated_read : (ts : List Lexeme) (operand : Expr) (span : Span) → IsRead ts operand
     → Reading ts (expr_step ts (of.Negated (form ts operand) span)) (exprs.Negated operand span)
-unfolding move settled span_at
+unfolding move reduced span_at
 negated_read ts operand span ih =
     let body : Piece = sign ts (codes "-") ▸ (form ts operand).piece in
     by_span ts 8 (exprs.Negated operand) span (only (nat_le 8 (form ts operand).binding) (nested body)) (λ levels n i j stack fit few e.
@@ -106,16 +106,16 @@ negated_read ts operand span ih =
     let m : ℕ = c.0 in
     let d = token_first (is_sign (codes "-")) ts (form ts operand).piece m i j c.2 in
     let inside : List Frame = frames.Negated (span_at ts i (i + 1)).start ∷ stack in
-    let one = step levels ts (symbols.Operator operators.Minus) i stack inside places.Operand places.Operand refl d.0 refl (omega (arith, few, c.1)) in
+    let one = step levels ts (symbols.Operator operators.Minus) i stack inside states.Operand states.Operand refl d.0 refl (omega (arith, few, c.1)) in
     let r = ih levels m (i + 1) j inside tight (omega (arith, few, c.1)) d.1 in
     record {
       on = r.on;
-      place = r.place;
+      state = r.state;
       base = r.base;
       further = omega (arith, r.further);
       runs = one ∙ r.runs;
       holds = r.holds;
-      settles = λ x h. r.settles x (omega (arith, tight));
+      reduces = λ x h. r.reduces x (omega (arith, tight));
       tight = λ h. absurd (omega arith);
     })
 
@@ -133,25 +133,25 @@ let_run : (ts : List Lexeme) (x : Name) (ty : TypeTree) (value body : Expr) → 
     → stands (is_word (codes "let")) ts i ≡ true → bound ts x ty m (i + 1) ≡ Some k₁ → (form ts value).piece m k₁ ≡ Some k₂ → stands (is_word (codes "in")) ts k₂ ≡ true
     → (form ts body).piece m (k₂ + 1) ≡ Some j
     → Reads levels ts (exprs.Let x ty value body (span_at ts i j)) 0 stack i j
-unfolding move settled span_at
+unfolding move reduced span_at
 let_run ts x ty value body ih₁ ih₂ levels n m i k₁ k₂ j stack fit few deeper w₁ typed part₁ w₅ part₂ =
     let start : ℕ = (span_at ts i (i + 1)).start in
     let f₂ : List Frame = frames.Let start x ty ∷ stack in
     let f₃ : List Frame = frames.In start x ty value ∷ stack in
-    let s₁ = step levels ts symbols.Let i stack stack places.Operand (places.LetName start) refl w₁ (rw (begins stack fit) refl) (omega (arith, few, deeper)) in
+    let s₁ = step levels ts symbols.Let i stack stack states.Operand (states.LetName start) refl w₁ (rw (begins stack fit) refl) (omega (arith, few, deeper)) in
     let t = bound_read levels ts stack start x ty m (i + 1) k₁ (omega (arith, few, deeper)) typed in
     let r₁ = ih₁ levels m k₁ k₂ f₂ tt (omega (arith, few, deeper)) part₁ in
-    let s₅ = step levels ts symbols.In k₂ r₁.on f₃ r₁.place places.Operand refl w₅
+    let s₅ = step levels ts symbols.In k₂ r₁.on f₃ r₁.state states.Operand refl w₅
     (closing levels ts value (form ts value).binding f₂ k₁ k₂ r₁ symbols.In (span_at ts k₂ (k₂ + 1)) refl) (omega (arith, few, deeper)) in
     let r₂ = ih₂ levels m (k₂ + 1) j f₃ tt (omega (arith, few, deeper)) part₂ in
     record {
       on = r₂.on;
-      place = r₂.place;
+      state = r₂.state;
       base = r₂.base;
       further = omega (arith, t.0, r₁.further, r₂.further);
       runs = s₁ ∙ t.1 ∙ r₁.runs ∙ s₅ ∙ r₂.runs;
       holds = r₂.holds;
-      settles = λ y h. let zero : y ≡ 0 = omega arith in rw zero (r₂.settles 0 (omega arith));
+      reduces = λ y h. let zero : y ≡ 0 = omega arith in rw zero (r₂.reduces 0 (omega arith));
       tight = λ h. absurd (omega arith);
     }
 

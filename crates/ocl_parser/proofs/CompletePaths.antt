@@ -11,10 +11,10 @@ use Rattle.qv_syntax.specs.declared.name.Name.{Name}
 use Rattle.qv_syntax.specs.declared.name.Path.{Path}
 use Rattle.ocl_parser.specs.Pieces.{Piece, ◌▸◌, stands, sign, is_sign, name, is_name, name_text, is_same_span, span_at, start_of, only, each, separated}
 use Rattle.ocl_parser.specs.Grammar.{names, path}
-use Rattle.ocl_parser.specs.Moves.{move, to, open_levels, place_levels, path_of, extended, from_to}
+use Rattle.ocl_parser.specs.Moves.{move, to, open_levels, state_levels, path_of, extended, from_to}
 use Rattle.ocl_parser.specs.declared.symbol.Symbol.TheVariants as symbols
 use Rattle.ocl_parser.specs.declared.frame.Frame.{Frame}
-use Rattle.ocl_parser.specs.declared.place.Place.{Place}
+use Rattle.ocl_parser.specs.declared.state.State.{State}
 use Rattle.ocl_parser.proofs.CompleteRuns.{going, there, span_of, step}
 use Rattle.ocl_parser.proofs.CompletePieces.{parts, taken, held, both_true, same_spans, at_span}
 
@@ -36,19 +36,19 @@ further_names ts rest = each (map (behind_colons ts) (map (name ts) rest))
 abbrev pub path_from_to : List Lexeme → List Name → ℕ → ℕ → Path
 path_from_to ts ns i j = record { names = ns; span = span_at ts i j }
 
--- how a place goes on with the names of a path
-pub record Extends (levels most : ℕ) (stack : List Frame) (at_path next : Path → Place) : Type 0 where
+-- how a state goes on with the names of a path
+pub record Extends (levels most : ℕ) (stack : List Frame) (at_path next : Path → State) : Type 0 where
   pub colons : (p : Path) (span : Span) → length p.names < most → move stack (at_path p) symbols.DoubleColon span ≡ to stack (next p)
   pub named : (p : Path) (x : Name) (span : Span) → move stack (next p) (symbols.Name x) span ≡ to stack (at_path (extended p x))
-  pub few : (p : Path) → open_levels stack + place_levels (at_path p) ≤ levels
-  pub few_next : (p : Path) → open_levels stack + place_levels (next p) ≤ levels
+  pub few : (p : Path) → open_levels stack + state_levels (at_path p) ≤ levels
+  pub few_next : (p : Path) → open_levels stack + state_levels (next p) ≤ levels
 
 extended_at : (ts : List Lexeme) (read : List Name) (x : Name) (i j : ℕ) → x.span ≡ span_at ts (j + 1) (j + 1 + 1)
     → extended (path_from_to ts read i j) x ≡ path_from_to ts (read ++ x ∷ []) i (j + 1 + 1)
 unfolding span_at
 extended_at ts read x i j e = ap (λ (s : Span). record { names = read ++ x ∷ []; span = from_to (start_of ts i) s.end }) e
 
-pub names_read : (levels most : ℕ) (ts : List Lexeme) (stack : List Frame) (at_path next : Path → Place) → Extends levels most stack at_path next
+pub names_read : (levels most : ℕ) (ts : List Lexeme) (stack : List Frame) (at_path next : Path → State) → Extends levels most stack at_path next
     → (read rest : List Name) (n i j k : ℕ) → length read + length rest ≤ most → further_names ts rest n j ≡ Some k
     → (j ≤ k) × (going levels ts stack (at_path (path_from_to ts read i j)) j ≡ going levels ts stack (at_path (path_from_to ts (read ++ rest) i k)) k)
 unfolding each
@@ -109,7 +109,7 @@ path_of_at : (ts : List Lexeme) (x : Name) (i : ℕ) → stands (is_name x) ts i
 path_of_at ts x i e = ap (λ (s : Span). record { names = x ∷ []; span = s }) (name_span ts x i e)
 
 -- behind the first name
-pub path_behind : (levels most : ℕ) (ts : List Lexeme) (stack : List Frame) (at_path next : Path → Place) → Extends levels most stack at_path next
+pub path_behind : (levels most : ℕ) (ts : List Lexeme) (stack : List Frame) (at_path next : Path → State) → Extends levels most stack at_path next
     → (p : Path) (n i j : ℕ) (a : PathParts ts most p n i j)
     → (i < j) × (going levels ts stack (at_path (path_of a.first)) (i + 1) ≡ going levels ts stack (at_path p) j)
 path_behind levels most ts stack at_path next x p n i j a =
@@ -119,7 +119,7 @@ path_behind levels most ts stack at_path next x p n i j a =
           ∙ ap (λ (q : Path). going levels ts stack (at_path q) j) (sym a.is),
     )
 
-pub path_read : (levels most : ℕ) (ts : List Lexeme) (stack : List Frame) (start : Place) (at_path next : Path → Place) → Extends levels most stack at_path next
+pub path_read : (levels most : ℕ) (ts : List Lexeme) (stack : List Frame) (start : State) (at_path next : Path → State) → Extends levels most stack at_path next
     → ((y : Name) (span : Span) → move stack start (symbols.Name y) span ≡ to stack (at_path (path_of y)))
     → (p : Path) (n i j : ℕ) → path ts most p n i ≡ Some j → (i < j) × (going levels ts stack start i ≡ going levels ts stack (at_path p) j)
 path_read levels most ts stack start at_path next x begins p n i j e =

@@ -17,11 +17,11 @@ use Rattle.ocl_parser.specs.declared.symbol.Symbol.{Symbol}
 use Rattle.ocl_parser.specs.declared.symbol.Symbol.TheVariants as symbols
 use Rattle.ocl_parser.specs.declared.symbol.PlainType.{PlainType}
 use Rattle.ocl_parser.specs.declared.symbol.PlainType.TheVariants as plain
-use Rattle.ocl_parser.specs.declared.frame.Called.{Called}
+use Rattle.ocl_parser.specs.declared.frame.CallHead.{CallHead}
 use Rattle.ocl_parser.specs.declared.frame.Frame.{Frame}
 use Rattle.ocl_parser.specs.declared.frame.Frame.TheVariants as frames
-use Rattle.ocl_parser.specs.declared.place.Place.{Place}
-use Rattle.ocl_parser.specs.declared.place.Place.TheVariants as places
+use Rattle.ocl_parser.specs.declared.state.State.{State}
+use Rattle.ocl_parser.specs.declared.state.State.TheVariants as states
 use Rattle.ocl_parser.proofs.SymbolLaws.{plain_word}
 use Rattle.ocl_parser.proofs.CompleteRuns.{going, step}
 use Rattle.ocl_parser.proofs.CompletePieces.{parts, taken, at_span, within}
@@ -29,7 +29,7 @@ use Rattle.ocl_parser.proofs.CompletePaths.{Extends, path_read}
 
 -- ---- paths
 
-colons_by : (ns : List Name) (stack : List Frame) (p : Path) (span : Span) → length ns < 3 → path_by ns stack p symbols.DoubleColon span ≡ to stack (places.PathName p)
+colons_by : (ns : List Name) (stack : List Frame) (p : Path) (span : Span) → length ns < 3 → path_by ns stack p symbols.DoubleColon span ≡ to stack (states.PathName p)
 colons_by [] stack p span few = refl
 colons_by (x ∷ []) stack p span few = refl
 colons_by (x ∷ y ∷ ns) stack p span few =
@@ -37,7 +37,7 @@ colons_by (x ∷ y ∷ ns) stack p span few =
     rw test refl
 
 -- a path goes on with one more name: in an expression, in a type, and as the class that is the argument of a call
-pub path_extends : (levels : ℕ) (stack : List Frame) → open_levels stack ≤ levels → Extends levels 3 stack places.Path places.PathName
+pub path_extends : (levels : ℕ) (stack : List Frame) → open_levels stack ≤ levels → Extends levels 3 stack states.Path states.PathName
 unfolding move
 path_extends levels stack few = record {
   colons = λ p span more. colons_by p.names stack p span more;
@@ -46,7 +46,7 @@ path_extends levels stack few = record {
   few_next = λ p. omega arith;
 }
 
-pub type_extends : (levels : ℕ) (stack : List Frame) → open_levels stack ≤ levels → Extends levels 2 stack places.TypePath places.TypeName
+pub type_extends : (levels : ℕ) (stack : List Frame) → open_levels stack ≤ levels → Extends levels 2 stack states.TypePath states.TypeName
 unfolding move
 type_extends levels stack few = record {
   colons = λ p span more. (let test : nat_lt (length p.names) 2 ≡ true = grind (arith, nat_tests) in rw test refl);
@@ -55,8 +55,8 @@ type_extends levels stack few = record {
   few_next = λ p. omega arith;
 }
 
-pub class_extends : (levels : ℕ) (stack : List Frame) (called : Called) → open_levels stack + 1 ≤ levels
-    → Extends levels 2 stack (places.ClassPath called) (places.ClassNext called)
+pub class_extends : (levels : ℕ) (stack : List Frame) (called : CallHead) → open_levels stack + 1 ≤ levels
+    → Extends levels 2 stack (states.ClassPath called) (states.ClassNext called)
 unfolding move
 class_extends levels stack called few = record {
   colons = λ p span more. (let test : nat_lt (length p.names) 2 ≡ true = grind (arith, nat_tests) in rw test refl);
@@ -67,17 +67,17 @@ class_extends levels stack called few = record {
 
 -- the tokens of a path lead behind it
 pub named_read : (levels : ℕ) (ts : List Lexeme) (stack : List Frame) (p : Path) (n i j : ℕ) → open_levels stack ≤ levels → named_path ts p n i ≡ Some j
-    → (i < j) × (going levels ts stack places.Operand i ≡ going levels ts stack (places.Path p) j)
+    → (i < j) × (going levels ts stack states.Operand i ≡ going levels ts stack (states.Path p) j)
 unfolding move
-named_read levels ts stack p n i j few e = path_read levels 3 ts stack places.Operand places.Path places.PathName (path_extends levels stack few) (λ y span. refl) p n i
+named_read levels ts stack p n i j few e = path_read levels 3 ts stack states.Operand states.Path states.PathName (path_extends levels stack few) (λ y span. refl) p n i
     j e
 
-pub class_read : (levels : ℕ) (ts : List Lexeme) (stack : List Frame) (called : Called) (p : Path) (n i j : ℕ) → open_levels stack + 1 ≤ levels
+pub class_read : (levels : ℕ) (ts : List Lexeme) (stack : List Frame) (called : CallHead) (p : Path) (n i j : ℕ) → open_levels stack + 1 ≤ levels
     → class_piece ts p n i ≡ Some j
-    → (i < j) × (going levels ts stack (places.ClassName called) i ≡ going levels ts stack (places.ClassPath called p) j)
+    → (i < j) × (going levels ts stack (states.ClassName called) i ≡ going levels ts stack (states.ClassPath called p) j)
 unfolding move
 class_read levels ts stack called p n i j few e =
-    path_read levels 2 ts stack (places.ClassName called) (places.ClassPath called) (places.ClassNext called) (class_extends levels stack called few) (λ y span. refl) p
+    path_read levels 2 ts stack (states.ClassName called) (states.ClassPath called) (states.ClassNext called) (class_extends levels stack called few) (λ y span. refl) p
     n i j e
 
 -- ---- types
@@ -87,24 +87,24 @@ abbrev pub is_colons : Symbol → Bool
 is_colons symbols.DoubleColon = true
 is_colons s = false
 
--- a place is behind a type
-abbrev pub HoldsType : List Frame → Place → TypeTree → Type 0
-HoldsType stack place ty = (s : Symbol) (span : Span) → is_colons s ≡ false → move stack place s span ≡ type_end stack ty s span
+-- a state is behind a type
+abbrev pub HoldsType : List Frame → State → TypeTree → Type 0
+HoldsType stack state ty = (s : Symbol) (span : Span) → is_colons s ≡ false → move stack state s span ≡ type_end stack ty s span
 
 pub record TypeReads (levels : ℕ) (ts : List Lexeme) (ty : TypeTree) (stack : List Frame) (i j : ℕ) : Type 0 where
-  pub place : Place
+  pub state : State
   pub further : i < j
-  pub runs : going levels ts stack places.Type i ≡ going levels ts stack place j
-  pub holds : HoldsType stack place ty
+  pub runs : going levels ts stack states.Type i ≡ going levels ts stack state j
+  pub holds : HoldsType stack state ty
 
 abbrev pub IsReadBy : Piece → List Lexeme → TypeTree → Type 0
 IsReadBy p ts ty = (levels n i j : ℕ) (stack : List Frame) → open_levels stack + n ≤ levels → p n i ≡ Some j → TypeReads levels ts ty stack i j
 
-type_ended : (stack : List Frame) (ty : TypeTree) → HoldsType stack (places.TypeEnd ty) ty
+type_ended : (stack : List Frame) (ty : TypeTree) → HoldsType stack (states.TypeEnd ty) ty
 unfolding move
 type_ended stack ty s span e = refl
 
-type_pathed : (stack : List Frame) (p : Path) → HoldsType stack (places.TypePath p) (Named p)
+type_pathed : (stack : List Frame) (p : Path) → HoldsType stack (states.TypePath p) (Named p)
 unfolding move
 type_pathed stack p symbols.DoubleColon span e = cc
 type_pathed stack p s span e = refl
@@ -115,20 +115,20 @@ plain_reads ts ty span levels n i j stack few e =
     let a = at_span ts span (word ts (plain_word ty)) n i j e in
     let b = taken (is_word (plain_word ty)) ts n i j a.0 in
     let at : span ≡ span_at ts i (i + 1) = a.1 ∙ ap (span_at ts i) b.1 in
-    let one = step levels ts (symbols.Plain ty) i stack stack places.Type (places.TypeEnd (plain_type ty (span_at ts i (i + 1)))) refl b.0 refl (omega arith) in
+    let one = step levels ts (symbols.Plain ty) i stack stack states.Type (states.TypeEnd (plain_type ty (span_at ts i (i + 1)))) refl b.0 refl (omega arith) in
     record {
-      place = places.TypeEnd (plain_type ty span);
+      state = states.TypeEnd (plain_type ty span);
       further = omega (arith, b.1);
-      runs = one ∙ ap (λ (s : Span). going levels ts stack (places.TypeEnd (plain_type ty s)) (i + 1)) (sym at)
-          ∙ ap (going levels ts stack (places.TypeEnd (plain_type ty span))) (sym b.1);
+      runs = one ∙ ap (λ (s : Span). going levels ts stack (states.TypeEnd (plain_type ty s)) (i + 1)) (sym at)
+          ∙ ap (going levels ts stack (states.TypeEnd (plain_type ty span))) (sym b.1);
       holds = type_ended stack (plain_type ty span);
     }
 
 named_reads : (ts : List Lexeme) (p : Path) → IsReadBy (class_piece ts p) ts (Named p)
 unfolding move
 named_reads ts p levels n i j stack few e =
-    let a = path_read levels 2 ts stack places.Type places.TypePath places.TypeName (type_extends levels stack (omega arith)) (λ y span. refl) p n i j e in
-    record { place = places.TypePath p; further = a.0; runs = a.1; holds = type_pathed stack p }
+    let a = path_read levels 2 ts stack states.Type states.TypePath states.TypeName (type_extends levels stack (omega arith)) (λ y span. refl) p n i j e in
+    record { state = states.TypePath p; further = a.0; runs = a.1; holds = type_pathed stack p }
 
 from_ends : (ts : List Lexeme) (i j : ℕ) → from_to (span_at ts i (i + 1)).start (span_at ts j (j + 1)).end ≡ span_at ts i (j + 1)
 unfolding span_at
@@ -157,18 +157,18 @@ coll_reads ts kind t q span inner levels n i j stack few e =
     let end : ℕ = (span_at ts l (l + 1)).end in
     let wider : List Frame = frames.OfKind start kind ∷ stack in
     let r = inner levels m o l wider (omega (arith, c.1, few)) f.2 in
-    let one = step levels ts (symbols.Kind kind) i stack stack places.Type (places.TypeParenthesis start kind) refl kinds.0 refl (omega arith) in
-    let two = step levels ts symbols.OpenParenthesis k stack wider (places.TypeParenthesis start kind) places.Type refl opens.0 refl (omega (arith, c.1, few)) in
-    let three = step levels ts symbols.CloseParenthesis l wider stack r.place (places.TypeEnd (Coll kind t (from_to start end))) refl closes.0
+    let one = step levels ts (symbols.Kind kind) i stack stack states.Type (states.TypeParenthesis start kind) refl kinds.0 refl (omega arith) in
+    let two = step levels ts symbols.OpenParenthesis k stack wider (states.TypeParenthesis start kind) states.Type refl opens.0 refl (omega (arith, c.1, few)) in
+    let three = step levels ts symbols.CloseParenthesis l wider stack r.state (states.TypeEnd (Coll kind t (from_to start end))) refl closes.0
     (r.holds symbols.CloseParenthesis (span_at ts l (l + 1)) refl) (omega arith) in
     let at : from_to start end ≡ span = from_ends ts i l ∙ ap (span_at ts i) (sym closes.1) ∙ sym a.1 in
     record {
-      place = places.TypeEnd (Coll kind t span);
+      state = states.TypeEnd (Coll kind t span);
       further = omega (arith, kinds.1, opens.1, closes.1, r.further);
-      runs = one ∙ ap (going levels ts stack (places.TypeParenthesis start kind)) (sym kinds.1) ∙ two ∙ ap (going levels ts wider places.Type) (sym opens.1) ∙ r.runs
+      runs = one ∙ ap (going levels ts stack (states.TypeParenthesis start kind)) (sym kinds.1) ∙ two ∙ ap (going levels ts wider states.Type) (sym opens.1) ∙ r.runs
           ∙ three
-          ∙ ap (λ (s : Span). going levels ts stack (places.TypeEnd (Coll kind t s)) (l + 1)) at
-          ∙ ap (going levels ts stack (places.TypeEnd (Coll kind t span))) (sym closes.1);
+          ∙ ap (λ (s : Span). going levels ts stack (states.TypeEnd (Coll kind t s)) (l + 1)) at
+          ∙ ap (going levels ts stack (states.TypeEnd (Coll kind t span))) (sym closes.1);
       holds = type_ended stack (Coll kind t span);
     }
 

@@ -8,14 +8,14 @@ use Rattle.qv_syntax.specs.declared.expr.Expr.{Expr}
 use Rattle.ocl_parser.specs.Pieces.{stands}
 use Rattle.ocl_parser.specs.Grammar.{form, spelled}
 use Rattle.ocl_parser.specs.Symbols.{symbol_of}
-use Rattle.ocl_parser.specs.Moves.{Move, move, settled, open_levels, place_levels}
+use Rattle.ocl_parser.specs.Moves.{Move, move, reduced, open_levels, state_levels}
 use Rattle.ocl_parser.specs.Runs.{Answer, Tree, Stuck, Deep, run, ended_by, nowhere, answer}
 use Rattle.ocl_parser.specs.Beginnings.{BeginsWithin, Begins, IsLongest, IsShallow, IsTree, IsStuck, IsDeep, opens}
 use Rattle.ocl_parser.specs.declared.symbol.Symbol.TheVariants as symbols
 use Rattle.ocl_parser.specs.declared.frame.Frame.{Frame}
-use Rattle.ocl_parser.specs.declared.place.Place.{Place}
-use Rattle.ocl_parser.specs.declared.place.Outcome.{Outcome}
-use Rattle.ocl_parser.specs.declared.place.Outcome.TheVariants as outcomes
+use Rattle.ocl_parser.specs.declared.state.State.{State}
+use Rattle.ocl_parser.specs.declared.state.Action.{Action}
+use Rattle.ocl_parser.specs.declared.state.Action.TheVariants as actions
 use Rattle.ocl_parser.proofs.TokenLaws.{stands_none}
 use Rattle.ocl_parser.proofs.CompleteRuns.{going}
 use Rattle.ocl_parser.proofs.CompleteForms.{closing}
@@ -28,16 +28,16 @@ use Rattle.ocl_parser.proofs.CompletionExact.{IsAnswered, answered, answer_wider
 
 record IsBehindTree (ts : List Lexeme) (levels from k : ℕ) (tree : Expr) : Type 0 where
   stack : List Frame
-  place : Place
-  runs : answer ts levels from ≡ run levels (drop k ts) stack place k
-  ends : (move stack place symbols.Other nowhere).outcome ≡ outcomes.Whole tree
+  state : State
+  runs : answer ts levels from ≡ run levels (drop k ts) stack state k
+  ends : (move stack state symbols.Other nowhere).action ≡ actions.Whole tree
 
 spelled_behind : (ts : List Lexeme) (levels n from k : ℕ) (tree : Expr) → n ≤ levels → spelled ts n tree from ≡ Some k → IsBehindTree ts levels from k tree
-unfolding spelled answer going settled
+unfolding spelled answer going reduced
 spelled_behind ts levels n from k tree few h =
     let r = expr_read ts tree levels n from k [] tt (omega arith) h in
     let ended = closing levels ts tree (form ts tree).binding [] from k r symbols.Other nowhere refl in
-    record { stack = r.on; place = r.place; runs = r.runs; ends = ap (λ (m : Move). m.outcome) ended }
+    record { stack = r.on; state = r.state; runs = r.runs; ends = ap (λ (m : Move). m.action) ended }
 
 pub stuck_exact : (ts : List Lexeme) (levels from k : ℕ) → from ≤ length ts → answer ts levels from ≡ Stuck k → IsStuck ts from levels k
 stuck_exact ts levels from k within e =
@@ -48,10 +48,10 @@ stuck_exact ts levels from k within e =
       none = (λ n tree h.
           let wide : answer ts (levels + n) from ≡ Stuck k = answer_wider levels (levels + n) (omega arith) ts from (Stuck k) refl e in
           let b : IsBehindTree ts (levels + n) from k tree = spelled_behind ts (levels + n) n from k tree (omega arith) h in
-          whole_moves (levels + n) (drop k ts) b.stack b.place k tree b.ends (sym b.runs ∙ wide));
+          whole_moves (levels + n) (drop k ts) b.stack b.state k tree b.ends (sym b.runs ∙ wide));
     }
 
--- ---- one place at most
+-- ---- one number at most
 
 begins_before : (ts : List Lexeme) (from levels j k : ℕ) → j ≤ k → k ≤ length ts → BeginsWithin ts from levels k → BeginsWithin ts from levels j
 begins_before ts from levels j k order within b =
@@ -87,32 +87,32 @@ stands_within passes ts k h = by (nat_lt k (length ts)) refl
         cc
 
 -- the answer at the end of a whole expression is that expression
-whole_tree : (levels : ℕ) (ls : List Lexeme) (stack : List Frame) (place : Place) (at : ℕ) (d e : Expr) → (move stack place symbols.Other nowhere).outcome ≡ outcomes.Whole d → run levels ls stack place at ≡ Tree e at → d ≡ e
+whole_tree : (levels : ℕ) (ls : List Lexeme) (stack : List Frame) (state : State) (at : ℕ) (d e : Expr) → (move stack state symbols.Other nowhere).action ≡ actions.Whole d → run levels ls stack state at ≡ Tree e at → d ≡ e
 unfolding run
-whole_tree levels [] stack place at d e w h = by (move stack place symbols.Other nowhere).outcome w h
+whole_tree levels [] stack state at d e w h = by (move stack state symbols.Other nowhere).action w h
   where
-    by : (o : Outcome) → o ≡ outcomes.Whole d → ended_by o at ≡ Tree e at → d ≡ e
-    by (outcomes.Read next) w h = cc
-    by (outcomes.Whole one) w h = cc
-    by outcomes.Refused w h = cc
-whole_tree levels (l ∷ ls) stack place at d e w h =
-    by (move stack place (symbol_of l) l.token.span) (move_same stack place (symbol_of l) l.token.span nowhere d e w) (sym (run-step levels at stack place l ls) ∙ h)
+    by : (o : Action) → o ≡ actions.Whole d → ended_by o at ≡ Tree e at → d ≡ e
+    by (actions.Read next) w h = cc
+    by (actions.Whole one) w h = cc
+    by actions.Refused w h = cc
+whole_tree levels (l ∷ ls) stack state at d e w h =
+    by (move stack state (symbol_of l) l.token.span) (move_same stack state (symbol_of l) l.token.span nowhere d e w) (sym (run-step levels at stack state l ls) ∙ h)
   where
-    by : (m : Move) → (m.outcome ≡ outcomes.Whole e → d ≡ e) → by_move levels ls at m ≡ Tree e at → d ≡ e
-    by m = of m.outcome
+    by : (m : Move) → (m.action ≡ actions.Whole e → d ≡ e) → by_move levels ls at m ≡ Tree e at → d ≡ e
+    by m = of m.action
       where
-        read : (next : Place) (b : Bool) → (if b then Deep at else run levels ls m.stack next (at + 1)) ≡ Tree e at → d ≡ e
+        read : (next : State) (b : Bool) → (if b then Deep at else run levels ls m.stack next (at + 1)) ≡ Tree e at → d ≡ e
         read next true k = cc
         read next false k = let more : at + 1 ≤ at = run_from levels ls m.stack next (at + 1) (Tree e at) k in absurd (omega (arith, more))
 
-        of : (o : Outcome) → (o ≡ outcomes.Whole e → d ≡ e) → by_move levels ls at (record { stack = m.stack; outcome = o }) ≡ Tree e at → d ≡ e
-        of (outcomes.Read next) same k = read next (nat_lt levels (open_levels m.stack + place_levels next)) k
-        of (outcomes.Whole one) same k = same (let one_is : one ≡ e = cc in ap outcomes.Whole one_is)
-        of outcomes.Refused same k = cc
+        of : (o : Action) → (o ≡ actions.Whole e → d ≡ e) → by_move levels ls at (record { stack = m.stack; action = o }) ≡ Tree e at → d ≡ e
+        of (actions.Read next) same k = read next (nat_lt levels (open_levels m.stack + state_levels next)) k
+        of (actions.Whole one) same k = same (let one_is : one ≡ e = cc in ap actions.Whole one_is)
+        of actions.Refused same k = cc
 
 -- ---- back from what is so to the answer
 
--- a place past the last level, and one through which the levels suffice
+-- a number past the last level, and one through which the levels suffice
 deep_apart : (ts : List Lexeme) (from levels j k : ℕ) → IsDeep ts from levels j → IsShallow ts from levels k → k ≤ j
 deep_apart ts from levels j k d shallow = by (nat_lt j k) refl
   where
@@ -144,7 +144,7 @@ tree_answered ts levels from tree end t = by (answer ts levels from) refl
         let o : IsTree ts from levels other at = tree_exact complete ts levels from other at within e in
         let here : at ≡ end = one_longest ts from at end o.longest t.longest in
         let moved : answer ts levels from ≡ Tree other end = e ∙ ap (Tree other) here in
-        let same : tree ≡ other = whole_tree levels (drop end ts) b.stack b.place end tree other b.ends (sym b.runs ∙ moved) in
+        let same : tree ≡ other = whole_tree levels (drop end ts) b.stack b.state end tree other b.ends (sym b.runs ∙ moved) in
         moved ∙ ap (λ (x : Expr). Tree x end) (sym same)
     by (Stuck at) e =
         let o : IsStuck ts from levels at = stuck_exact ts levels from at within e in
@@ -153,7 +153,7 @@ tree_answered ts levels from tree end t = by (answer ts levels from) refl
     by (Deep at) e =
         let o : IsDeep ts from levels at = deep_exact complete ts levels from at within e in
         let less : at < end = deep_within ts from levels at end o t.longest in
-        let more : end ≤ at = run_from levels (drop end ts) b.stack b.place end (Deep at) (sym b.runs ∙ e) in
+        let more : end ≤ at = run_from levels (drop end ts) b.stack b.state end (Deep at) (sym b.runs ∙ e) in
         absurd (omega (arith, less, more))
 
 pub stuck_answered : (ts : List Lexeme) (levels from k : ℕ) → IsStuck ts from levels k → answer ts levels from ≡ Stuck k

@@ -1,4 +1,4 @@
--- Which constructs stand below which place: so it stays when a symbol is read.
+-- Which constructs stand below which state: so it stays when a symbol is read.
 use Rattle.std.proofs.Common.{◌≡◌, ℕ, ◌+◌, ◌==◌, nat_lt, nat_le, Bool, true, false, if◌then◌else◌, List, [], ◌∷◌, length, refl}
 use Rattle.mof_metamodel.specs.declared.span.Span.{Span}
 use Rattle.qv_syntax.specs.declared.name.Name.{Name}
@@ -9,27 +9,27 @@ use Rattle.qv_syntax.specs.declared.type_tree.Kind.{Kind}
 use Rattle.qv_syntax.specs.declared.type_tree.TypeTree.{TypeTree}
 use Rattle.qv_syntax.specs.declared.type_tree.TypeTree.TheVariants as types
 use Rattle.qv_syntax.specs.declared.expr.Expr.TheVariants as exprs
-use Rattle.qv_syntax.specs.declared.expr.Step.TheVariants as steps
+use Rattle.qv_syntax.specs.declared.expr.Postfix.TheVariants as postfixes
 use Rattle.qv_syntax.specs.Operators.{level_of}
 use Rattle.ocl_parser.specs.Grammar.{takes_class}
-use Rattle.ocl_parser.specs.Moves.{Move, Settled, move, to, refused, from_to, base_of, part_of, with_step, path_of, extended, chained, settled, operator_on, close_by, behind, begins_expression, none_in_parentheses, none_in_braces, operand, after, arguments, after_path, path_by, on_path, dotted, call_of, arrow_call, arrow_first, arrow_second, class_path, type_begin, type_end, type_path, on_name, on_colon, on_brace, on_type_parenthesis, on_arrow_parenthesis}
+use Rattle.ocl_parser.specs.Moves.{Move, Reduced, move, to, refused, from_to, base_of, subtree_of, with_postfix, path_of, extended, chained, reduced, operator_on, close_by, behind, begins_expression, none_in_parentheses, none_in_braces, operand, after, arguments, after_path, path_by, on_path, dotted, call_of, arrow_call, arrow_first, arrow_second, class_path, type_begin, type_end, type_path, on_name, on_colon, on_brace, on_type_parenthesis, on_arrow_parenthesis}
 use Rattle.ocl_parser.specs.Completion.{are_expressions, is_type, is_open}
 use Rattle.ocl_parser.specs.declared.symbol.Symbol.{Symbol}
 use Rattle.ocl_parser.specs.declared.symbol.Symbol.TheVariants as symbols
-use Rattle.ocl_parser.specs.declared.frame.Part.{Part}
+use Rattle.ocl_parser.specs.declared.frame.Subtree.{Subtree}
 use Rattle.ocl_parser.specs.declared.frame.Base.{Base}
 use Rattle.ocl_parser.specs.declared.frame.Before.TheVariants as before
-use Rattle.ocl_parser.specs.declared.frame.Called.{Called}
+use Rattle.ocl_parser.specs.declared.frame.CallHead.{CallHead}
 use Rattle.ocl_parser.specs.declared.frame.Iterated.{Iterated}
 use Rattle.ocl_parser.specs.declared.frame.Frame.{Frame}
 use Rattle.ocl_parser.specs.declared.frame.Frame.TheVariants as frames
-use Rattle.ocl_parser.specs.declared.place.Place.{Place}
-use Rattle.ocl_parser.specs.declared.place.Place.TheVariants as places
-use Rattle.ocl_parser.specs.declared.place.Outcome.TheVariants as outcomes
+use Rattle.ocl_parser.specs.declared.state.State.{State}
+use Rattle.ocl_parser.specs.declared.state.State.TheVariants as states
+use Rattle.ocl_parser.specs.declared.state.Action.TheVariants as actions
 
 -- what is read stands in order
 abbrev pub is_kept : Move → Bool
-is_kept m = elim m.outcome [ outcomes.Read next ↦ is_open m.stack next | outcomes.Whole tree ↦ true | outcomes.Refused ↦ true ]
+is_kept m = elim m.action [ actions.Read next ↦ is_open m.stack next | actions.Whole tree ↦ true | actions.Refused ↦ true ]
 
 kept_both : (b : Bool) (x y : Move) → is_kept x ≡ true → is_kept y ≡ true → is_kept (if b then x else y) ≡ true
 kept_both true x y h k = h
@@ -37,47 +37,47 @@ kept_both false x y h k = k
 
 -- ---- operands that end
 
-settled_both : (b : Bool) (x y : Settled) → are_expressions x.stack ≡ true → are_expressions y.stack ≡ true → are_expressions (if b then x else y).stack ≡ true
-settled_both true x y h k = h
-settled_both false x y h k = k
+reduced_both : (b : Bool) (x y : Reduced) → are_expressions x.stack ≡ true → are_expressions y.stack ≡ true → are_expressions (if b then x else y).stack ≡ true
+reduced_both true x y h k = h
+reduced_both false x y h k = k
 
-pub settled_plain : (level : ℕ) (stack : List Frame) (part : Part) → are_expressions stack ≡ true → are_expressions (settled level stack part).stack ≡ true
-unfolding settled
-settled_plain level [] part h = refl
-settled_plain level (frames.Not start ∷ stack) part h = settled_plain level stack _ h
-settled_plain level (frames.Negated start ∷ stack) part h = settled_plain level stack _ h
-settled_plain level (frames.Row first rest operator ∷ stack) part h =
-    settled_both (nat_le level (level_of operator)) (settled level stack (chained first rest operator part)) _ (settled_plain level stack (chained first rest operator part) h) h
-settled_plain level (frames.In start name ty value ∷ stack) part h =
-    let whole : Part = record { tree = exprs.Let name ty value part.tree (from_to start part.span.end); span = from_to start part.span.end } in
-    settled_both (level == 0) (settled level stack whole) _ (settled_plain level stack whole h) h
-settled_plain level (frame ∷ stack) part h = h
+pub reduced_plain : (level : ℕ) (stack : List Frame) (subtree : Subtree) → are_expressions stack ≡ true → are_expressions (reduced level stack subtree).stack ≡ true
+unfolding reduced
+reduced_plain level [] subtree h = refl
+reduced_plain level (frames.Not start ∷ stack) subtree h = reduced_plain level stack _ h
+reduced_plain level (frames.Negated start ∷ stack) subtree h = reduced_plain level stack _ h
+reduced_plain level (frames.Row first rest operator ∷ stack) subtree h =
+    reduced_both (nat_le level (level_of operator)) (reduced level stack (chained first rest operator subtree)) _ (reduced_plain level stack (chained first rest operator subtree) h) h
+reduced_plain level (frames.In start name ty value ∷ stack) subtree h =
+    let whole : Subtree = record { tree = exprs.Let name ty value subtree.tree (from_to start subtree.span.end); span = from_to start subtree.span.end } in
+    reduced_both (level == 0) (reduced level stack whole) _ (reduced_plain level stack whole h) h
+reduced_plain level (frame ∷ stack) subtree h = h
 
-close_kept : (stack : List Frame) (part : Part) (symbol : Symbol) (span : Span) → are_expressions stack ≡ true → is_kept (close_by stack part symbol span) ≡ true
-close_kept [] part symbol span h = refl
-close_kept (frames.Parens start ∷ stack) part symbols.CloseParenthesis span h = h
-close_kept (frames.Arguments called values ∷ stack) part symbols.CloseParenthesis span h = h
-close_kept (frames.Arguments called values ∷ stack) part symbols.Comma span h = h
-close_kept (frames.Elements start kind elements ∷ stack) part symbols.CloseBrace span h = h
-close_kept (frames.Elements start kind elements ∷ stack) part symbols.Comma span h = h
-close_kept (frames.Body it ty ∷ stack) part symbols.CloseParenthesis span h = h
-close_kept (frames.If start ∷ stack) part symbols.Then span h = h
-close_kept (frames.Then start condition ∷ stack) part symbols.Else span h = h
-close_kept (frames.Else start condition one ∷ stack) part symbols.Endif span h = h
-close_kept (frames.Let start name ty ∷ stack) part symbols.In span h = h
-close_kept (frame ∷ stack) part symbol span h = refl
+close_kept : (stack : List Frame) (subtree : Subtree) (symbol : Symbol) (span : Span) → are_expressions stack ≡ true → is_kept (close_by stack subtree symbol span) ≡ true
+close_kept [] subtree symbol span h = refl
+close_kept (frames.Parens start ∷ stack) subtree symbols.CloseParenthesis span h = h
+close_kept (frames.Arguments called values ∷ stack) subtree symbols.CloseParenthesis span h = h
+close_kept (frames.Arguments called values ∷ stack) subtree symbols.Comma span h = h
+close_kept (frames.Elements start kind elements ∷ stack) subtree symbols.CloseBrace span h = h
+close_kept (frames.Elements start kind elements ∷ stack) subtree symbols.Comma span h = h
+close_kept (frames.Body it ty ∷ stack) subtree symbols.CloseParenthesis span h = h
+close_kept (frames.If start ∷ stack) subtree symbols.Then span h = h
+close_kept (frames.Then start condition ∷ stack) subtree symbols.Else span h = h
+close_kept (frames.Else start condition one ∷ stack) subtree symbols.Endif span h = h
+close_kept (frames.Let start name ty ∷ stack) subtree symbols.In span h = h
+close_kept (frame ∷ stack) subtree symbol span h = refl
 
-operator_kept : (operator : Operator) (stack : List Frame) (part : Part) → are_expressions stack ≡ true → is_kept (operator_on operator stack part) ≡ true
-operator_kept operator (frames.Row first rest waiting ∷ stack) part h = kept_both (level_of waiting == level_of operator) _ _ h h
-operator_kept operator stack part h = h
+operator_kept : (operator : Operator) (stack : List Frame) (subtree : Subtree) → are_expressions stack ≡ true → is_kept (operator_on operator stack subtree) ≡ true
+operator_kept operator (frames.Row first rest waiting ∷ stack) subtree h = kept_both (level_of waiting == level_of operator) _ _ h h
+operator_kept operator stack subtree h = h
 
-behind_kept : (stack : List Frame) (part : Part) (symbol : Symbol) (span : Span) → are_expressions stack ≡ true → is_kept (behind stack part symbol span) ≡ true
-behind_kept stack part (symbols.Operator operator) span h =
-    let s : Settled = settled (level_of operator + 1) stack part in
-    operator_kept operator s.stack s.part (settled_plain (level_of operator + 1) stack part h)
-behind_kept stack part symbol span h =
-    let s : Settled = settled 0 stack part in
-    close_kept s.stack s.part symbol span (settled_plain 0 stack part h)
+behind_kept : (stack : List Frame) (subtree : Subtree) (symbol : Symbol) (span : Span) → are_expressions stack ≡ true → is_kept (behind stack subtree symbol span) ≡ true
+behind_kept stack subtree (symbols.Operator operator) span h =
+    let s : Reduced = reduced (level_of operator + 1) stack subtree in
+    operator_kept operator s.stack s.subtree (reduced_plain (level_of operator + 1) stack subtree h)
+behind_kept stack subtree symbol span h =
+    let s : Reduced = reduced 0 stack subtree in
+    close_kept s.stack s.subtree symbol span (reduced_plain 0 stack subtree h)
 
 -- ---- operands that begin or go on
 
@@ -90,7 +90,7 @@ none_braces_kept (frames.Elements start kind [] ∷ stack) end h = h
 none_braces_kept stack end h = refl
 
 operand_kept : (stack : List Frame) (symbol : Symbol) (span : Span) → are_expressions stack ≡ true → is_kept (operand stack symbol span) ≡ true
-operand_kept stack symbols.Let span h = kept_both (begins_expression stack) (to stack (places.LetName span.start)) (refused stack) h refl
+operand_kept stack symbols.Let span h = kept_both (begins_expression stack) (to stack (states.LetName span.start)) (refused stack) h refl
 operand_kept stack symbols.If span h = h
 operand_kept stack symbols.Not span h = h
 operand_kept stack (symbols.Operator operators.Minus) span h = h
@@ -109,9 +109,9 @@ operand_kept stack symbol span h = refl
 after_kept : (stack : List Frame) (base : Base) (symbol : Symbol) (span : Span) → are_expressions stack ≡ true → is_kept (after stack base symbol span) ≡ true
 after_kept stack base symbols.Dot span h = h
 after_kept stack base symbols.Arrow span h = h
-after_kept stack base symbol span h = behind_kept stack (part_of base) symbol span h
+after_kept stack base symbol span h = behind_kept stack (subtree_of base) symbol span h
 
-arguments_kept : (stack : List Frame) (called : Called) → are_expressions stack ≡ true → is_kept (arguments stack called) ≡ true
+arguments_kept : (stack : List Frame) (called : CallHead) → are_expressions stack ≡ true → is_kept (arguments stack called) ≡ true
 arguments_kept stack called h = kept_both (takes_class called.name.text) _ _ h h
 
 after_path_kept : (stack : List Frame) (path : Path) (symbol : Symbol) (span : Span) → are_expressions stack ≡ true → is_kept (after_path stack path symbol span) ≡ true
@@ -120,15 +120,15 @@ after_path_kept stack path symbol span h = after_kept stack (base_of (exprs.Name
 path_kept : (names : List Name) (stack : List Frame) (path : Path) (symbol : Symbol) (span : Span) → are_expressions stack ≡ true → is_kept (path_by names stack path symbol span) ≡ true
 path_kept (name ∷ []) stack path symbols.OpenParenthesis span h = arguments_kept stack (call_of name) h
 path_kept names stack path symbols.DoubleColon span h =
-    kept_both (nat_lt (length names) 3) (to stack (places.PathName path)) (after_path stack path symbols.DoubleColon span) h (after_path_kept stack path symbols.DoubleColon span h)
+    kept_both (nat_lt (length names) 3) (to stack (states.PathName path)) (after_path stack path symbols.DoubleColon span) h (after_path_kept stack path symbols.DoubleColon span h)
 path_kept names stack path symbol span h = after_path_kept stack path symbol span h
 
 dotted_kept : (stack : List Frame) (base : Base) (start : ℕ) (name : Name) (symbol : Symbol) (span : Span) → are_expressions stack ≡ true → is_kept (dotted stack base start name symbol span) ≡ true
 dotted_kept stack base start name symbols.OpenParenthesis span h = arguments_kept stack (record { before = before.Dot base start; name = name }) h
-dotted_kept stack base start name symbol span h = after_kept stack (with_step base (steps.Property name) name.span.end) symbol span h
+dotted_kept stack base start name symbol span h = after_kept stack (with_postfix base (postfixes.Property name) name.span.end) symbol span h
 
-class_path_kept : (stack : List Frame) (called : Called) (path : Path) (symbol : Symbol) (span : Span) → are_expressions stack ≡ true → is_kept (class_path stack called path symbol span) ≡ true
-class_path_kept stack called path symbols.DoubleColon span h = kept_both (nat_lt (length path.names) 2) (to stack (places.ClassNext called path)) (refused stack) h refl
+class_path_kept : (stack : List Frame) (called : CallHead) (path : Path) (symbol : Symbol) (span : Span) → are_expressions stack ≡ true → is_kept (class_path stack called path symbol span) ≡ true
+class_path_kept stack called path symbols.DoubleColon span h = kept_both (nat_lt (length path.names) 2) (to stack (states.ClassNext called path)) (refused stack) h refl
 class_path_kept stack called path symbols.CloseParenthesis span h = h
 class_path_kept stack called path symbol span h = refl
 
@@ -161,12 +161,12 @@ type_end_kept stack ty symbol span h = refl
 
 type_path_kept : (stack : List Frame) (path : Path) (symbol : Symbol) (span : Span) → is_type stack ≡ true → is_kept (type_path stack path symbol span) ≡ true
 type_path_kept stack path symbols.DoubleColon span h =
-    kept_both (nat_lt (length path.names) 2) (to stack (places.TypeName path)) (type_end stack (types.Named path) symbols.DoubleColon span) h (type_end_kept stack (types.Named path) symbols.DoubleColon span h)
+    kept_both (nat_lt (length path.names) 2) (to stack (states.TypeName path)) (type_end stack (types.Named path) symbols.DoubleColon span) h (type_end_kept stack (types.Named path) symbols.DoubleColon span h)
 type_path_kept stack path symbol span h = type_end_kept stack (types.Named path) symbol span h
 
--- ---- all places
+-- ---- all states
 
-name_kept : (stack : List Frame) (next : Name → Place) (symbol : Symbol) → ((n : Name) → is_open stack (next n) ≡ true) → is_kept (on_name stack next symbol) ≡ true
+name_kept : (stack : List Frame) (next : Name → State) (symbol : Symbol) → ((n : Name) → is_open stack (next n) ≡ true) → is_kept (on_name stack next symbol) ≡ true
 name_kept stack next (symbols.Name name) h = h name
 name_kept stack next symbol h = refl
 
@@ -186,29 +186,26 @@ arrow_parenthesis_kept : (stack : List Frame) (base : Base) (start : ℕ) (name 
 arrow_parenthesis_kept stack base start name symbols.OpenParenthesis h = h
 arrow_parenthesis_kept stack base start name symbol h = refl
 
-pub move_kept : (stack : List Frame) (place : Place) (symbol : Symbol) (span : Span) → is_open stack place ≡ true → is_kept (move stack place symbol span) ≡ true
+pub move_kept : (stack : List Frame) (state : State) (symbol : Symbol) (span : Span) → is_open stack state ≡ true → is_kept (move stack state symbol span) ≡ true
 unfolding move
-move_kept stack places.Operand symbol span h = operand_kept stack symbol span h
-move_kept stack (places.After base) symbol span h = after_kept stack base symbol span h
-move_kept stack (places.Path path) symbol span h = path_kept path.names stack path symbol span h
-move_kept stack (places.PathName path) symbol span h = name_kept stack (λ n. places.Path (extended path n)) symbol (λ n. h)
-move_kept stack (places.LetName start) symbol span h = name_kept stack (λ n. places.LetColon start n) symbol (λ n. h)
-move_kept stack (places.LetColon start name) symbol span h = colon_kept stack start name symbol h
-move_kept stack places.Type symbol span h = type_begin_kept stack symbol span h
-move_kept stack (places.TypeParenthesis start kind) symbol span h = type_parenthesis_kept stack start kind symbol h
-move_kept stack (places.TypePath path) symbol span h = type_path_kept stack path symbol span h
-move_kept stack (places.TypeName path) symbol span h = name_kept stack (λ n. places.TypePath (extended path n)) symbol (λ n. h)
-move_kept stack (places.TypeEnd ty) symbol span h = type_end_kept stack ty symbol span h
-move_kept stack (places.Brace start kind) symbol span h = brace_kept stack start kind symbol h
-move_kept stack (places.DotName base start) symbol span h = name_kept stack (λ n. places.Dotted base start n) symbol (λ n. h)
-move_kept stack (places.Dotted base start name) symbol span h = dotted_kept stack base start name symbol span h
-move_kept stack (places.ArrowName base start) symbol span h = name_kept stack (λ n. places.ArrowParenthesis base start n) symbol (λ n. h)
-move_kept stack (places.ArrowParenthesis base start name) symbol span h = arrow_parenthesis_kept stack base start name symbol h
-move_kept stack (places.ArrowFirst base start name) symbol span h = arrow_first_kept stack base start name symbol span h
-move_kept stack (places.ArrowSecond it) symbol span h = arrow_second_kept stack it symbol span h
-move_kept stack (places.ClassName called) symbol span h = name_kept stack (λ n. places.ClassPath called (path_of n)) symbol (λ n. h)
-move_kept stack (places.ClassPath called path) symbol span h = class_path_kept stack called path symbol span h
-move_kept stack (places.ClassNext called path) symbol span h = name_kept stack (λ n. places.ClassPath called (extended path n)) symbol (λ n. h)
-
-pub trial : is_open [] places.Operand ≡ true
-trial = refl
+move_kept stack states.Operand symbol span h = operand_kept stack symbol span h
+move_kept stack (states.After base) symbol span h = after_kept stack base symbol span h
+move_kept stack (states.Path path) symbol span h = path_kept path.names stack path symbol span h
+move_kept stack (states.PathName path) symbol span h = name_kept stack (λ n. states.Path (extended path n)) symbol (λ n. h)
+move_kept stack (states.LetName start) symbol span h = name_kept stack (λ n. states.LetColon start n) symbol (λ n. h)
+move_kept stack (states.LetColon start name) symbol span h = colon_kept stack start name symbol h
+move_kept stack states.Type symbol span h = type_begin_kept stack symbol span h
+move_kept stack (states.TypeParenthesis start kind) symbol span h = type_parenthesis_kept stack start kind symbol h
+move_kept stack (states.TypePath path) symbol span h = type_path_kept stack path symbol span h
+move_kept stack (states.TypeName path) symbol span h = name_kept stack (λ n. states.TypePath (extended path n)) symbol (λ n. h)
+move_kept stack (states.TypeEnd ty) symbol span h = type_end_kept stack ty symbol span h
+move_kept stack (states.Brace start kind) symbol span h = brace_kept stack start kind symbol h
+move_kept stack (states.DotName base start) symbol span h = name_kept stack (λ n. states.Dotted base start n) symbol (λ n. h)
+move_kept stack (states.Dotted base start name) symbol span h = dotted_kept stack base start name symbol span h
+move_kept stack (states.ArrowName base start) symbol span h = name_kept stack (λ n. states.ArrowParenthesis base start n) symbol (λ n. h)
+move_kept stack (states.ArrowParenthesis base start name) symbol span h = arrow_parenthesis_kept stack base start name symbol h
+move_kept stack (states.ArrowFirst base start name) symbol span h = arrow_first_kept stack base start name symbol span h
+move_kept stack (states.ArrowSecond it) symbol span h = arrow_second_kept stack it symbol span h
+move_kept stack (states.ClassName called) symbol span h = name_kept stack (λ n. states.ClassPath called (path_of n)) symbol (λ n. h)
+move_kept stack (states.ClassPath called path) symbol span h = class_path_kept stack called path symbol span h
+move_kept stack (states.ClassNext called path) symbol span h = name_kept stack (λ n. states.ClassPath called (extended path n)) symbol (λ n. h)

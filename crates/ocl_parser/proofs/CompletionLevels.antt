@@ -11,25 +11,25 @@ use Rattle.qv_syntax.specs.declared.type_tree.Kind.{Kind}
 use Rattle.qv_syntax.specs.declared.type_tree.TypeTree.{TypeTree}
 use Rattle.qv_syntax.specs.declared.type_tree.TypeTree.TheVariants as types
 use Rattle.qv_syntax.specs.declared.expr.Expr.TheVariants as exprs
-use Rattle.qv_syntax.specs.declared.expr.Step.TheVariants as steps
+use Rattle.qv_syntax.specs.declared.expr.Postfix.TheVariants as postfixes
 use Rattle.qv_syntax.specs.Operators.{level_of}
 use Rattle.ocl_parser.specs.Grammar.{takes_class}
 use Rattle.ocl_parser.specs.Pieces.{is_sign, is_word}
 use Rattle.ocl_parser.specs.Beginnings.{opens}
 use Rattle.ocl_parser.specs.Symbols.{symbol_of}
-use Rattle.ocl_parser.specs.Moves.{Move, Settled, move, to, refused, from_to, base_of, part_of, with_step, path_of, extended, chained, settled, operator_on, close_by, behind, none_in_parentheses, none_in_braces, operand, after, after_path, path_by, on_path, dotted, arrow_call, arrow_first, arrow_second, class_path, type_begin, type_end, type_path, on_name, on_colon, on_brace, on_type_parenthesis, on_arrow_parenthesis, open_levels, place_levels}
+use Rattle.ocl_parser.specs.Moves.{Move, Reduced, move, to, refused, from_to, base_of, subtree_of, with_postfix, path_of, extended, chained, reduced, operator_on, close_by, behind, none_in_parentheses, none_in_braces, operand, after, after_path, path_by, on_path, dotted, arrow_call, arrow_first, arrow_second, class_path, type_begin, type_end, type_path, on_name, on_colon, on_brace, on_type_parenthesis, on_arrow_parenthesis, open_levels, state_levels}
 use Rattle.ocl_parser.specs.declared.symbol.Symbol.{Symbol}
 use Rattle.ocl_parser.specs.declared.symbol.Symbol.TheVariants as symbols
-use Rattle.ocl_parser.specs.declared.frame.Part.{Part}
+use Rattle.ocl_parser.specs.declared.frame.Subtree.{Subtree}
 use Rattle.ocl_parser.specs.declared.frame.Base.{Base}
 use Rattle.ocl_parser.specs.declared.frame.Before.TheVariants as before
-use Rattle.ocl_parser.specs.declared.frame.Called.{Called}
+use Rattle.ocl_parser.specs.declared.frame.CallHead.{CallHead}
 use Rattle.ocl_parser.specs.declared.frame.Iterated.{Iterated}
 use Rattle.ocl_parser.specs.declared.frame.Frame.{Frame}
 use Rattle.ocl_parser.specs.declared.frame.Frame.TheVariants as frames
-use Rattle.ocl_parser.specs.declared.place.Place.{Place}
-use Rattle.ocl_parser.specs.declared.place.Place.TheVariants as places
-use Rattle.ocl_parser.specs.declared.place.Outcome.TheVariants as outcomes
+use Rattle.ocl_parser.specs.declared.state.State.{State}
+use Rattle.ocl_parser.specs.declared.state.State.TheVariants as states
+use Rattle.ocl_parser.specs.declared.state.Action.TheVariants as actions
 use Rattle.ocl_parser.proofs.SymbolLaws.{test_of, tested, symbol_is}
 
 -- the symbols that open a level, where they begin or go on with a part of an expression
@@ -93,7 +93,7 @@ opens_opener l h =
 
 -- the levels that are open behind what is read
 abbrev pub taken : Move → ℕ
-taken m = elim m.outcome [ outcomes.Read next ↦ open_levels m.stack + place_levels next | outcomes.Whole tree ↦ 0 | outcomes.Refused ↦ 0 ]
+taken m = elim m.action [ actions.Read next ↦ open_levels m.stack + state_levels next | actions.Whole tree ↦ 0 | actions.Refused ↦ 0 ]
 
 none_taken : (bound : ℕ) → 0 ≤ bound
 none_taken bound = omega arith
@@ -102,35 +102,35 @@ taken_both : (bound : ℕ) (b : Bool) (x y : Move) → taken x ≤ bound → tak
 taken_both bound true x y h k = h
 taken_both bound false x y h k = k
 
-settled_both : (bound : ℕ) (b : Bool) (x y : Settled) → open_levels x.stack ≤ bound → open_levels y.stack ≤ bound → open_levels (if b then x else y).stack ≤ bound
-settled_both bound true x y h k = h
-settled_both bound false x y h k = k
+reduced_both : (bound : ℕ) (b : Bool) (x y : Reduced) → open_levels x.stack ≤ bound → open_levels y.stack ≤ bound → open_levels (if b then x else y).stack ≤ bound
+reduced_both bound true x y h k = h
+reduced_both bound false x y h k = k
 
-settled_within : (bound level : ℕ) (stack : List Frame) (part : Part) → open_levels stack ≤ bound → open_levels (settled level stack part).stack ≤ bound
-unfolding settled
-settled_within bound level [] part h = h
-settled_within bound level (frames.Not start ∷ stack) part h = settled_within bound level stack _ (omega arith)
-settled_within bound level (frames.Negated start ∷ stack) part h = settled_within bound level stack _ (omega arith)
-settled_within bound level (frames.Row first rest operator ∷ stack) part h =
-    settled_both bound (nat_le level (level_of operator)) (settled level stack (chained first rest operator part)) _ (settled_within bound level stack (chained first rest operator part) (omega arith)) h
-settled_within bound level (frames.In start name ty value ∷ stack) part h =
-    let whole : Part = record { tree = exprs.Let name ty value part.tree (from_to start part.span.end); span = from_to start part.span.end } in
-    settled_both bound (level == 0) (settled level stack whole) _ (settled_within bound level stack whole (omega arith)) h
-settled_within bound level (frame ∷ stack) part h = h
+reduced_within : (bound level : ℕ) (stack : List Frame) (subtree : Subtree) → open_levels stack ≤ bound → open_levels (reduced level stack subtree).stack ≤ bound
+unfolding reduced
+reduced_within bound level [] subtree h = h
+reduced_within bound level (frames.Not start ∷ stack) subtree h = reduced_within bound level stack _ (omega arith)
+reduced_within bound level (frames.Negated start ∷ stack) subtree h = reduced_within bound level stack _ (omega arith)
+reduced_within bound level (frames.Row first rest operator ∷ stack) subtree h =
+    reduced_both bound (nat_le level (level_of operator)) (reduced level stack (chained first rest operator subtree)) _ (reduced_within bound level stack (chained first rest operator subtree) (omega arith)) h
+reduced_within bound level (frames.In start name ty value ∷ stack) subtree h =
+    let whole : Subtree = record { tree = exprs.Let name ty value subtree.tree (from_to start subtree.span.end); span = from_to start subtree.span.end } in
+    reduced_both bound (level == 0) (reduced level stack whole) _ (reduced_within bound level stack whole (omega arith)) h
+reduced_within bound level (frame ∷ stack) subtree h = h
 
-close_within : (bound : ℕ) (stack : List Frame) (part : Part) (symbol : Symbol) (span : Span) → open_levels stack ≤ bound → taken (close_by stack part symbol span) ≤ bound
-close_within bound [] part symbol span h = none_taken bound
-close_within bound (frames.Parens start ∷ stack) part symbols.CloseParenthesis span h = omega arith
-close_within bound (frames.Arguments called values ∷ stack) part symbols.CloseParenthesis span h = omega arith
-close_within bound (frames.Arguments called values ∷ stack) part symbols.Comma span h = omega arith
-close_within bound (frames.Elements start kind elements ∷ stack) part symbols.CloseBrace span h = omega arith
-close_within bound (frames.Elements start kind elements ∷ stack) part symbols.Comma span h = omega arith
-close_within bound (frames.Body it ty ∷ stack) part symbols.CloseParenthesis span h = omega arith
-close_within bound (frames.If start ∷ stack) part symbols.Then span h = omega arith
-close_within bound (frames.Then start condition ∷ stack) part symbols.Else span h = omega arith
-close_within bound (frames.Else start condition one ∷ stack) part symbols.Endif span h = omega arith
-close_within bound (frames.Let start name ty ∷ stack) part symbols.In span h = omega arith
-close_within bound (frame ∷ stack) part symbol span h = none_taken bound
+close_within : (bound : ℕ) (stack : List Frame) (subtree : Subtree) (symbol : Symbol) (span : Span) → open_levels stack ≤ bound → taken (close_by stack subtree symbol span) ≤ bound
+close_within bound [] subtree symbol span h = none_taken bound
+close_within bound (frames.Parens start ∷ stack) subtree symbols.CloseParenthesis span h = omega arith
+close_within bound (frames.Arguments called values ∷ stack) subtree symbols.CloseParenthesis span h = omega arith
+close_within bound (frames.Arguments called values ∷ stack) subtree symbols.Comma span h = omega arith
+close_within bound (frames.Elements start kind elements ∷ stack) subtree symbols.CloseBrace span h = omega arith
+close_within bound (frames.Elements start kind elements ∷ stack) subtree symbols.Comma span h = omega arith
+close_within bound (frames.Body it ty ∷ stack) subtree symbols.CloseParenthesis span h = omega arith
+close_within bound (frames.If start ∷ stack) subtree symbols.Then span h = omega arith
+close_within bound (frames.Then start condition ∷ stack) subtree symbols.Else span h = omega arith
+close_within bound (frames.Else start condition one ∷ stack) subtree symbols.Endif span h = omega arith
+close_within bound (frames.Let start name ty ∷ stack) subtree symbols.In span h = omega arith
+close_within bound (frame ∷ stack) subtree symbol span h = none_taken bound
 
 same_taken : (bound n : ℕ) → n ≤ bound → n + 0 ≤ bound
 same_taken bound n h = omega arith
@@ -144,18 +144,18 @@ two_rows_taken bound n h = omega arith
 one_row_taken : (bound n : ℕ) → 0 + n ≤ bound → 0 + n + 0 ≤ bound
 one_row_taken bound n h = omega arith
 
-operator_within : (bound : ℕ) (operator : Operator) (stack : List Frame) (part : Part) → open_levels stack ≤ bound → taken (operator_on operator stack part) ≤ bound
-operator_within bound operator (frames.Row first rest waiting ∷ stack) part h =
+operator_within : (bound : ℕ) (operator : Operator) (stack : List Frame) (subtree : Subtree) → open_levels stack ≤ bound → taken (operator_on operator stack subtree) ≤ bound
+operator_within bound operator (frames.Row first rest waiting ∷ stack) subtree h =
     taken_both bound (level_of waiting == level_of operator) _ _ (one_row_taken bound (open_levels stack) h) (two_rows_taken bound (open_levels stack) h)
-operator_within bound operator stack part h = row_taken bound _ h
+operator_within bound operator stack subtree h = row_taken bound _ h
 
-behind_within : (bound : ℕ) (stack : List Frame) (part : Part) (symbol : Symbol) (span : Span) → open_levels stack ≤ bound → taken (behind stack part symbol span) ≤ bound
-behind_within bound stack part (symbols.Operator operator) span h =
-    let s : Settled = settled (level_of operator + 1) stack part in
-    operator_within bound operator s.stack s.part (settled_within bound (level_of operator + 1) stack part h)
-behind_within bound stack part symbol span h =
-    let s : Settled = settled 0 stack part in
-    close_within bound s.stack s.part symbol span (settled_within bound 0 stack part h)
+behind_within : (bound : ℕ) (stack : List Frame) (subtree : Subtree) (symbol : Symbol) (span : Span) → open_levels stack ≤ bound → taken (behind stack subtree symbol span) ≤ bound
+behind_within bound stack subtree (symbols.Operator operator) span h =
+    let s : Reduced = reduced (level_of operator + 1) stack subtree in
+    operator_within bound operator s.stack s.subtree (reduced_within bound (level_of operator + 1) stack subtree h)
+behind_within bound stack subtree symbol span h =
+    let s : Reduced = reduced 0 stack subtree in
+    close_within bound s.stack s.subtree symbol span (reduced_within bound 0 stack subtree h)
 
 none_parentheses_within : (bound : ℕ) (stack : List Frame) (end : ℕ) → open_levels stack ≤ bound → taken (none_in_parentheses stack end) ≤ bound
 none_parentheses_within bound (frames.Arguments called [] ∷ stack) end h = omega arith
@@ -185,7 +185,7 @@ operand_within bound stack symbol span o h = none_taken bound
 after_within : (bound : ℕ) (stack : List Frame) (base : Base) (symbol : Symbol) (span : Span) → open_levels stack ≤ bound → taken (after stack base symbol span) ≤ bound
 after_within bound stack base symbols.Dot span h = same_taken bound (open_levels stack) h
 after_within bound stack base symbols.Arrow span h = same_taken bound (open_levels stack) h
-after_within bound stack base symbol span h = behind_within bound stack (part_of base) symbol span h
+after_within bound stack base symbol span h = behind_within bound stack (subtree_of base) symbol span h
 
 after_path_within : (bound : ℕ) (stack : List Frame) (path : Path) (symbol : Symbol) (span : Span) → open_levels stack ≤ bound → taken (after_path stack path symbol span) ≤ bound
 after_path_within bound stack path symbol span h = after_within bound stack (base_of (exprs.Named path) path.span) symbol span h
@@ -193,15 +193,15 @@ after_path_within bound stack path symbol span h = after_within bound stack (bas
 path_within : (bound : ℕ) (names : List Name) (stack : List Frame) (path : Path) (symbol : Symbol) (span : Span) → is_opener symbol ≡ false → open_levels stack ≤ bound → taken (path_by names stack path symbol span) ≤ bound
 path_within bound (name ∷ []) stack path symbols.OpenParenthesis span o h = cc
 path_within bound names stack path symbols.DoubleColon span o h =
-    taken_both bound (nat_lt (length names) 3) (to stack (places.PathName path)) (after_path stack path symbols.DoubleColon span) (same_taken bound (open_levels stack) h) (after_path_within bound stack path symbols.DoubleColon span h)
+    taken_both bound (nat_lt (length names) 3) (to stack (states.PathName path)) (after_path stack path symbols.DoubleColon span) (same_taken bound (open_levels stack) h) (after_path_within bound stack path symbols.DoubleColon span h)
 path_within bound names stack path symbol span o h = after_path_within bound stack path symbol span h
 
 dotted_within : (bound : ℕ) (stack : List Frame) (base : Base) (start : ℕ) (name : Name) (symbol : Symbol) (span : Span) → is_opener symbol ≡ false → open_levels stack ≤ bound → taken (dotted stack base start name symbol span) ≤ bound
 dotted_within bound stack base start name symbols.OpenParenthesis span o h = cc
-dotted_within bound stack base start name symbol span o h = after_within bound stack (with_step base (steps.Property name) name.span.end) symbol span h
+dotted_within bound stack base start name symbol span o h = after_within bound stack (with_postfix base (postfixes.Property name) name.span.end) symbol span h
 
-class_path_within : (bound : ℕ) (stack : List Frame) (called : Called) (path : Path) (symbol : Symbol) (span : Span) → open_levels stack + 1 ≤ bound → taken (class_path stack called path symbol span) ≤ bound
-class_path_within bound stack called path symbols.DoubleColon span h = taken_both bound (nat_lt (length path.names) 2) (to stack (places.ClassNext called path)) (refused stack) h (none_taken bound)
+class_path_within : (bound : ℕ) (stack : List Frame) (called : CallHead) (path : Path) (symbol : Symbol) (span : Span) → open_levels stack + 1 ≤ bound → taken (class_path stack called path symbol span) ≤ bound
+class_path_within bound stack called path symbols.DoubleColon span h = taken_both bound (nat_lt (length path.names) 2) (to stack (states.ClassNext called path)) (refused stack) h (none_taken bound)
 class_path_within bound stack called path symbols.CloseParenthesis span h = omega arith
 class_path_within bound stack called path symbol span h = none_taken bound
 
@@ -237,11 +237,11 @@ type_end_within bound stack ty symbol span h = none_taken bound
 
 type_path_within : (bound : ℕ) (stack : List Frame) (path : Path) (symbol : Symbol) (span : Span) → open_levels stack ≤ bound → taken (type_path stack path symbol span) ≤ bound
 type_path_within bound stack path symbols.DoubleColon span h =
-    taken_both bound (nat_lt (length path.names) 2) (to stack (places.TypeName path)) (type_end stack (types.Named path) symbols.DoubleColon span) (same_taken bound (open_levels stack) h)
+    taken_both bound (nat_lt (length path.names) 2) (to stack (states.TypeName path)) (type_end stack (types.Named path) symbols.DoubleColon span) (same_taken bound (open_levels stack) h)
     (type_end_within bound stack (types.Named path) symbols.DoubleColon span h)
 type_path_within bound stack path symbol span h = type_end_within bound stack (types.Named path) symbol span h
 
-name_within : (bound : ℕ) (stack : List Frame) (next : Name → Place) (symbol : Symbol) → ((n : Name) → open_levels stack + place_levels (next n) ≤ bound) → taken (on_name stack next symbol) ≤ bound
+name_within : (bound : ℕ) (stack : List Frame) (next : Name → State) (symbol : Symbol) → ((n : Name) → open_levels stack + state_levels (next n) ≤ bound) → taken (on_name stack next symbol) ≤ bound
 name_within bound stack next (symbols.Name name) h = h name
 name_within bound stack next symbol h = none_taken bound
 
@@ -264,26 +264,26 @@ arrow_parenthesis_within bound stack base start name symbol o = none_taken bound
 same_open : (bound n : ℕ) → n + 0 ≤ bound → n ≤ bound
 same_open bound n h = omega arith
 
-pub move_within : (bound : ℕ) (stack : List Frame) (place : Place) (symbol : Symbol) (span : Span) → is_opener symbol ≡ false → open_levels stack + place_levels place ≤ bound → taken (move stack place symbol span) ≤ bound
+pub move_within : (bound : ℕ) (stack : List Frame) (state : State) (symbol : Symbol) (span : Span) → is_opener symbol ≡ false → open_levels stack + state_levels state ≤ bound → taken (move stack state symbol span) ≤ bound
 unfolding move
-move_within bound stack places.Operand symbol span o h = operand_within bound stack symbol span o (same_open bound (open_levels stack) h)
-move_within bound stack (places.After base) symbol span o h = after_within bound stack base symbol span (same_open bound (open_levels stack) h)
-move_within bound stack (places.Path path) symbol span o h = path_within bound path.names stack path symbol span o (same_open bound (open_levels stack) h)
-move_within bound stack (places.PathName path) symbol span o h = name_within bound stack (λ n. places.Path (extended path n)) symbol (λ n. h)
-move_within bound stack (places.LetName start) symbol span o h = name_within bound stack (λ n. places.LetColon start n) symbol (λ n. h)
-move_within bound stack (places.LetColon start name) symbol span o h = colon_within bound stack start name symbol h
-move_within bound stack places.Type symbol span o h = type_begin_within bound stack symbol span (same_open bound (open_levels stack) h)
-move_within bound stack (places.TypeParenthesis start kind) symbol span o h = type_parenthesis_within bound stack start kind symbol o
-move_within bound stack (places.TypePath path) symbol span o h = type_path_within bound stack path symbol span (same_open bound (open_levels stack) h)
-move_within bound stack (places.TypeName path) symbol span o h = name_within bound stack (λ n. places.TypePath (extended path n)) symbol (λ n. h)
-move_within bound stack (places.TypeEnd ty) symbol span o h = type_end_within bound stack ty symbol span (same_open bound (open_levels stack) h)
-move_within bound stack (places.Brace start kind) symbol span o h = brace_within bound stack start kind symbol o
-move_within bound stack (places.DotName base start) symbol span o h = name_within bound stack (λ n. places.Dotted base start n) symbol (λ n. h)
-move_within bound stack (places.Dotted base start name) symbol span o h = dotted_within bound stack base start name symbol span o (same_open bound (open_levels stack) h)
-move_within bound stack (places.ArrowName base start) symbol span o h = name_within bound stack (λ n. places.ArrowParenthesis base start n) symbol (λ n. h)
-move_within bound stack (places.ArrowParenthesis base start name) symbol span o h = arrow_parenthesis_within bound stack base start name symbol o
-move_within bound stack (places.ArrowFirst base start name) symbol span o h = arrow_first_within bound stack base start name symbol span o h
-move_within bound stack (places.ArrowSecond it) symbol span o h = arrow_second_within bound stack it symbol span o h
-move_within bound stack (places.ClassName called) symbol span o h = name_within bound stack (λ n. places.ClassPath called (path_of n)) symbol (λ n. h)
-move_within bound stack (places.ClassPath called path) symbol span o h = class_path_within bound stack called path symbol span h
-move_within bound stack (places.ClassNext called path) symbol span o h = name_within bound stack (λ n. places.ClassPath called (extended path n)) symbol (λ n. h)
+move_within bound stack states.Operand symbol span o h = operand_within bound stack symbol span o (same_open bound (open_levels stack) h)
+move_within bound stack (states.After base) symbol span o h = after_within bound stack base symbol span (same_open bound (open_levels stack) h)
+move_within bound stack (states.Path path) symbol span o h = path_within bound path.names stack path symbol span o (same_open bound (open_levels stack) h)
+move_within bound stack (states.PathName path) symbol span o h = name_within bound stack (λ n. states.Path (extended path n)) symbol (λ n. h)
+move_within bound stack (states.LetName start) symbol span o h = name_within bound stack (λ n. states.LetColon start n) symbol (λ n. h)
+move_within bound stack (states.LetColon start name) symbol span o h = colon_within bound stack start name symbol h
+move_within bound stack states.Type symbol span o h = type_begin_within bound stack symbol span (same_open bound (open_levels stack) h)
+move_within bound stack (states.TypeParenthesis start kind) symbol span o h = type_parenthesis_within bound stack start kind symbol o
+move_within bound stack (states.TypePath path) symbol span o h = type_path_within bound stack path symbol span (same_open bound (open_levels stack) h)
+move_within bound stack (states.TypeName path) symbol span o h = name_within bound stack (λ n. states.TypePath (extended path n)) symbol (λ n. h)
+move_within bound stack (states.TypeEnd ty) symbol span o h = type_end_within bound stack ty symbol span (same_open bound (open_levels stack) h)
+move_within bound stack (states.Brace start kind) symbol span o h = brace_within bound stack start kind symbol o
+move_within bound stack (states.DotName base start) symbol span o h = name_within bound stack (λ n. states.Dotted base start n) symbol (λ n. h)
+move_within bound stack (states.Dotted base start name) symbol span o h = dotted_within bound stack base start name symbol span o (same_open bound (open_levels stack) h)
+move_within bound stack (states.ArrowName base start) symbol span o h = name_within bound stack (λ n. states.ArrowParenthesis base start n) symbol (λ n. h)
+move_within bound stack (states.ArrowParenthesis base start name) symbol span o h = arrow_parenthesis_within bound stack base start name symbol o
+move_within bound stack (states.ArrowFirst base start name) symbol span o h = arrow_first_within bound stack base start name symbol span o h
+move_within bound stack (states.ArrowSecond it) symbol span o h = arrow_second_within bound stack it symbol span o h
+move_within bound stack (states.ClassName called) symbol span o h = name_within bound stack (λ n. states.ClassPath called (path_of n)) symbol (λ n. h)
+move_within bound stack (states.ClassPath called path) symbol span o h = class_path_within bound stack called path symbol span h
+move_within bound stack (states.ClassNext called path) symbol span o h = name_within bound stack (λ n. states.ClassPath called (extended path n)) symbol (λ n. h)

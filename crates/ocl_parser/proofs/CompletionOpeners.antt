@@ -9,71 +9,63 @@ use Rattle.qv_syntax.specs.declared.type_tree.Kind.{Kind}
 use Rattle.qv_syntax.specs.declared.type_tree.TypeTree.{TypeTree}
 use Rattle.qv_syntax.specs.declared.type_tree.TypeTree.TheVariants as types
 use Rattle.qv_syntax.specs.declared.expr.Expr.TheVariants as exprs
-use Rattle.qv_syntax.specs.declared.expr.Step.TheVariants as steps
+use Rattle.qv_syntax.specs.declared.expr.Postfix.TheVariants as postfixes
 use Rattle.qv_syntax.specs.Operators.{level_of}
 use Rattle.ocl_parser.specs.Grammar.{takes_class}
-use Rattle.ocl_parser.specs.Moves.{Move, Settled, move, to, refused, base_of, part_of, with_step, path_of, extended, settled, operator_on, close_by, behind, begins_expression, none_in_parentheses, none_in_braces, operand, after, arguments, call_of, link, after_path, path_by, on_path, dotted, arrow_call, arrow_first, arrow_second, class_path, type_begin, type_end, type_path, on_name, on_colon, on_brace, on_type_parenthesis, on_arrow_parenthesis}
+use Rattle.ocl_parser.specs.Moves.{Move, Reduced, move, to, refused, base_of, subtree_of, with_postfix, path_of, extended, reduced, operator_on, close_by, behind, begins_expression, operand, after, arguments, call_of, infixed, after_path, path_by, on_path, dotted, arrow_call, arrow_first, arrow_second, class_path, type_begin, type_end, type_path, on_name, on_colon, on_brace, on_type_parenthesis, on_arrow_parenthesis}
 use Rattle.ocl_parser.specs.Completion.{opening_levels}
 use Rattle.ocl_parser.specs.declared.symbol.Symbol.{Symbol}
 use Rattle.ocl_parser.specs.declared.symbol.Symbol.TheVariants as symbols
-use Rattle.ocl_parser.specs.declared.frame.Part.{Part}
+use Rattle.ocl_parser.specs.declared.frame.Subtree.{Subtree}
 use Rattle.ocl_parser.specs.declared.frame.Base.{Base}
 use Rattle.ocl_parser.specs.declared.frame.Before.TheVariants as before
-use Rattle.ocl_parser.specs.declared.frame.Called.{Called}
+use Rattle.ocl_parser.specs.declared.frame.CallHead.{CallHead}
 use Rattle.ocl_parser.specs.declared.frame.Iterated.{Iterated}
 use Rattle.ocl_parser.specs.declared.frame.Frame.{Frame}
 use Rattle.ocl_parser.specs.declared.frame.Frame.TheVariants as frames
-use Rattle.ocl_parser.specs.declared.place.Place.{Place}
-use Rattle.ocl_parser.specs.declared.place.Place.TheVariants as places
-use Rattle.ocl_parser.specs.declared.place.Outcome.TheVariants as outcomes
+use Rattle.ocl_parser.specs.declared.state.State.{State}
+use Rattle.ocl_parser.specs.declared.state.State.TheVariants as states
+use Rattle.ocl_parser.specs.declared.state.Action.TheVariants as actions
 use Rattle.ocl_parser.proofs.CompletionLevels.{is_opener}
 
 -- the levels that have to be opened behind what is read
 abbrev pub opening : Move → ℕ
-opening m = elim m.outcome [ outcomes.Read next ↦ opening_levels next | outcomes.Whole tree ↦ 0 | outcomes.Refused ↦ 0 ]
+opening m = elim m.action [ actions.Read next ↦ opening_levels next | actions.Whole tree ↦ 0 | actions.Refused ↦ 0 ]
 
 opening_both : (b : Bool) (x y : Move) → opening x ≡ 0 → opening y ≡ 0 → opening (if b then x else y) ≡ 0
 opening_both true x y h k = h
 opening_both false x y h k = k
 
-close_opening : (stack : List Frame) (part : Part) (symbol : Symbol) (span : Span) → opening (close_by stack part symbol span) ≡ 0
-close_opening [] part symbol span = refl
-close_opening (frames.Parens start ∷ stack) part symbols.CloseParenthesis span = refl
-close_opening (frames.Arguments called values ∷ stack) part symbols.CloseParenthesis span = refl
-close_opening (frames.Arguments called values ∷ stack) part symbols.Comma span = refl
-close_opening (frames.Elements start kind elements ∷ stack) part symbols.CloseBrace span = refl
-close_opening (frames.Elements start kind elements ∷ stack) part symbols.Comma span = refl
-close_opening (frames.Body it ty ∷ stack) part symbols.CloseParenthesis span = refl
-close_opening (frames.If start ∷ stack) part symbols.Then span = refl
-close_opening (frames.Then start condition ∷ stack) part symbols.Else span = refl
-close_opening (frames.Else start condition one ∷ stack) part symbols.Endif span = refl
-close_opening (frames.Let start name ty ∷ stack) part symbols.In span = refl
-close_opening (frame ∷ stack) part symbol span = refl
+close_opening : (stack : List Frame) (subtree : Subtree) (symbol : Symbol) (span : Span) → opening (close_by stack subtree symbol span) ≡ 0
+close_opening [] subtree symbol span = refl
+close_opening (frames.Parens start ∷ stack) subtree symbols.CloseParenthesis span = refl
+close_opening (frames.Arguments called values ∷ stack) subtree symbols.CloseParenthesis span = refl
+close_opening (frames.Arguments called values ∷ stack) subtree symbols.Comma span = refl
+close_opening (frames.Elements start kind elements ∷ stack) subtree symbols.CloseBrace span = refl
+close_opening (frames.Elements start kind elements ∷ stack) subtree symbols.Comma span = refl
+close_opening (frames.Body it ty ∷ stack) subtree symbols.CloseParenthesis span = refl
+close_opening (frames.If start ∷ stack) subtree symbols.Then span = refl
+close_opening (frames.Then start condition ∷ stack) subtree symbols.Else span = refl
+close_opening (frames.Else start condition one ∷ stack) subtree symbols.Endif span = refl
+close_opening (frames.Let start name ty ∷ stack) subtree symbols.In span = refl
+close_opening (frame ∷ stack) subtree symbol span = refl
 
-operator_opening : (operator : Operator) (stack : List Frame) (part : Part) → opening (operator_on operator stack part) ≡ 0
-operator_opening operator (frames.Row first rest waiting ∷ stack) part =
-    opening_both (level_of waiting == level_of operator) (to (frames.Row first (rest ++ link waiting part.tree ∷ []) operator ∷ stack) places.Operand)
-    (to (frames.Row part [] operator ∷ frames.Row first rest waiting ∷ stack) places.Operand) refl refl
-operator_opening operator stack part = refl
+operator_opening : (operator : Operator) (stack : List Frame) (subtree : Subtree) → opening (operator_on operator stack subtree) ≡ 0
+operator_opening operator (frames.Row first rest waiting ∷ stack) subtree =
+    opening_both (level_of waiting == level_of operator) (to (frames.Row first (rest ++ infixed waiting subtree.tree ∷ []) operator ∷ stack) states.Operand)
+    (to (frames.Row subtree [] operator ∷ frames.Row first rest waiting ∷ stack) states.Operand) refl refl
+operator_opening operator stack subtree = refl
 
-behind_opening : (stack : List Frame) (part : Part) (symbol : Symbol) (span : Span) → opening (behind stack part symbol span) ≡ 0
-behind_opening stack part (symbols.Operator operator) span =
-    let s : Settled = settled (level_of operator + 1) stack part in
-    operator_opening operator s.stack s.part
-behind_opening stack part symbol span =
-    let s : Settled = settled 0 stack part in
-    close_opening s.stack s.part symbol span
-
-none_parentheses_opening : (stack : List Frame) (end : ℕ) → opening (none_in_parentheses stack end) ≡ 0
-none_parentheses_opening (frames.Arguments called [] ∷ stack) end = refl
-none_parentheses_opening stack end = refl
-
-none_braces_opening : (stack : List Frame) (end : ℕ) → opening (none_in_braces stack end) ≡ 0
-none_braces_opening (frames.Elements start kind [] ∷ stack) end = refl
-none_braces_opening stack end = refl
+behind_opening : (stack : List Frame) (subtree : Subtree) (symbol : Symbol) (span : Span) → opening (behind stack subtree symbol span) ≡ 0
+behind_opening stack subtree (symbols.Operator operator) span =
+    let s : Reduced = reduced (level_of operator + 1) stack subtree in
+    operator_opening operator s.stack s.subtree
+behind_opening stack subtree symbol span =
+    let s : Reduced = reduced 0 stack subtree in
+    close_opening s.stack s.subtree symbol span
 
 operand_opening : (stack : List Frame) (symbol : Symbol) (span : Span) → is_opener symbol ≡ true → opening (operand stack symbol span) ≡ 0
-operand_opening stack symbols.Let span o = opening_both (begins_expression stack) (to stack (places.LetName span.start)) (refused stack) refl refl
+operand_opening stack symbols.Let span o = opening_both (begins_expression stack) (to stack (states.LetName span.start)) (refused stack) refl refl
 operand_opening stack symbols.If span o = refl
 operand_opening stack symbols.Not span o = refl
 operand_opening stack (symbols.Operator operators.Minus) span o = refl
@@ -84,10 +76,10 @@ operand_opening stack symbol span o = cc
 after_opening : (stack : List Frame) (base : Base) (symbol : Symbol) (span : Span) → is_opener symbol ≡ true → opening (after stack base symbol span) ≡ 0
 after_opening stack base symbols.Dot span o = refl
 after_opening stack base symbols.Arrow span o = cc
-after_opening stack base symbol span o = behind_opening stack (part_of base) symbol span
+after_opening stack base symbol span o = behind_opening stack (subtree_of base) symbol span
 
-arguments_opening : (stack : List Frame) (called : Called) → opening (arguments stack called) ≡ 0
-arguments_opening stack called = opening_both (takes_class called.name.text) (to stack (places.ClassName called)) (to (frames.Arguments called [] ∷ stack) places.Operand) refl refl
+arguments_opening : (stack : List Frame) (called : CallHead) → opening (arguments stack called) ≡ 0
+arguments_opening stack called = opening_both (takes_class called.name.text) (to stack (states.ClassName called)) (to (frames.Arguments called [] ∷ stack) states.Operand) refl refl
 
 after_path_opening : (stack : List Frame) (path : Path) (symbol : Symbol) (span : Span) → is_opener symbol ≡ true → opening (after_path stack path symbol span) ≡ 0
 after_path_opening stack path symbol span o = after_opening stack (base_of (exprs.Named path) path.span) symbol span o
@@ -99,9 +91,9 @@ path_opening names stack path symbol span o = after_path_opening stack path symb
 
 dotted_opening : (stack : List Frame) (base : Base) (start : ℕ) (name : Name) (symbol : Symbol) (span : Span) → is_opener symbol ≡ true → opening (dotted stack base start name symbol span) ≡ 0
 dotted_opening stack base start name symbols.OpenParenthesis span o = arguments_opening stack (record { before = before.Dot base start; name = name })
-dotted_opening stack base start name symbol span o = after_opening stack (with_step base (steps.Property name) name.span.end) symbol span o
+dotted_opening stack base start name symbol span o = after_opening stack (with_postfix base (postfixes.Property name) name.span.end) symbol span o
 
-class_path_opening : (stack : List Frame) (called : Called) (path : Path) (symbol : Symbol) (span : Span) → is_opener symbol ≡ true → opening (class_path stack called path symbol span) ≡ 0
+class_path_opening : (stack : List Frame) (called : CallHead) (path : Path) (symbol : Symbol) (span : Span) → is_opener symbol ≡ true → opening (class_path stack called path symbol span) ≡ 0
 class_path_opening stack called path symbols.DoubleColon span o = cc
 class_path_opening stack called path symbols.CloseParenthesis span o = refl
 class_path_opening stack called path symbol span o = refl
@@ -136,7 +128,7 @@ type_path_opening : (stack : List Frame) (path : Path) (symbol : Symbol) (span :
 type_path_opening stack path symbols.DoubleColon span o = cc
 type_path_opening stack path symbol span o = type_end_opening stack (types.Named path) symbol span
 
-name_opening : (stack : List Frame) (next : Name → Place) (symbol : Symbol) → is_opener symbol ≡ true → opening (on_name stack next symbol) ≡ 0
+name_opening : (stack : List Frame) (next : Name → State) (symbol : Symbol) → is_opener symbol ≡ true → opening (on_name stack next symbol) ≡ 0
 name_opening stack next (symbols.Name name) o = cc
 name_opening stack next symbol o = refl
 
@@ -156,26 +148,26 @@ arrow_parenthesis_opening : (stack : List Frame) (base : Base) (start : ℕ) (na
 arrow_parenthesis_opening stack base start name symbols.OpenParenthesis = refl
 arrow_parenthesis_opening stack base start name symbol = refl
 
-pub move_opening : (stack : List Frame) (place : Place) (symbol : Symbol) (span : Span) → is_opener symbol ≡ true → opening (move stack place symbol span) ≡ 0
+pub move_opening : (stack : List Frame) (state : State) (symbol : Symbol) (span : Span) → is_opener symbol ≡ true → opening (move stack state symbol span) ≡ 0
 unfolding move
-move_opening stack places.Operand symbol span o = operand_opening stack symbol span o
-move_opening stack (places.After base) symbol span o = after_opening stack base symbol span o
-move_opening stack (places.Path path) symbol span o = path_opening path.names stack path symbol span o
-move_opening stack (places.PathName path) symbol span o = name_opening stack (λ n. places.Path (extended path n)) symbol o
-move_opening stack (places.LetName start) symbol span o = name_opening stack (λ n. places.LetColon start n) symbol o
-move_opening stack (places.LetColon start name) symbol span o = colon_opening stack start name symbol
-move_opening stack places.Type symbol span o = type_begin_opening stack symbol span o
-move_opening stack (places.TypeParenthesis start kind) symbol span o = type_parenthesis_opening stack start kind symbol
-move_opening stack (places.TypePath path) symbol span o = type_path_opening stack path symbol span o
-move_opening stack (places.TypeName path) symbol span o = name_opening stack (λ n. places.TypePath (extended path n)) symbol o
-move_opening stack (places.TypeEnd ty) symbol span o = type_end_opening stack ty symbol span
-move_opening stack (places.Brace start kind) symbol span o = brace_opening stack start kind symbol
-move_opening stack (places.DotName base start) symbol span o = name_opening stack (λ n. places.Dotted base start n) symbol o
-move_opening stack (places.Dotted base start name) symbol span o = dotted_opening stack base start name symbol span o
-move_opening stack (places.ArrowName base start) symbol span o = name_opening stack (λ n. places.ArrowParenthesis base start n) symbol o
-move_opening stack (places.ArrowParenthesis base start name) symbol span o = arrow_parenthesis_opening stack base start name symbol
-move_opening stack (places.ArrowFirst base start name) symbol span o = arrow_first_opening stack base start name symbol span o
-move_opening stack (places.ArrowSecond it) symbol span o = arrow_second_opening stack it symbol span o
-move_opening stack (places.ClassName called) symbol span o = name_opening stack (λ n. places.ClassPath called (path_of n)) symbol o
-move_opening stack (places.ClassPath called path) symbol span o = class_path_opening stack called path symbol span o
-move_opening stack (places.ClassNext called path) symbol span o = name_opening stack (λ n. places.ClassPath called (extended path n)) symbol o
+move_opening stack states.Operand symbol span o = operand_opening stack symbol span o
+move_opening stack (states.After base) symbol span o = after_opening stack base symbol span o
+move_opening stack (states.Path path) symbol span o = path_opening path.names stack path symbol span o
+move_opening stack (states.PathName path) symbol span o = name_opening stack (λ n. states.Path (extended path n)) symbol o
+move_opening stack (states.LetName start) symbol span o = name_opening stack (λ n. states.LetColon start n) symbol o
+move_opening stack (states.LetColon start name) symbol span o = colon_opening stack start name symbol
+move_opening stack states.Type symbol span o = type_begin_opening stack symbol span o
+move_opening stack (states.TypeParenthesis start kind) symbol span o = type_parenthesis_opening stack start kind symbol
+move_opening stack (states.TypePath path) symbol span o = type_path_opening stack path symbol span o
+move_opening stack (states.TypeName path) symbol span o = name_opening stack (λ n. states.TypePath (extended path n)) symbol o
+move_opening stack (states.TypeEnd ty) symbol span o = type_end_opening stack ty symbol span
+move_opening stack (states.Brace start kind) symbol span o = brace_opening stack start kind symbol
+move_opening stack (states.DotName base start) symbol span o = name_opening stack (λ n. states.Dotted base start n) symbol o
+move_opening stack (states.Dotted base start name) symbol span o = dotted_opening stack base start name symbol span o
+move_opening stack (states.ArrowName base start) symbol span o = name_opening stack (λ n. states.ArrowParenthesis base start n) symbol o
+move_opening stack (states.ArrowParenthesis base start name) symbol span o = arrow_parenthesis_opening stack base start name symbol
+move_opening stack (states.ArrowFirst base start name) symbol span o = arrow_first_opening stack base start name symbol span o
+move_opening stack (states.ArrowSecond it) symbol span o = arrow_second_opening stack it symbol span o
+move_opening stack (states.ClassName called) symbol span o = name_opening stack (λ n. states.ClassPath called (path_of n)) symbol o
+move_opening stack (states.ClassPath called path) symbol span o = class_path_opening stack called path symbol span o
+move_opening stack (states.ClassNext called path) symbol span o = name_opening stack (λ n. states.ClassPath called (extended path n)) symbol o

@@ -5,15 +5,15 @@ use Rattle.std.proofs.lemmas.Bool.Decides.{nat_tests}
 use Rattle.ql_lex.specs.Lexed.{Lexeme}
 use Rattle.qv_syntax.specs.declared.operator.Operator.TheVariants as operators
 use Rattle.ocl_parser.specs.Symbols.{symbol_of, symbol_among}
-use Rattle.ocl_parser.specs.Moves.{Move, move, to, open_levels, place_levels}
+use Rattle.ocl_parser.specs.Moves.{Move, move, to, open_levels, state_levels}
 use Rattle.ocl_parser.specs.Runs.{Answer, Tree, Stuck, run, go_on}
 use Rattle.ocl_parser.specs.Completion.{Ends, reserved, mark, null, closes}
 use Rattle.ocl_parser.specs.declared.symbol.Symbol.{Symbol}
 use Rattle.ocl_parser.specs.declared.symbol.Symbol.TheVariants as symbols
 use Rattle.ocl_parser.specs.declared.symbol.PlainType.TheVariants as plain
 use Rattle.ocl_parser.specs.declared.frame.Frame.{Frame}
-use Rattle.ocl_parser.specs.declared.place.Place.{Place}
-use Rattle.ocl_parser.specs.declared.place.Outcome.TheVariants as outcomes
+use Rattle.ocl_parser.specs.declared.state.State.{State}
+use Rattle.ocl_parser.specs.declared.state.Action.TheVariants as actions
 
 pub is_null : symbol_of null ≡ symbols.Null
 unfolding symbol_of symbol_among
@@ -69,23 +69,23 @@ is_equal = refl
 
 -- what comes of a token by what it does
 abbrev pub by_move : ℕ → List Lexeme → ℕ → Move → Answer
-by_move levels ls at m = elim m.outcome [
-  | outcomes.Read next ↦ go_on levels m.stack next at (run levels ls m.stack next (at + 1))
-  | outcomes.Whole tree ↦ Tree tree at
-  | outcomes.Refused ↦ Stuck at
+by_move levels ls at m = elim m.action [
+  | actions.Read next ↦ go_on levels m.stack next at (run levels ls m.stack next (at + 1))
+  | actions.Whole tree ↦ Tree tree at
+  | actions.Refused ↦ Stuck at
 ]
 
-pub run-step : (levels at : ℕ) (stack : List Frame) (place : Place) (l : Lexeme) (ls : List Lexeme)
-    → run levels (l ∷ ls) stack place at ≡ by_move levels ls at (move stack place (symbol_of l) l.token.span)
+pub run-step : (levels at : ℕ) (stack : List Frame) (state : State) (l : Lexeme) (ls : List Lexeme)
+    → run levels (l ∷ ls) stack state at ≡ by_move levels ls at (move stack state (symbol_of l) l.token.span)
 unfolding run
-run-step levels at stack place l ls = refl
+run-step levels at stack state l ls = refl
 
 -- one token that is read, and those behind it
-pub step : (levels at : ℕ) (whole : List Frame) (place : Place) (l : Lexeme) (ls : List Lexeme) (symbol : Symbol) (stack : List Frame) (next : Place) → symbol_of l ≡ symbol
-    → move whole place symbol l.token.span ≡ to stack next → open_levels stack + place_levels next ≤ levels → Ends levels ls stack next (at + 1) → Ends levels (l ∷ ls) whole place at
-step levels at whole place l ls symbol stack next is e fits rest =
-    let m : move whole place (symbol_of l) l.token.span ≡ to stack next = ap (λ (y : Symbol). move whole place y l.token.span) is ∙ e in
-    let small : nat_lt levels (open_levels stack + place_levels next) ≡ false = grind (arith, nat_tests) in
+pub step : (levels at : ℕ) (whole : List Frame) (state : State) (l : Lexeme) (ls : List Lexeme) (symbol : Symbol) (stack : List Frame) (next : State) → symbol_of l ≡ symbol
+    → move whole state symbol l.token.span ≡ to stack next → open_levels stack + state_levels next ≤ levels → Ends levels ls stack next (at + 1) → Ends levels (l ∷ ls) whole state at
+step levels at whole state l ls symbol stack next is e fits rest =
+    let m : move whole state (symbol_of l) l.token.span ≡ to stack next = ap (λ (y : Symbol). move whole state y l.token.span) is ∙ e in
+    let small : nat_lt levels (open_levels stack + state_levels next) ≡ false = grind (arith, nat_tests) in
     let here : at + 1 + length ls ≡ at + length (l ∷ ls) = omega arith in
     let goes : by_move levels ls at (to stack next) ≡ Tree rest.tree (at + length (l ∷ ls)) = rw small (rest.ends ∙ ap (Tree rest.tree) here) in
-    record { tree = rest.tree; ends = run-step levels at whole place l ls ∙ ap (by_move levels ls at) m ∙ goes }
+    record { tree = rest.tree; ends = run-step levels at whole state l ls ∙ ap (by_move levels ls at) m ∙ goes }

@@ -4,14 +4,15 @@ use Rattle.std.specs.List.{list_all}
 use Rattle.std.specs.Char.{is_ascii_digit}
 use Rattle.std.proofs.lemmas.Bool.Decides.{nat_tests}
 use Rattle.std.proofs.lemmas.List.{drop_more, drop_all}
-use Rattle.ql_lex.specs.Forms.{decimal, greatest}
+use Rattle.ql_lex.specs.declared.limits.TheConstants.{MAX_INTEGER}
+use Rattle.ql_lex.specs.Forms.{decimal}
 use Rattle.ql_lex.proofs.Laws.{decimal-step}
 use Rattle.ocl_parser.specs.Pieces.{integer_of}
 
-pub integer : (text : List ℕ) (v : ℕ) → list_all is_ascii_digit text ≡ true → decimal 0 text ≡ v → v ≤ greatest → integer_of text ≡ Some (pos v)
+pub integer : (text : List ℕ) (v : ℕ) → list_all is_ascii_digit text ≡ true → decimal 0 text ≡ v → v ≤ MAX_INTEGER → integer_of text ≡ Some (pos v)
 unfolding integer_of
 integer text v all is within =
-    let small : nat_le v greatest ≡ true = grind (arith, nat_tests) in
+    let small : nat_le v MAX_INTEGER ≡ true = grind (arith, nat_tests) in
     rw (all, is, small) refl
 
 -- one digit further
@@ -34,10 +35,10 @@ pub no_digits : (text : List ℕ) → list_all is_ascii_digit text ≡ false →
 unfolding integer_of
 no_digits text e = rw e refl
 
-pub too_great : (text : List ℕ) → nat_lt greatest (decimal 0 text) ≡ true → integer_of text ≡ None
+pub too_great : (text : List ℕ) → nat_lt MAX_INTEGER (decimal 0 text) ≡ true → integer_of text ≡ None
 unfolding integer_of
 too_great text e =
-    let over : nat_le (decimal 0 text) greatest ≡ false = grind (arith, nat_tests) in
+    let over : nat_le (decimal 0 text) MAX_INTEGER ≡ false = grind (arith, nat_tests) in
     rw over (by (list_all is_ascii_digit text))
   where
     by : (b : Bool) → (if b && false then Some (pos (decimal 0 text)) else None) ≡ None

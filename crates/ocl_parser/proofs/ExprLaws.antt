@@ -12,17 +12,17 @@ use Rattle.qv_syntax.specs.declared.type_tree.Kind.{Kind}
 use Rattle.qv_syntax.specs.declared.type_tree.TypeTree.{TypeTree}
 use Rattle.qv_syntax.specs.declared.expr.Expr.{Expr, roll-Expr, map-Expr, fold-roll-Expr}
 use Rattle.qv_syntax.specs.declared.expr.Expr.TheVariants.{Let, Chain, Not, Negated, Calls, Number, Str, Bool as Constant, Null, Invalid, Parens, If, Coll, Call, Named, rolls-Let, rolls-Chain, rolls-Not, rolls-Negated, rolls-Calls, rolls-Number, rolls-Str, rolls-Bool, rolls-Null, rolls-Invalid, rolls-Parens, rolls-If, rolls-Coll, rolls-Call, rolls-Named}
-use Rattle.qv_syntax.specs.declared.expr.Link.{Link}
-use Rattle.qv_syntax.specs.declared.expr.Step.{Step}
+use Rattle.qv_syntax.specs.declared.expr.Infix.{Infix}
+use Rattle.qv_syntax.specs.declared.expr.Postfix.{Postfix}
 use Rattle.qv_syntax.specs.declared.expr.Args.{Args}
 use Rattle.qv_syntax.specs.declared.expr.Args.TheOpen as of
 use Rattle.ocl_parser.specs.Pieces.{Piece, stands, is_sign, is_word, is_name, is_number, is_string, span_at}
-use Rattle.ocl_parser.specs.Grammar.{Form, Joined, Given, form, joined, step_piece, given, args_step, expr_step, step_step, link_step, binding, spelled, spelled_links, spelled_steps, spelled_args, spelled_list, are_of_level, is_of_level, is_chain, chain_level, path, kind_word, bound, constant}
+use Rattle.ocl_parser.specs.Grammar.{Form, InfixForm, Given, form, infix_form, postfix_piece, given, args_step, expr_step, postfix_step, infix_step, binding, spelled, spelled_infixes, spelled_postfixes, spelled_args, spelled_list, are_of_level, is_of_level, is_chain, chain_level, path, kind_word, bound, constant}
 use Rattle.ocl_parser.proofs.TokenLaws.{same_span}
 use Rattle.ocl_parser.proofs.PieceLaws.{nested_at}
 
-rolled : (ts : List Lexeme) (d : of.Expr-F Args Expr Step Link) (e : Expr) → roll-Expr d ≡ e → form ts e ≡ expr_step ts (map-Expr Args Expr Step Link Given Form Piece Joined (given ts) (form ts) (step_piece ts) (joined ts) d)
-rolled ts d e h = ap (form ts) (sym h) ∙ fold-roll-Expr Given Form Piece Joined (args_step ts) (expr_step ts) (step_step ts) (link_step ts) d
+rolled : (ts : List Lexeme) (d : of.Expr-F Args Expr Postfix Infix) (e : Expr) → roll-Expr d ≡ e → form ts e ≡ expr_step ts (map-Expr Args Expr Postfix Infix Given Form Piece InfixForm (given ts) (form ts) (postfix_piece ts) (infix_form ts) d)
+rolled ts d e h = ap (form ts) (sym h) ∙ fold-roll-Expr Given Form Piece InfixForm (args_step ts) (expr_step ts) (postfix_step ts) (infix_step ts) d
 
 -- ---- what holds no other expression
 
@@ -55,8 +55,8 @@ named_spelled ts p n i j e = ap (λ (f : Form). f.piece n i) (rolled ts (of.Name
 pub parens_spelled : (ts : List Lexeme) (inner : Expr) (span : Span) (n m i j k l : ℕ) → n ≡ m + 1 → stands (is_sign (codes "(")) ts i ≡ true → j ≡ i + 1
     → spelled ts m inner j ≡ Some k → stands (is_sign (codes ")")) ts k ≡ true → l ≡ k + 1 → span ≡ span_at ts i l → spelled ts n (Parens inner span) i ≡ Some l
 unfolding spelled
-parens_spelled ts inner span n m i j k l level opens first part closes last at =
-    ap (λ (f : Form). f.piece n i) (rolled ts (of.Parens inner span) (Parens inner span) (rolls-Parens inner span)) ∙ rw (level, nested_at, opens, ← first, part, closes, ← last, at, same_span (span_at ts i l)) refl
+parens_spelled ts inner span n m i j k l level opens first subtree closes last at =
+    ap (λ (f : Form). f.piece n i) (rolled ts (of.Parens inner span) (Parens inner span) (rolls-Parens inner span)) ∙ rw (level, nested_at, opens, ← first, subtree, closes, ← last, at, same_span (span_at ts i l)) refl
 
 pub if_spelled : (ts : List Lexeme) (condition one other : Expr) (span : Span) (n m i k o q r : ℕ) → n ≡ m + 1 → stands (is_word (codes "if")) ts i ≡ true → spelled ts m condition (i + 1) ≡ Some k
     → stands (is_word (codes "then")) ts k ≡ true → spelled ts m one (k + 1) ≡ Some o → stands (is_word (codes "else")) ts o ≡ true → spelled ts m other (o + 1) ≡ Some q
@@ -74,16 +74,16 @@ let_spelled ts x ty value body span n m i j p q s level w1 e1 head s2 w5 s3 at =
 pub coll_spelled : (ts : List Lexeme) (kind : Kind) (es : List Expr) (span : Span) (n m i j k l o : ℕ) → stands (is_word (kind_word kind)) ts i ≡ true → j ≡ i + 1 → n ≡ m + 1 → stands (is_sign (codes "{")) ts j ≡ true → k ≡ j + 1
     → spelled_list ts m es k ≡ Some l → stands (is_sign (codes "}")) ts l ≡ true → o ≡ l + 1 → span ≡ span_at ts i o → spelled ts n (Coll kind es span) i ≡ Some o
 unfolding spelled spelled_list
-coll_spelled ts kind es span n m i j k l o word e1 level opens e2 part closes e3 at =
-    ap (λ (f : Form). f.piece n i) (rolled ts (of.Coll kind es span) (Coll kind es span) (rolls-Coll kind es span)) ∙ rw (level, word, ← e1, nested_at, opens, ← e2, part, closes, ← e3, at, same_span (span_at ts i o)) refl
+coll_spelled ts kind es span n m i j k l o word e1 level opens e2 subtree closes e3 at =
+    ap (λ (f : Form). f.piece n i) (rolled ts (of.Coll kind es span) (Coll kind es span) (rolls-Coll kind es span)) ∙ rw (level, word, ← e1, nested_at, opens, ← e2, subtree, closes, ← e3, at, same_span (span_at ts i o)) refl
 
 -- ---- the rest
 
 pub call_spelled : (ts : List Lexeme) (x : Name) (args : Args) (span : Span) (n i j k : ℕ) → stands (is_name x) ts i ≡ true → j ≡ i + 1 → spelled_args ts n x.text args j ≡ Some k → span ≡ span_at ts i k
     → spelled ts n (Call x args span) i ≡ Some k
 unfolding spelled spelled_args
-call_spelled ts x args span n i j k name e1 part at =
-    ap (λ (f : Form). f.piece n i) (rolled ts (of.Call x args span) (Call x args span) (rolls-Call x args span)) ∙ rw (name, ← e1, part, at, same_span (span_at ts i k)) refl
+call_spelled ts x args span n i j k name e1 subtree at =
+    ap (λ (f : Form). f.piece n i) (rolled ts (of.Call x args span) (Call x args span) (rolls-Call x args span)) ∙ rw (name, ← e1, subtree, at, same_span (span_at ts i k)) refl
 
 at_least : (a b : ℕ) → a ≤ b → nat_le a b ≡ true
 at_least a b h = grind (arith, nat_tests)
@@ -94,43 +94,43 @@ above a b h = grind (arith, nat_tests)
 pub not_spelled : (ts : List Lexeme) (operand : Expr) (span : Span) (n m i j k : ℕ) → n ≡ m + 1 → stands (is_word (codes "not")) ts i ≡ true → j ≡ i + 1
     → spelled ts m operand j ≡ Some k → 8 ≤ binding ts operand → span ≡ span_at ts i k → spelled ts n (Not operand span) i ≡ Some k
 unfolding spelled binding
-not_spelled ts operand span n m i j k level word first part tight at =
-    ap (λ (f : Form). f.piece n i) (rolled ts (of.Not operand span) (Not operand span) (rolls-Not operand span)) ∙ rw (at_least 8 (form ts operand).binding tight, level, nested_at, word, ← first, part, at, same_span (span_at ts i k)) refl
+not_spelled ts operand span n m i j k level word first subtree tight at =
+    ap (λ (f : Form). f.piece n i) (rolled ts (of.Not operand span) (Not operand span) (rolls-Not operand span)) ∙ rw (at_least 8 (form ts operand).binding tight, level, nested_at, word, ← first, subtree, at, same_span (span_at ts i k)) refl
 
 pub negated_spelled : (ts : List Lexeme) (operand : Expr) (span : Span) (n m i j k : ℕ) → n ≡ m + 1 → stands (is_sign (codes "-")) ts i ≡ true → j ≡ i + 1
     → spelled ts m operand j ≡ Some k → 8 ≤ binding ts operand → span ≡ span_at ts i k → spelled ts n (Negated operand span) i ≡ Some k
 unfolding spelled binding
-negated_spelled ts operand span n m i j k level word first part tight at =
-    ap (λ (f : Form). f.piece n i) (rolled ts (of.Negated operand span) (Negated operand span) (rolls-Negated operand span)) ∙ rw (at_least 8 (form ts operand).binding tight, level, nested_at, word, ← first, part, at, same_span (span_at ts i k)) refl
+negated_spelled ts operand span n m i j k level word first subtree tight at =
+    ap (λ (f : Form). f.piece n i) (rolled ts (of.Negated operand span) (Negated operand span) (rolls-Negated operand span)) ∙ rw (at_least 8 (form ts operand).binding tight, level, nested_at, word, ← first, subtree, at, same_span (span_at ts i k)) refl
 
-pub calls_spelled : (ts : List Lexeme) (part : Expr) (steps : List Step) (span : Span) (n i j k : ℕ) → spelled ts n part i ≡ Some j → 10 ≤ binding ts part → spelled_steps ts n steps j ≡ Some k → 0 < length steps → span ≡ span_at ts i k
-    → spelled ts n (Calls part steps span) i ≡ Some k
-unfolding spelled spelled_steps binding
-calls_spelled ts part steps span n i j k first tight rest some at =
-    let there : nat_lt 0 (length (map (step_piece ts) steps)) ≡ true = above 0 (length (map (step_piece ts) steps)) (omega (arith, length-map steps (step_piece ts))) in
-    ap (λ (f : Form). f.piece n i) (rolled ts (of.Calls part steps span) (Calls part steps span) (rolls-Calls part steps span)) ∙ rw (at_least 10 (form ts part).binding tight, there, first, rest, at, same_span (span_at ts i k)) refl
+pub calls_spelled : (ts : List Lexeme) (subtree : Expr) (steps : List Postfix) (span : Span) (n i j k : ℕ) → spelled ts n subtree i ≡ Some j → 10 ≤ binding ts subtree → spelled_postfixes ts n steps j ≡ Some k → 0 < length steps → span ≡ span_at ts i k
+    → spelled ts n (Calls subtree steps span) i ≡ Some k
+unfolding spelled spelled_postfixes binding
+calls_spelled ts subtree steps span n i j k first tight rest some at =
+    let there : nat_lt 0 (length (map (postfix_piece ts) steps)) ≡ true = above 0 (length (map (postfix_piece ts) steps)) (omega (arith, length-map steps (postfix_piece ts))) in
+    ap (λ (f : Form). f.piece n i) (rolled ts (of.Calls subtree steps span) (Calls subtree steps span) (rolls-Calls subtree steps span)) ∙ rw (at_least 10 (form ts subtree).binding tight, there, first, rest, at, same_span (span_at ts i k)) refl
 
 both_left : (a b : Bool) → (a && b) ≡ true → a ≡ true
 both_left true b e = refl
 both_left false b e = e
 
-chain_level_is : (level : ℕ) (ls : List Joined) → 0 < length ls → list_all (is_of_level level) ls ≡ true → chain_level ls ≡ level
+chain_level_is : (level : ℕ) (ls : List InfixForm) → 0 < length ls → list_all (is_of_level level) ls ≡ true → chain_level ls ≡ level
 chain_level_is level [] some all = absurd (omega arith)
 chain_level_is level (l ∷ ls) some all =
-    let here : (l.level == level) ≡ true = both_left (l.level == level) (nat_lt level l.part) (both_left (is_of_level level l) (list_all (is_of_level level) ls) all) in
+    let here : (l.level == level) ≡ true = both_left (l.level == level) (nat_lt level l.subtree) (both_left (is_of_level level l) (list_all (is_of_level level) ls) all) in
     grind (arith, nat_tests)
 
-pub chain_binding : (ts : List Lexeme) (first : Expr) (rest : List Link) (span : Span) (level : ℕ) → are_of_level ts level rest ≡ true → 0 < length rest → binding ts (Chain first rest span) ≡ level
+pub chain_binding : (ts : List Lexeme) (first : Expr) (rest : List Infix) (span : Span) (level : ℕ) → are_of_level ts level rest ≡ true → 0 < length rest → binding ts (Chain first rest span) ≡ level
 unfolding binding are_of_level
 chain_binding ts first rest span level all some =
-    ap (λ (f : Form). f.binding) (rolled ts (of.Chain first rest span) (Chain first rest span) (rolls-Chain first rest span)) ∙ chain_level_is level (map (joined ts) rest) (omega (arith, length-map rest (joined ts))) all
+    ap (λ (f : Form). f.binding) (rolled ts (of.Chain first rest span) (Chain first rest span) (rolls-Chain first rest span)) ∙ chain_level_is level (map (infix_form ts) rest) (omega (arith, length-map rest (infix_form ts))) all
 
-pub chain_spelled : (ts : List Lexeme) (first : Expr) (rest : List Link) (span : Span) (level n i j k : ℕ) → spelled ts n first i ≡ Some j → level < binding ts first → spelled_links ts n rest j ≡ Some k
+pub chain_spelled : (ts : List Lexeme) (first : Expr) (rest : List Infix) (span : Span) (level n i j k : ℕ) → spelled ts n first i ≡ Some j → level < binding ts first → spelled_infixes ts n rest j ≡ Some k
     → are_of_level ts level rest ≡ true → 0 < length rest → span ≡ span_at ts i k → spelled ts n (Chain first rest span) i ≡ Some k
-unfolding spelled spelled_links binding are_of_level
+unfolding spelled spelled_infixes binding are_of_level
 chain_spelled ts first rest span level n i j k begins tight more all some at =
-    let ls : List Joined = map (joined ts) rest in
-    let there : 0 < length ls = omega (arith, length-map rest (joined ts)) in
+    let ls : List InfixForm = map (infix_form ts) rest in
+    let there : 0 < length ls = omega (arith, length-map rest (infix_form ts)) in
     let same : chain_level ls ≡ level = chain_level_is level ls there all in
     let holds : is_chain (form ts first) ls ≡ true = rw (same, above 0 (length ls) there, above level (form ts first).binding tight, all) refl in
     ap (λ (f : Form). f.piece n i) (rolled ts (of.Chain first rest span) (Chain first rest span) (rolls-Chain first rest span)) ∙ rw (holds, begins, more, at, same_span (span_at ts i k)) refl
@@ -177,9 +177,9 @@ pub call_binding : (ts : List Lexeme) (x : Name) (args : Args) (span : Span) →
 unfolding binding
 call_binding ts x args span = ap (λ (f : Form). f.binding) (rolled ts (of.Call x args span) (Call x args span) (rolls-Call x args span))
 
-pub calls_binding : (ts : List Lexeme) (part : Expr) (steps : List Step) (span : Span) → binding ts (Calls part steps span) ≡ 9
+pub calls_binding : (ts : List Lexeme) (subtree : Expr) (steps : List Postfix) (span : Span) → binding ts (Calls subtree steps span) ≡ 9
 unfolding binding
-calls_binding ts part steps span = ap (λ (f : Form). f.binding) (rolled ts (of.Calls part steps span) (Calls part steps span) (rolls-Calls part steps span))
+calls_binding ts subtree steps span = ap (λ (f : Form). f.binding) (rolled ts (of.Calls subtree steps span) (Calls subtree steps span) (rolls-Calls subtree steps span))
 
 pub not_binding : (ts : List Lexeme) (operand : Expr) (span : Span) → binding ts (Not operand span) ≡ 8
 unfolding binding

@@ -2,7 +2,7 @@ pub mod TokenLaws
 pub mod TableLaws
 pub mod StackLaws
 pub mod PartLaws
-pub mod SettleLaws
+pub mod ReduceLaws
 pub mod ClosingLaws
 pub mod PathLaws
 pub mod MoveLaws
@@ -16,7 +16,7 @@ pub mod StepLaws
 pub mod SymbolLaws
 pub mod CompletionSteps
 pub mod CompletionClosing
-pub mod CompletionPlaces
+pub mod CompletionStates
 pub mod CompletionKept
 pub mod CompletionReads
 pub mod CompletionHalts
@@ -24,7 +24,7 @@ pub mod CompletionLevels
 pub mod CompletionOpeners
 pub mod CompletionWhole
 pub mod SoundStacks
-pub mod SoundSettled
+pub mod SoundReduced
 pub mod SoundParts
 pub mod SoundMoves
 pub mod SoundOperands
@@ -49,7 +49,6 @@ pub mod CompleteChains
 pub mod CompleteCalls
 pub mod CompleteSteps
 pub mod Complete
-pub mod CompleteBeginnings
 pub mod LocalPieces
 pub mod Local
 pub mod AnswerLaws

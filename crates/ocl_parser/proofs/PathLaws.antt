@@ -7,7 +7,7 @@ use Rattle.ocl_parser.specs.Moves.{path_by, after_path, to}
 use Rattle.ocl_parser.specs.declared.symbol.Symbol.{Symbol}
 use Rattle.ocl_parser.specs.declared.symbol.Symbol.TheVariants as symbols
 use Rattle.ocl_parser.specs.declared.frame.Frame.{Frame}
-use Rattle.ocl_parser.specs.declared.place.Place.TheVariants as places
+use Rattle.ocl_parser.specs.declared.state.State.TheVariants as states
 
 -- `(` behind several names ends the path
 pub more_names : (names : List Name) (stack : List Frame) (path : Path) (span : Span) → (length names ≡ 1 → ⊥) → path_by names stack path symbols.OpenParenthesis span ≡ after_path stack path symbols.OpenParenthesis span
@@ -16,7 +16,7 @@ more_names (name ∷ []) stack path span several = absurd (several refl)
 more_names (one ∷ two ∷ names) stack path span several = refl
 
 pub next_name : (names : List Name) (stack : List Frame) (path : Path) (span : Span)
-    → path_by names stack path symbols.DoubleColon span ≡ (if nat_lt (length names) 3 then to stack (places.PathName path) else after_path stack path symbols.DoubleColon span)
+    → path_by names stack path symbols.DoubleColon span ≡ (if nat_lt (length names) 3 then to stack (states.PathName path) else after_path stack path symbols.DoubleColon span)
 next_name [] stack path span = refl
 next_name (name ∷ []) stack path span = refl
 next_name (one ∷ two ∷ names) stack path span = refl

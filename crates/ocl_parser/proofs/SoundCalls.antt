@@ -11,14 +11,14 @@ use Rattle.ocl_parser.specs.declared.symbol.Symbol.{Symbol}
 use Rattle.ocl_parser.specs.declared.symbol.Symbol.TheVariants as symbols
 use Rattle.ocl_parser.specs.declared.frame.Base.{Base}
 use Rattle.ocl_parser.specs.declared.frame.Before.TheVariants as before
-use Rattle.ocl_parser.specs.declared.frame.Called.{Called}
+use Rattle.ocl_parser.specs.declared.frame.CallHead.{CallHead}
 use Rattle.ocl_parser.specs.declared.frame.Iterated.{Iterated}
 use Rattle.ocl_parser.specs.declared.frame.Frame.{Frame}
 use Rattle.ocl_parser.specs.declared.frame.Frame.TheVariants as frames
 use Rattle.ocl_parser.proofs.HeadLaws.{untyped_spelled, variable_spelled}
 use Rattle.ocl_parser.proofs.StepLaws.{class_spelled}
 use Rattle.ocl_parser.proofs.SoundStacks.{here, IsNamed, StepAt, PathAt, CallOpenAt, ClassPathAt, IteratorAt, Holds}
-use Rattle.ocl_parser.proofs.SoundSettled.{floor_most, chosen}
+use Rattle.ocl_parser.proofs.SoundReduced.{floor_most, chosen}
 use Rattle.ocl_parser.proofs.SoundParts.{called_with, path_one}
 use Rattle.ocl_parser.proofs.SoundOperands.{operand_fits, path_fits, path_spelled, few}
 use Rattle.ocl_parser.proofs.SoundMoves.{Fits, IsAt, room}
@@ -44,7 +44,7 @@ arrow_parenthesis_fits ts from levels stack base start name s a b n h r e = tt
 
 -- ---- a class in parentheses
 
-class_closes : (ts : List Lexeme) (from levels : ℕ) (stack : List Frame) (called : Called) (p : Path) (a b n : ℕ) → Holds ts from levels stack a n
+class_closes : (ts : List Lexeme) (from levels : ℕ) (stack : List Frame) (called : CallHead) (p : Path) (a b n : ℕ) → Holds ts from levels stack a n
     → ClassPathAt ts called (λ f. PathAt ts 2 p f b) n a
     → IsAt ts b symbols.CloseParenthesis → Fits ts from levels b (class_path stack called p symbols.CloseParenthesis (here ts b))
 class_closes ts from levels stack called p a b n h r e =
@@ -52,7 +52,7 @@ class_closes ts from levels stack called p a b n h r e =
     let whole = class_spelled ts called.name.text p n c.m c.at r.from b (b + 1) r.call.class c.level c.opens c.end (path_spelled ts 2 p r.from b r.path) e refl in
     λ _. record { a = a; n = n; below = h; read = called_with ts n called (args.Class p) a c.at (b + 1) b c.call whole refl }
 
-pub class_path_fits : (ts : List Lexeme) (from levels : ℕ) (stack : List Frame) (called : Called) (p : Path) (s : Symbol) (a b n : ℕ) → Holds ts from levels stack a n
+pub class_path_fits : (ts : List Lexeme) (from levels : ℕ) (stack : List Frame) (called : CallHead) (p : Path) (s : Symbol) (a b n : ℕ) → Holds ts from levels stack a n
     → ClassPathAt ts called (λ f. PathAt ts 2 p f b) n a
     → IsAt ts b s → Fits ts from levels b (class_path stack called p s (here ts b))
 class_path_fits ts from levels stack called p symbols.DoubleColon a b n h r e = chosen (Fits ts from levels b) (nat_lt (length p.names) 2) _ _
@@ -68,11 +68,11 @@ class_path_fits ts from levels stack called p s a b n h r e = tt
 
 -- ---- behind `->name(`
 
-abbrev arrow_of : Base → ℕ → Name → Called
+abbrev arrow_of : Base → ℕ → Name → CallHead
 arrow_of base start name = record { before = before.Arrow base start; name = name }
 
 -- what is read there is an argument
-arguments_open : (ts : List Lexeme) (from levels : ℕ) (stack : List Frame) (called : Called) (a b n : ℕ) → Holds ts from levels stack a n
+arguments_open : (ts : List Lexeme) (from levels : ℕ) (stack : List Frame) (called : CallHead) (a b n : ℕ) → Holds ts from levels stack a n
     → (r : CallOpenAt ts called n a b) → takes_class called.name.text ≡ false
     → Holds ts from levels (frames.Arguments called [] ∷ stack) b r.m
 arguments_open ts from levels stack called a b n h r plain = record {

@@ -9,24 +9,24 @@ use Rattle.qv_syntax.specs.declared.name.Path.{Path}
 use Rattle.qv_syntax.specs.declared.operator.Operator.TheVariants as operators
 use Rattle.qv_syntax.specs.declared.expr.Expr.{Expr}
 use Rattle.qv_syntax.specs.declared.expr.Expr.TheVariants as exprs
-use Rattle.qv_syntax.specs.declared.expr.Step.TheVariants as steps
+use Rattle.qv_syntax.specs.declared.expr.Postfix.TheVariants as postfixes
 use Rattle.qv_syntax.specs.declared.expr.Args.TheVariants as args
 use Rattle.ocl_parser.specs.Pieces.{stands, is_name, start_of, end_of, span_at, each, separated}
 use Rattle.ocl_parser.specs.Grammar.{names, path, binding, spelled, takes_class}
-use Rattle.ocl_parser.specs.Moves.{to, from_to, base_of, with_step, behind_base, begins_expression, let_on, none_in_parentheses, none_in_braces, operand, arguments, call_of, after_path, path_by, on_path, dotted}
+use Rattle.ocl_parser.specs.Moves.{to, from_to, base_of, with_postfix, behind_base, begins_expression, let_on, none_in_parentheses, none_in_braces, operand, arguments, call_of, after_path, path_by, on_path, dotted}
 use Rattle.ocl_parser.specs.declared.symbol.Symbol.{Symbol}
 use Rattle.ocl_parser.specs.declared.symbol.Symbol.TheVariants as symbols
 use Rattle.ocl_parser.specs.declared.frame.Base.{Base}
 use Rattle.ocl_parser.specs.declared.frame.Before.TheVariants as before
-use Rattle.ocl_parser.specs.declared.frame.Called.{Called}
+use Rattle.ocl_parser.specs.declared.frame.CallHead.{CallHead}
 use Rattle.ocl_parser.specs.declared.frame.Frame.{Frame}
 use Rattle.ocl_parser.specs.declared.frame.Frame.TheVariants as frames
-use Rattle.ocl_parser.specs.declared.place.Place.TheVariants as places
+use Rattle.ocl_parser.specs.declared.state.State.TheVariants as states
 use Rattle.ocl_parser.proofs.ExprLaws.{number_spelled, number_binding, string_spelled, string_binding, constant_spelled, constant_binding, null_spelled, null_binding, invalid_spelled, invalid_binding, named_spelled, named_binding, coll_spelled, coll_binding}
 use Rattle.ocl_parser.proofs.StepLaws.{values_spelled, property_spelled, list_none}
 use Rattle.ocl_parser.proofs.PieceLaws.{path_of as path_whole}
 use Rattle.ocl_parser.proofs.SoundStacks.{here, IsNamed, BaseAt, StepAt, CalledAt, PathAt, Holds}
-use Rattle.ocl_parser.proofs.SoundSettled.{floor_most, begins_free, span_to, chosen}
+use Rattle.ocl_parser.proofs.SoundReduced.{floor_most, begins_free, span_to, chosen}
 use Rattle.ocl_parser.proofs.SoundParts.{name_spans, path_one, base_first, step_added, called_with}
 use Rattle.ocl_parser.proofs.SoundMoves.{Fits, IsAt, room, after_fits}
 
@@ -138,7 +138,7 @@ operand_fits ts from levels stack s b n h e = tt
 
 -- ---- a call begins
 
-pub arguments_fit : (ts : List Lexeme) (from levels : ℕ) (stack : List Frame) (called : Called) (a b n : ℕ) → Holds ts from levels stack a n → CalledAt ts n called a b
+pub arguments_fit : (ts : List Lexeme) (from levels : ℕ) (stack : List Frame) (called : CallHead) (a b n : ℕ) → Holds ts from levels stack a n → CalledAt ts n called a b
     → IsAt ts b symbols.OpenParenthesis
     → Fits ts from levels b (arguments stack called)
 arguments_fit ts from levels stack called a b n h p e = chosen (Fits ts from levels b) (takes_class called.name.text) _ _
@@ -193,7 +193,7 @@ named_fits ts from levels stack p s a b n h r e =
 
 longer_fits : (ts : List Lexeme) (from levels : ℕ) (ns : List Name) (stack : List Frame) (p : Path) (a b n : ℕ) → p.names ≡ ns → Holds ts from levels stack a n
     → PathAt ts 3 p a b → IsAt ts b symbols.DoubleColon
-    → Fits ts from levels b (if nat_lt (length ns) 3 then to stack (places.PathName p) else after_path stack p symbols.DoubleColon (here ts b))
+    → Fits ts from levels b (if nat_lt (length ns) 3 then to stack (states.PathName p) else after_path stack p symbols.DoubleColon (here ts b))
 longer_fits ts from levels ns stack p a b n same h r e = chosen (Fits ts from levels b) (nat_lt (length ns) 3) _ _
     (λ less. λ _. record {
       a = a;
@@ -219,11 +219,11 @@ path_fits ts from levels stack p s a b n h r e = path_by_fits ts from levels p.n
 -- ---- a name behind a `.`
 
 property_at : (ts : List Lexeme) (n : ℕ) (base : Base) (start : ℕ) (name : Name) (a b : ℕ) → StepAt ts n (codes ".") base start name a b
-    → BaseAt ts n (with_step base (steps.Property name) name.span.end) a b
+    → BaseAt ts n (with_postfix base (postfixes.Property name) name.span.end) a b
 property_at ts n base start name a b h =
     let one = property_spelled ts name n h.at b h.sign h.named h.end in
-    subst (λ (x : ℕ). BaseAt ts n (with_step base (steps.Property name) x) a b) (sym (name_spans ts name (h.at + 1) h.named).ends)
-    (step_added ts n base (steps.Property name) a h.at b (h.at + 1) h.part one h.end)
+    subst (λ (x : ℕ). BaseAt ts n (with_postfix base (postfixes.Property name) x) a b) (sym (name_spans ts name (h.at + 1) h.named).ends)
+    (step_added ts n base (postfixes.Property name) a h.at b (h.at + 1) h.subtree one h.end)
 
 pub dotted_fits : (ts : List Lexeme) (from levels : ℕ) (stack : List Frame) (base : Base) (start : ℕ) (name : Name) (s : Symbol) (a b n : ℕ)
     → Holds ts from levels stack a n
@@ -231,4 +231,4 @@ pub dotted_fits : (ts : List Lexeme) (from levels : ℕ) (stack : List Frame) (b
 dotted_fits ts from levels stack base start name symbols.OpenParenthesis a b n h r e =
     arguments_fit ts from levels stack (record { before = before.Dot base start; name = name }) a b n h r e
 dotted_fits ts from levels stack base start name s a b n h r e =
-    after_fits ts from levels stack (with_step base (steps.Property name) name.span.end) s a b n h (property_at ts n base start name a b r) e
+    after_fits ts from levels stack (with_postfix base (postfixes.Property name) name.span.end) s a b n h (property_at ts n base start name a b r) e

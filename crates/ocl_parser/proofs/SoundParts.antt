@@ -11,22 +11,22 @@ use Rattle.qv_syntax.specs.declared.name.Name.{Name}
 use Rattle.qv_syntax.specs.declared.name.Path.{Path}
 use Rattle.qv_syntax.specs.declared.expr.Expr.{Expr}
 use Rattle.qv_syntax.specs.declared.expr.Expr.TheVariants as exprs
-use Rattle.qv_syntax.specs.declared.expr.Step.{Step}
-use Rattle.qv_syntax.specs.declared.expr.Step.TheVariants as steps
+use Rattle.qv_syntax.specs.declared.expr.Postfix.{Postfix}
+use Rattle.qv_syntax.specs.declared.expr.Postfix.TheVariants as postfixes
 use Rattle.qv_syntax.specs.declared.expr.Args.{Args}
 use Rattle.ocl_parser.specs.Pieces.{stands, is_name, is_same_span, name_text, start_of, end_of, span_at}
-use Rattle.ocl_parser.specs.Grammar.{binding, spelled, spelled_step, spelled_steps, spelled_args, spelled_list}
-use Rattle.ocl_parser.specs.Moves.{from_to, base_of, with_step, part_by, part_of, path_of, extended, called_by, with_args}
-use Rattle.ocl_parser.specs.declared.frame.Part.{Part}
+use Rattle.ocl_parser.specs.Grammar.{binding, spelled, spelled_postfix, spelled_postfixes, spelled_args, spelled_list}
+use Rattle.ocl_parser.specs.Moves.{from_to, base_of, with_postfix, subtree_by, subtree_of, path_of, extended, called_by, with_args}
+use Rattle.ocl_parser.specs.declared.frame.Subtree.{Subtree}
 use Rattle.ocl_parser.specs.declared.frame.Base.{Base}
 use Rattle.ocl_parser.specs.declared.frame.Before.{Before}
 use Rattle.ocl_parser.specs.declared.frame.Before.TheVariants as before
-use Rattle.ocl_parser.specs.declared.frame.Called.{Called}
+use Rattle.ocl_parser.specs.declared.frame.CallHead.{CallHead}
 use Rattle.ocl_parser.proofs.ExprLaws.{call_spelled, call_binding, calls_spelled, calls_binding}
 use Rattle.ocl_parser.proofs.PieceLaws.{names_one, names_more}
 use Rattle.ocl_parser.proofs.StepLaws.{steps_none, steps_more, dot_spelled, arrow_spelled, list_one, list_more}
 use Rattle.ocl_parser.proofs.SoundStacks.{IsNamed, IsSign, PartAt, BaseAt, BeforeAt, CalledAt, PathAt, LongerPathAt, ListAt}
-use Rattle.ocl_parser.proofs.SoundSettled.{span_to}
+use Rattle.ocl_parser.proofs.SoundReduced.{span_to}
 
 -- ---- names
 
@@ -110,8 +110,8 @@ pub base_first : (ts : List Lexeme) (n : ℕ) (e : Expr) (span : Span) (a b : �
     → BaseAt ts n (base_of e span) a b
 base_first ts n e span a b h tight at = record { middle = b; first = h; tight = omega (arith, tight); calls = steps_none ts n b; span = at }
 
-pub step_added : (ts : List Lexeme) (n : ℕ) (base : Base) (step : Step) (a b c k : ℕ) → BaseAt ts n base a b → spelled_step ts n step b ≡ Some c → c ≡ k + 1
-    → BaseAt ts n (with_step base step (end_of ts k)) a c
+pub step_added : (ts : List Lexeme) (n : ℕ) (base : Base) (step : Postfix) (a b c k : ℕ) → BaseAt ts n base a b → spelled_postfix ts n step b ≡ Some c → c ≡ k + 1
+    → BaseAt ts n (with_postfix base step (end_of ts k)) a c
 step_added ts n base step a b c k h one e = record {
   middle = h.middle;
   first = h.first;
@@ -129,35 +129,35 @@ args_added ts n before.Nothing name args a c d k h p e =
     base_first ts n (exprs.Call name args span) span a d (call_spelled ts name args span n a c d h.0 h.1 p at) (call_binding ts name args span) at
 args_added ts n (before.Dot base start) name args a c d k h p e =
     let span = from_to start (end_of ts k) in
-    step_added ts n base (steps.Dot name args span) a h.at d k h.part
+    step_added ts n base (postfixes.Dot name args span) a h.at d k h.subtree
     (dot_spelled ts name args span n h.at c d h.sign h.named h.end p (span_to ts start h.at k d h.begin e)) e
 args_added ts n (before.Arrow base start) name args a c d k h p e =
     let span = from_to start (end_of ts k) in
-    step_added ts n base (steps.Arrow name args span) a h.at d k h.part
+    step_added ts n base (postfixes.Arrow name args span) a h.at d k h.subtree
     (arrow_spelled ts name args span n h.at c d h.sign h.named h.end p (span_to ts start h.at k d h.begin e)) e
 
 -- a call with its arguments, which end with the token of number k
-pub called_with : (ts : List Lexeme) (n : ℕ) (called : Called) (args : Args) (a c d k : ℕ) → CalledAt ts n called a c
+pub called_with : (ts : List Lexeme) (n : ℕ) (called : CallHead) (args : Args) (a c d k : ℕ) → CalledAt ts n called a c
     → spelled_args ts n called.name.text args c ≡ Some d → d ≡ k + 1
     → BaseAt ts n (with_args called args (end_of ts k)) a d
 called_with ts n called args a c d k h p e = args_added ts n called.before called.name args a c d k h p e
 
 -- a part with its calls
-pub record TightAt (ts : List Lexeme) (n : ℕ) (part : Part) (a b : ℕ) : Type 0 where
-  pub read : PartAt ts n part a b
-  pub tight : 9 ≤ binding ts part.tree
+pub record TightAt (ts : List Lexeme) (n : ℕ) (subtree : Subtree) (a b : ℕ) : Type 0 where
+  pub read : PartAt ts n subtree a b
+  pub tight : 9 ≤ binding ts subtree.tree
 
-part_with : (ts : List Lexeme) (n : ℕ) (base : Base) (ss : List Step) (a b : ℕ) → BaseAt ts n base a b → base.steps ≡ ss → TightAt ts n (part_by base ss) a b
+part_with : (ts : List Lexeme) (n : ℕ) (base : Base) (ss : List Postfix) (a b : ℕ) → BaseAt ts n base a b → base.steps ≡ ss → TightAt ts n (subtree_by base ss) a b
 part_with ts n base [] a b h e =
-    let calls : spelled_steps ts n [] h.middle ≡ Some b = ap (λ (ss : List Step). spelled_steps ts n ss h.middle) (sym e) ∙ h.calls in
+    let calls : spelled_postfixes ts n [] h.middle ≡ Some b = ap (λ (ss : List Postfix). spelled_postfixes ts n ss h.middle) (sym e) ∙ h.calls in
     let same : Some h.middle ≡ Some b = sym (steps_none ts n h.middle) ∙ calls in
     record { read = record { whole = h.first ∙ same; span = h.span }; tight = omega (arith, h.tight) }
 part_with ts n base (s ∷ ss) a b h e =
-    let calls : spelled_steps ts n (s ∷ ss) h.middle ≡ Some b = ap (λ (ss : List Step). spelled_steps ts n ss h.middle) (sym e) ∙ h.calls in
+    let calls : spelled_postfixes ts n (s ∷ ss) h.middle ≡ Some b = ap (λ (ss : List Postfix). spelled_postfixes ts n ss h.middle) (sym e) ∙ h.calls in
     record {
       read = record { whole = calls_spelled ts base.of (s ∷ ss) base.span n a h.middle b h.first h.tight calls (omega arith) h.span; span = h.span };
       tight = omega (arith, calls_binding ts base.of (s ∷ ss) base.span);
     }
 
-pub part_at : (ts : List Lexeme) (n : ℕ) (base : Base) (a b : ℕ) → BaseAt ts n base a b → TightAt ts n (part_of base) a b
+pub part_at : (ts : List Lexeme) (n : ℕ) (base : Base) (a b : ℕ) → BaseAt ts n base a b → TightAt ts n (subtree_of base) a b
 part_at ts n base a b h = part_with ts n base base.steps a b h refl

@@ -9,18 +9,18 @@ use Rattle.ql_lex.specs.Lexed.{Lexeme}
 use Rattle.qv_syntax.specs.declared.expr.Expr.{Expr}
 use Rattle.ocl_parser.specs.Grammar.{spelled}
 use Rattle.ocl_parser.specs.Symbols.{symbol_of}
-use Rattle.ocl_parser.specs.Moves.{Move, move, path_of, extended, open_levels, place_levels}
+use Rattle.ocl_parser.specs.Moves.{Move, move, path_of, extended, open_levels, state_levels}
 use Rattle.ocl_parser.specs.Runs.{Answer, Tree, Stuck, Deep, ended_by, go_on, nowhere, run, answer}
 use Rattle.ocl_parser.specs.declared.symbol.Symbol.{Symbol}
 use Rattle.ocl_parser.specs.declared.symbol.Symbol.TheVariants as symbols
 use Rattle.ocl_parser.specs.declared.frame.Frame.{Frame}
-use Rattle.ocl_parser.specs.declared.place.Place.{Place}
-use Rattle.ocl_parser.specs.declared.place.Place.TheVariants as places
-use Rattle.ocl_parser.specs.declared.place.Outcome.{Outcome}
-use Rattle.ocl_parser.specs.declared.place.Outcome.TheVariants as outcomes
+use Rattle.ocl_parser.specs.declared.state.State.{State}
+use Rattle.ocl_parser.specs.declared.state.State.TheVariants as states
+use Rattle.ocl_parser.specs.declared.state.Action.{Action}
+use Rattle.ocl_parser.specs.declared.state.Action.TheVariants as actions
 use Rattle.ocl_parser.proofs.TokenLaws.{stands_some}
 use Rattle.ocl_parser.proofs.SymbolLaws.{test_of, tested}
-use Rattle.ocl_parser.proofs.SoundStacks.{here, IsNamed, PlaceAt}
+use Rattle.ocl_parser.proofs.SoundStacks.{here, IsNamed, StateAt}
 use Rattle.ocl_parser.proofs.SoundParts.{path_one, path_longer}
 use Rattle.ocl_parser.proofs.SoundMoves.{OutcomeFits, Fits, IsAt, after_fits}
 use Rattle.ocl_parser.proofs.SoundOperands.{operand_fits, path_fits, dotted_fits}
@@ -29,54 +29,54 @@ use Rattle.ocl_parser.proofs.SoundCalls.{arrow_parenthesis_fits, class_path_fits
 
 -- ---- one symbol
 
-pub move_fits : (ts : List Lexeme) (from levels : ℕ) (stack : List Frame) (place : Place) (s : Symbol) (b : ℕ) → PlaceAt ts from levels stack place b → IsAt ts b s
-    → Fits ts from levels b (move stack place s (here ts b))
+pub move_fits : (ts : List Lexeme) (from levels : ℕ) (stack : List Frame) (state : State) (s : Symbol) (b : ℕ) → StateAt ts from levels stack state b → IsAt ts b s
+    → Fits ts from levels b (move stack state s (here ts b))
 unfolding move
-move_fits ts from levels stack places.Operand s b h e = operand_fits ts from levels stack s b h.0 h.1 e
-move_fits ts from levels stack (places.After base) s b h e = after_fits ts from levels stack base s h.a b h.n h.below h.read e
-move_fits ts from levels stack (places.Path path) s b h e = path_fits ts from levels stack path s h.a b h.n h.below h.read e
-move_fits ts from levels stack (places.PathName path) s b h e =
-    name_fits ts from levels stack (λ x. places.Path (extended path x)) s b
+move_fits ts from levels stack states.Operand s b h e = operand_fits ts from levels stack s b h.0 h.1 e
+move_fits ts from levels stack (states.After base) s b h e = after_fits ts from levels stack base s h.a b h.n h.below h.read e
+move_fits ts from levels stack (states.Path path) s b h e = path_fits ts from levels stack path s h.a b h.n h.below h.read e
+move_fits ts from levels stack (states.PathName path) s b h e =
+    name_fits ts from levels stack (λ x. states.Path (extended path x)) s b
     (λ x named few. record { a = h.a; n = h.n; below = h.below; read = path_longer ts 3 path x h.a b h.read named }) e
-move_fits ts from levels stack (places.LetName start) s b h e =
-    name_fits ts from levels stack (λ x. places.LetColon start x) s b
+move_fits ts from levels stack (states.LetName start) s b h e =
+    name_fits ts from levels stack (λ x. states.LetColon start x) s b
     (λ x named few. record { a = h.a; n = h.n; below = h.below; read = (h.read.0, subst (IsNamed ts x) h.read.1 named, ap (λ (y : ℕ). y + 1) h.read.1) }) e
-move_fits ts from levels stack (places.LetColon start name) s b h e = colon_fits ts from levels stack start name s h.a b h.n h.below h.read.0 h.read.1 h.read.2 e
-move_fits ts from levels stack places.Type s b h e = type_begin_fits ts from levels stack s b h.0 h.1 e
-move_fits ts from levels stack (places.TypeParenthesis start kind) s b h e = type_parenthesis_fits ts from levels stack start kind s h.a b h.n h.below h.read e
-move_fits ts from levels stack (places.TypePath path) s b h e = type_path_fits ts from levels stack path s h.a b h.n h.below h.read e
-move_fits ts from levels stack (places.TypeName path) s b h e =
-    name_fits ts from levels stack (λ x. places.TypePath (extended path x)) s b
+move_fits ts from levels stack (states.LetColon start name) s b h e = colon_fits ts from levels stack start name s h.a b h.n h.below h.read.0 h.read.1 h.read.2 e
+move_fits ts from levels stack states.Type s b h e = type_begin_fits ts from levels stack s b h.0 h.1 e
+move_fits ts from levels stack (states.TypeParenthesis start kind) s b h e = type_parenthesis_fits ts from levels stack start kind s h.a b h.n h.below h.read e
+move_fits ts from levels stack (states.TypePath path) s b h e = type_path_fits ts from levels stack path s h.a b h.n h.below h.read e
+move_fits ts from levels stack (states.TypeName path) s b h e =
+    name_fits ts from levels stack (λ x. states.TypePath (extended path x)) s b
     (λ x named few. record { a = h.a; n = h.n; below = h.below; read = path_longer ts 2 path x h.a b h.read named }) e
-move_fits ts from levels stack (places.TypeEnd ty) s b h e = type_end_fits ts from levels stack ty s h.a b h.n h.below h.read e
-move_fits ts from levels stack (places.Brace start kind) s b h e = brace_fits ts from levels stack start kind s h.a b h.n h.below h.read e
-move_fits ts from levels stack (places.DotName base start) s b h e =
-    name_fits ts from levels stack (λ x. places.Dotted base start x) s b
+move_fits ts from levels stack (states.TypeEnd ty) s b h e = type_end_fits ts from levels stack ty s h.a b h.n h.below h.read e
+move_fits ts from levels stack (states.Brace start kind) s b h e = brace_fits ts from levels stack start kind s h.a b h.n h.below h.read e
+move_fits ts from levels stack (states.DotName base start) s b h e =
+    name_fits ts from levels stack (λ x. states.Dotted base start x) s b
     (λ x named few. let r = h.read in record {
       a = h.a;
       n = h.n;
       below = h.below;
-      read = record { at = r.at; part = r.part; begin = r.begin; sign = r.sign; named = subst (IsNamed ts x) r.end named; end = ap (λ (y : ℕ). y + 1) r.end };
+      read = record { at = r.at; subtree = r.subtree; begin = r.begin; sign = r.sign; named = subst (IsNamed ts x) r.end named; end = ap (λ (y : ℕ). y + 1) r.end };
     }) e
-move_fits ts from levels stack (places.Dotted base start name) s b h e = dotted_fits ts from levels stack base start name s h.a b h.n h.below h.read e
-move_fits ts from levels stack (places.ArrowName base start) s b h e =
-    name_fits ts from levels stack (λ x. places.ArrowParenthesis base start x) s b
+move_fits ts from levels stack (states.Dotted base start name) s b h e = dotted_fits ts from levels stack base start name s h.a b h.n h.below h.read e
+move_fits ts from levels stack (states.ArrowName base start) s b h e =
+    name_fits ts from levels stack (λ x. states.ArrowParenthesis base start x) s b
     (λ x named few. let r = h.read in record {
       a = h.a;
       n = h.n;
       below = h.below;
-      read = record { at = r.at; part = r.part; begin = r.begin; sign = r.sign; named = subst (IsNamed ts x) r.end named; end = ap (λ (y : ℕ). y + 1) r.end };
+      read = record { at = r.at; subtree = r.subtree; begin = r.begin; sign = r.sign; named = subst (IsNamed ts x) r.end named; end = ap (λ (y : ℕ). y + 1) r.end };
     }) e
-move_fits ts from levels stack (places.ArrowParenthesis base start name) s b h e =
+move_fits ts from levels stack (states.ArrowParenthesis base start name) s b h e =
     arrow_parenthesis_fits ts from levels stack base start name s h.a b h.n h.below h.read e
-move_fits ts from levels stack (places.ArrowFirst base start name) s b h e = arrow_first_fits ts from levels stack base start name s h.a b h.n h.below h.read e
-move_fits ts from levels stack (places.ArrowSecond it) s b h e = arrow_second_fits ts from levels stack it s h.a b h.n h.below h.read e
-move_fits ts from levels stack (places.ClassName called) s b h e =
-    name_fits ts from levels stack (λ x. places.ClassPath called (path_of x)) s b
+move_fits ts from levels stack (states.ArrowFirst base start name) s b h e = arrow_first_fits ts from levels stack base start name s h.a b h.n h.below h.read e
+move_fits ts from levels stack (states.ArrowSecond it) s b h e = arrow_second_fits ts from levels stack it s h.a b h.n h.below h.read e
+move_fits ts from levels stack (states.ClassName called) s b h e =
+    name_fits ts from levels stack (λ x. states.ClassPath called (path_of x)) s b
     (λ x named few. record { a = h.a; n = h.n; below = h.below; read = record { from = b; call = h.read; path = path_one ts 2 x b (omega arith) named } }) e
-move_fits ts from levels stack (places.ClassPath called path) s b h e = class_path_fits ts from levels stack called path s h.a b h.n h.below h.read e
-move_fits ts from levels stack (places.ClassNext called path) s b h e =
-    name_fits ts from levels stack (λ x. places.ClassPath called (extended path x)) s b
+move_fits ts from levels stack (states.ClassPath called path) s b h e = class_path_fits ts from levels stack called path s h.a b h.n h.below h.read e
+move_fits ts from levels stack (states.ClassNext called path) s b h e =
+    name_fits ts from levels stack (λ x. states.ClassPath called (extended path x)) s b
     (λ x named few. let r = h.read in record {
       a = h.a;
       n = h.n;
@@ -117,35 +117,35 @@ no_tree at end tree e = absurd cc
 no_deep : {X : Type 0} (at end : ℕ) (tree : Expr) → Deep at ≡ Tree tree end → X
 no_deep at end tree e = absurd cc
 
-ended_sound : (ts : List Lexeme) (from levels at : ℕ) (stack : List Frame) (o : Outcome) (tree : Expr) (end : ℕ) → at ≤ length ts
+ended_sound : (ts : List Lexeme) (from levels at : ℕ) (stack : List Frame) (o : Action) (tree : Expr) (end : ℕ) → at ≤ length ts
     → OutcomeFits ts from levels at stack o → ended_by o at ≡ Tree tree end
     → Sound ts from levels at tree end
-ended_sound ts from levels at stack (outcomes.Whole one) tree end within h e = same_answer ts from levels at one tree end within h e
-ended_sound ts from levels at stack (outcomes.Read place) tree end within h e = no_tree at end tree e
-ended_sound ts from levels at stack outcomes.Refused tree end within h e = no_tree at end tree e
+ended_sound ts from levels at stack (actions.Whole one) tree end within h e = same_answer ts from levels at one tree end within h e
+ended_sound ts from levels at stack (actions.Read state) tree end within h e = no_tree at end tree e
+ended_sound ts from levels at stack actions.Refused tree end within h e = no_tree at end tree e
 
 -- the answer of the tokens behind one that was read
-abbrev continued : ℕ → List Lexeme → List Frame → ℕ → Outcome → Answer
-continued levels ls stack at (outcomes.Read next) = go_on levels stack next at (run levels ls stack next (at + 1))
-continued levels ls stack at (outcomes.Whole tree) = Tree tree at
-continued levels ls stack at outcomes.Refused = Stuck at
+abbrev continued : ℕ → List Lexeme → List Frame → ℕ → Action → Answer
+continued levels ls stack at (actions.Read next) = go_on levels stack next at (run levels ls stack next (at + 1))
+continued levels ls stack at (actions.Whole tree) = Tree tree at
+continued levels ls stack at actions.Refused = Stuck at
 
 room_by : (levels opened at end : ℕ) (b : Bool) (rest : Answer) (tree : Expr) → nat_lt levels opened ≡ b → (if b then Deep at else rest) ≡ Tree tree end
     → (opened ≤ levels) × (rest ≡ Tree tree end)
 room_by levels opened at end true rest tree test e = no_deep at end tree e
 room_by levels opened at end false rest tree test e = (grind (arith, nat_tests), e)
 
-continued_sound : (ts : List Lexeme) (from levels at : ℕ) (ls : List Lexeme) (stack : List Frame) (o : Outcome) (tree : Expr) (end : ℕ) → at ≤ length ts
+continued_sound : (ts : List Lexeme) (from levels at : ℕ) (ls : List Lexeme) (stack : List Frame) (o : Action) (tree : Expr) (end : ℕ) → at ≤ length ts
     → OutcomeFits ts from levels at stack o
-    → ((next : Place) → PlaceAt ts from levels stack next (at + 1) → run levels ls stack next (at + 1) ≡ Tree tree end → Sound ts from levels (at + 1) tree end)
+    → ((next : State) → StateAt ts from levels stack next (at + 1) → run levels ls stack next (at + 1) ≡ Tree tree end → Sound ts from levels (at + 1) tree end)
     → continued levels ls stack at o ≡ Tree tree end → Sound ts from levels at tree end
-continued_sound ts from levels at ls stack (outcomes.Whole one) tree end within h rest e = same_answer ts from levels at one tree end within h e
-continued_sound ts from levels at ls stack (outcomes.Read next) tree end within h rest e =
-    let r = room_by levels (open_levels stack + place_levels next) at end (nat_lt levels (open_levels stack + place_levels next))
+continued_sound ts from levels at ls stack (actions.Whole one) tree end within h rest e = same_answer ts from levels at one tree end within h e
+continued_sound ts from levels at ls stack (actions.Read next) tree end within h rest e =
+    let r = room_by levels (open_levels stack + state_levels next) at end (nat_lt levels (open_levels stack + state_levels next))
     (run levels ls stack next (at + 1)) tree refl e in
     let s = rest next (h r.0) r.1 in
     record { spelled = s.spelled; later = omega (arith, s.later); within = s.within }
-continued_sound ts from levels at ls stack outcomes.Refused tree end within h rest e = no_tree at end tree e
+continued_sound ts from levels at ls stack actions.Refused tree end within h rest e = no_tree at end tree e
 
 -- the first of the tokens that are left, and those behind it
 head_at : (ts : List Lexeme) (at : ℕ) (l : Lexeme) (ls : List Lexeme) → at + length (l ∷ ls) ≡ length ts → drop at ts ≡ l ∷ ls
@@ -157,26 +157,26 @@ head_at ts at l ls count e =
     let more : drop (at + 1) ts ≡ ls = cc in
     (slice_get-get_or ts at l inside ∙ ap Some first, more)
 
-run_sound : (ts : List Lexeme) (from levels : ℕ) (ls : List Lexeme) (stack : List Frame) (place : Place) (at : ℕ) (tree : Expr) (end : ℕ) → drop at ts ≡ ls
+run_sound : (ts : List Lexeme) (from levels : ℕ) (ls : List Lexeme) (stack : List Frame) (state : State) (at : ℕ) (tree : Expr) (end : ℕ) → drop at ts ≡ ls
     → at + length ls ≡ length ts
-    → PlaceAt ts from levels stack place at → run levels ls stack place at ≡ Tree tree end → Sound ts from levels at tree end
+    → StateAt ts from levels stack state at → run levels ls stack state at ≡ Tree tree end → Sound ts from levels at tree end
 unfolding run
-run_sound ts from levels [] stack place at tree end left count h e =
+run_sound ts from levels [] stack state at tree end left count h e =
     let none : slice_get ts at ≡ None = slice_get_past ts at (omega (arith, count)) in
-    let mv : Move = move stack place symbols.Other nowhere in
-    let fits : Fits ts from levels at mv = subst (λ (s : Span). Fits ts from levels at (move stack place symbols.Other s)) (nowhere_is ts at none)
-    (move_fits ts from levels stack place symbols.Other at h tt) in
-    ended_sound ts from levels at mv.stack mv.outcome tree end (omega (arith, count)) fits e
-run_sound ts from levels (l ∷ ls) stack place at tree end left count h e =
+    let mv : Move = move stack state symbols.Other nowhere in
+    let fits : Fits ts from levels at mv = subst (λ (s : Span). Fits ts from levels at (move stack state symbols.Other s)) (nowhere_is ts at none)
+    (move_fits ts from levels stack state symbols.Other at h tt) in
+    ended_sound ts from levels at mv.stack mv.action tree end (omega (arith, count)) fits e
+run_sound ts from levels (l ∷ ls) stack state at tree end left count h e =
     let first = head_at ts at l ls count left in
-    let mv : Move = move stack place (symbol_of l) l.token.span in
-    let fits : Fits ts from levels at mv = subst (λ (s : Span). Fits ts from levels at (move stack place (symbol_of l) s)) (here_is ts at l first.0)
-    (move_fits ts from levels stack place (symbol_of l) at h (is_at ts at l (symbol_of l) first.0 (tested l))) in
-    continued_sound ts from levels at ls mv.stack mv.outcome tree end (omega (arith, count)) fits
+    let mv : Move = move stack state (symbol_of l) l.token.span in
+    let fits : Fits ts from levels at mv = subst (λ (s : Span). Fits ts from levels at (move stack state (symbol_of l) s)) (here_is ts at l first.0)
+    (move_fits ts from levels stack state (symbol_of l) at h (is_at ts at l (symbol_of l) first.0 (tested l))) in
+    continued_sound ts from levels at ls mv.stack mv.action tree end (omega (arith, count)) fits
     (λ next there rest. run_sound ts from levels ls mv.stack next (at + 1) tree end first.1 (omega (arith, count)) there rest) e
 
 pub answer_sound : (ts : List Lexeme) (levels from : ℕ) (tree : Expr) (end : ℕ) → from ≤ length ts → answer ts levels from ≡ Tree tree end
     → Sound ts from levels from tree end
 unfolding answer
 answer_sound ts levels from tree end within e =
-    run_sound ts from levels (drop from ts) [] places.Operand from tree end refl (omega (arith, length-drop from ts, within)) (levels, (refl, refl)) e
+    run_sound ts from levels (drop from ts) [] states.Operand from tree end refl (omega (arith, length-drop from ts, within)) (levels, (refl, refl)) e

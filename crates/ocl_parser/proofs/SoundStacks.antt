@@ -1,4 +1,4 @@
--- What the open constructs and the places say was read: each names the tokens that spell what it holds.
+-- What the open constructs and the states say was read: each names the tokens that spell what it holds.
 use Rattle.std.proofs.Common.{◌≡◌, ℕ, ◌+◌, ◌<◌, ◌≤◌, Bool, true, false, List, [], ◌∷◌, length, Option, Some}
 use Rattle.std.specs.Prelude.{codes}
 use Rattle.mof_metamodel.specs.declared.span.Span.{Span}
@@ -8,20 +8,20 @@ use Rattle.qv_syntax.specs.declared.name.Path.{Path}
 use Rattle.qv_syntax.specs.declared.operator.Operator.{Operator}
 use Rattle.qv_syntax.specs.declared.type_tree.TypeTree.{TypeTree}
 use Rattle.qv_syntax.specs.declared.expr.Expr.{Expr}
-use Rattle.qv_syntax.specs.declared.expr.Link.{Link}
+use Rattle.qv_syntax.specs.declared.expr.Infix.{Infix}
 use Rattle.qv_syntax.specs.Operators.{level_of}
 use Rattle.ocl_parser.specs.Pieces.{stands, is_sign, is_word, is_name, start_of, end_of, span_at}
-use Rattle.ocl_parser.specs.Grammar.{names, type_of, binding, spelled, spelled_links, spelled_steps, spelled_list, are_of_level, is_operator, kind_word, bound, declared_variable, takes_class}
-use Rattle.ocl_parser.specs.declared.frame.Part.{Part}
+use Rattle.ocl_parser.specs.Grammar.{names, type_of, binding, spelled, spelled_infixes, spelled_postfixes, spelled_list, are_of_level, is_operator, kind_word, bound, declared_variable, takes_class}
+use Rattle.ocl_parser.specs.declared.frame.Subtree.{Subtree}
 use Rattle.ocl_parser.specs.declared.frame.Base.{Base}
 use Rattle.ocl_parser.specs.declared.frame.Before.{Before}
 use Rattle.ocl_parser.specs.declared.frame.Before.TheVariants as before
-use Rattle.ocl_parser.specs.declared.frame.Called.{Called}
+use Rattle.ocl_parser.specs.declared.frame.CallHead.{CallHead}
 use Rattle.ocl_parser.specs.declared.frame.Iterated.{Iterated}
 use Rattle.ocl_parser.specs.declared.frame.Frame.{Frame}
 use Rattle.ocl_parser.specs.declared.frame.Frame.TheVariants as frames
-use Rattle.ocl_parser.specs.declared.place.Place.{Place}
-use Rattle.ocl_parser.specs.declared.place.Place.TheVariants as places
+use Rattle.ocl_parser.specs.declared.state.State.{State}
+use Rattle.ocl_parser.specs.declared.state.State.TheVariants as states
 use Rattle.qv_syntax.specs.declared.type_tree.Kind.{Kind}
 
 -- ---- parts of expressions, from the token of number a up to that of number b, with m levels left
@@ -39,21 +39,21 @@ IsWord ts text at = stands (is_word text) ts at ≡ true
 abbrev pub IsNamed : List Lexeme → Name → ℕ → Type 0
 IsNamed ts name at = stands (is_name name) ts at ≡ true
 
-pub record PartAt (ts : List Lexeme) (m : ℕ) (part : Part) (a b : ℕ) : Type 0 where
-  pub whole : spelled ts m part.tree a ≡ Some b
-  pub span : part.span ≡ span_at ts a b
+pub record PartAt (ts : List Lexeme) (m : ℕ) (subtree : Subtree) (a b : ℕ) : Type 0 where
+  pub whole : spelled ts m subtree.tree a ≡ Some b
+  pub span : subtree.span ≡ span_at ts a b
 
 pub record BaseAt (ts : List Lexeme) (m : ℕ) (base : Base) (a b : ℕ) : Type 0 where
   pub middle : ℕ
   pub first : spelled ts m base.of a ≡ Some middle
   pub tight : 10 ≤ binding ts base.of
-  pub calls : spelled_steps ts m base.steps middle ≡ Some b
+  pub calls : spelled_postfixes ts m base.steps middle ≡ Some b
   pub span : base.span ≡ span_at ts a b
 
 -- a part, a sign and a name
 pub record StepAt (ts : List Lexeme) (m : ℕ) (text : List ℕ) (base : Base) (start : ℕ) (name : Name) (a b : ℕ) : Type 0 where
   pub at : ℕ
-  pub part : BaseAt ts m base a at
+  pub subtree : BaseAt ts m base a at
   pub begin : start ≡ start_of ts at
   pub sign : IsSign ts text at
   pub named : IsNamed ts name (at + 1)
@@ -64,7 +64,7 @@ BeforeAt ts m before.Nothing name a b = IsNamed ts name a × (b ≡ a + 1)
 BeforeAt ts m (before.Dot base start) name a b = StepAt ts m (codes ".") base start name a b
 BeforeAt ts m (before.Arrow base start) name a b = StepAt ts m (codes "->") base start name a b
 
-abbrev pub CalledAt : List Lexeme → ℕ → Called → ℕ → ℕ → Type 0
+abbrev pub CalledAt : List Lexeme → ℕ → CallHead → ℕ → ℕ → Type 0
 CalledAt ts m called a b = BeforeAt ts m called.before called.name a b
 
 -- an iterator up to its variable
@@ -108,14 +108,14 @@ pub record OpensAt (ts : List Lexeme) (passes : Lexeme → Bool) (start n m a : 
   pub begin : start ≡ start_of ts a
   pub token : stands passes ts a ≡ true
 
-pub record RowAt (ts : List Lexeme) (first : Part) (rest : List Link) (operator : Operator) (n m a b : ℕ) : Type 0 where
+pub record RowAt (ts : List Lexeme) (first : Subtree) (rest : List Infix) (operator : Operator) (n m a b : ℕ) : Type 0 where
   pub level : n ≡ m
   pub begin : first.span.start ≡ start_of ts a
   pub second : ℕ
   pub at : ℕ
-  pub part : spelled ts m first.tree a ≡ Some second
+  pub subtree : spelled ts m first.tree a ≡ Some second
   pub tight : level_of operator < binding ts first.tree
-  pub links : spelled_links ts m rest second ≡ Some at
+  pub infixes : spelled_infixes ts m rest second ≡ Some at
   pub even : are_of_level ts (level_of operator) rest ≡ true
   pub sign : stands (is_operator operator) ts at ≡ true
   pub end : b ≡ at + 1
@@ -124,13 +124,13 @@ pub record InAt (ts : List Lexeme) (name : Name) (ty : TypeTree) (value : Expr) 
   pub from : ℕ
   pub to : ℕ
   pub head : bound ts name ty m (a + 1) ≡ Some from
-  pub part : spelled ts m value from ≡ Some to
+  pub subtree : spelled ts m value from ≡ Some to
   pub word : IsWord ts (codes "in") to
   pub end : b ≡ to + 1
 
 pub record ThenAt (ts : List Lexeme) (condition : Expr) (m a b : ℕ) : Type 0 where
   pub at : ℕ
-  pub part : spelled ts m condition (a + 1) ≡ Some at
+  pub subtree : spelled ts m condition (a + 1) ≡ Some at
   pub word : IsWord ts (codes "then") at
   pub end : b ≡ at + 1
 
@@ -138,11 +138,11 @@ pub record ElseAt (ts : List Lexeme) (condition one : Expr) (m a b : ℕ) : Type
   pub from : ℕ
   pub at : ℕ
   pub before : ThenAt ts condition m a from
-  pub part : spelled ts m one from ≡ Some at
+  pub subtree : spelled ts m one from ≡ Some at
   pub word : IsWord ts (codes "else") at
   pub end : b ≡ at + 1
 
-pub record ArgumentsAt (ts : List Lexeme) (called : Called) (values : List Expr) (n m a b : ℕ) : Type 0 where
+pub record ArgumentsAt (ts : List Lexeme) (called : CallHead) (values : List Expr) (n m a b : ℕ) : Type 0 where
   pub level : n ≡ m + 1
   pub at : ℕ
   pub call : CalledAt ts n called a at
@@ -212,7 +212,7 @@ abbrev pub Holds : List Lexeme → ℕ → ℕ → List Frame → ℕ → ℕ �
 Holds ts from levels [] b m = (b ≡ from) × (m ≡ levels)
 Holds ts from levels (frame ∷ stack) b m = OnTop (Holds ts from levels stack) (λ a n. FrameAt ts frame n m a b) (floor stack ≤ frame_binding frame)
 
--- ---- places
+-- ---- states
 
 pub record Standing (ts : List Lexeme) (from levels : ℕ) (stack : List Frame) (Read : ℕ → ℕ → Type 0) : Type 0 where
   pub a : ℕ
@@ -229,7 +229,7 @@ pub record LetAt (ts : List Lexeme) (stack : List Frame) (start n a : ℕ) : Typ
 abbrev pub KindAt : List Lexeme → Kind → ℕ → ℕ → ℕ → Type 0
 KindAt ts kind start a b = (start ≡ start_of ts a) × IsWord ts (kind_word kind) a × (b ≡ a + 1)
 
-pub record CallOpenAt (ts : List Lexeme) (called : Called) (n a b : ℕ) : Type 0 where
+pub record CallOpenAt (ts : List Lexeme) (called : CallHead) (n a b : ℕ) : Type 0 where
   pub m : ℕ
   pub level : n ≡ m + 1
   pub at : ℕ
@@ -238,7 +238,7 @@ pub record CallOpenAt (ts : List Lexeme) (called : Called) (n a b : ℕ) : Type 
   pub end : b ≡ at + 1
 
 -- a call whose argument is a class
-pub record ClassOpenAt (ts : List Lexeme) (called : Called) (n a b : ℕ) : Type 0 where
+pub record ClassOpenAt (ts : List Lexeme) (called : CallHead) (n a b : ℕ) : Type 0 where
   pub call : CallOpenAt ts called n a b
   pub class : takes_class called.name.text ≡ true
 
@@ -249,38 +249,38 @@ pub record IteratorAt (ts : List Lexeme) (it : Iterated) (n a b : ℕ) : Type 0 
 
 pub record DotNameAt (ts : List Lexeme) (text : List ℕ) (base : Base) (start n a b : ℕ) : Type 0 where
   pub at : ℕ
-  pub part : BaseAt ts n base a at
+  pub subtree : BaseAt ts n base a at
   pub begin : start ≡ start_of ts at
   pub sign : IsSign ts text at
   pub end : b ≡ at + 1
 
-pub record ClassPathAt (ts : List Lexeme) (called : Called) (Path : ℕ → Type 0) (n a : ℕ) : Type 0 where
+pub record ClassPathAt (ts : List Lexeme) (called : CallHead) (Path : ℕ → Type 0) (n a : ℕ) : Type 0 where
   pub from : ℕ
   pub call : ClassOpenAt ts called n a from
   pub path : Path from
 
 -- what was read up to the token of number b
-abbrev pub PlaceAt : List Lexeme → ℕ → ℕ → List Frame → Place → ℕ → Type 0
-PlaceAt ts from levels stack places.Operand b = (n : ℕ) × Holds ts from levels stack b n
-PlaceAt ts from levels stack (places.After base) b = Standing ts from levels stack (λ a n. BaseAt ts n base a b)
-PlaceAt ts from levels stack (places.Path path) b = Standing ts from levels stack (λ a n. PathAt ts 3 path a b)
-PlaceAt ts from levels stack (places.PathName path) b = Standing ts from levels stack (λ a n. LongerPathAt ts 3 path a b)
-PlaceAt ts from levels stack (places.LetName start) b = Standing ts from levels stack (λ a n. LetAt ts stack start n a × (b ≡ a + 1))
-PlaceAt ts from levels stack (places.LetColon start name) b =
+abbrev pub StateAt : List Lexeme → ℕ → ℕ → List Frame → State → ℕ → Type 0
+StateAt ts from levels stack states.Operand b = (n : ℕ) × Holds ts from levels stack b n
+StateAt ts from levels stack (states.After base) b = Standing ts from levels stack (λ a n. BaseAt ts n base a b)
+StateAt ts from levels stack (states.Path path) b = Standing ts from levels stack (λ a n. PathAt ts 3 path a b)
+StateAt ts from levels stack (states.PathName path) b = Standing ts from levels stack (λ a n. LongerPathAt ts 3 path a b)
+StateAt ts from levels stack (states.LetName start) b = Standing ts from levels stack (λ a n. LetAt ts stack start n a × (b ≡ a + 1))
+StateAt ts from levels stack (states.LetColon start name) b =
     Standing ts from levels stack (λ a n. LetAt ts stack start n a × IsNamed ts name (a + 1) × (b ≡ a + 1 + 1))
-PlaceAt ts from levels stack places.Type b = (n : ℕ) × Holds ts from levels stack b n
-PlaceAt ts from levels stack (places.TypeParenthesis start kind) b = Standing ts from levels stack (λ a n. KindAt ts kind start a b)
-PlaceAt ts from levels stack (places.TypePath path) b = Standing ts from levels stack (λ a n. PathAt ts 2 path a b)
-PlaceAt ts from levels stack (places.TypeName path) b = Standing ts from levels stack (λ a n. LongerPathAt ts 2 path a b)
-PlaceAt ts from levels stack (places.TypeEnd ty) b = Standing ts from levels stack (λ a n. type_of ts ty n a ≡ Some b)
-PlaceAt ts from levels stack (places.Brace start kind) b = Standing ts from levels stack (λ a n. KindAt ts kind start a b)
-PlaceAt ts from levels stack (places.DotName base start) b = Standing ts from levels stack (λ a n. DotNameAt ts (codes ".") base start n a b)
-PlaceAt ts from levels stack (places.Dotted base start name) b = Standing ts from levels stack (λ a n. StepAt ts n (codes ".") base start name a b)
-PlaceAt ts from levels stack (places.ArrowName base start) b = Standing ts from levels stack (λ a n. DotNameAt ts (codes "->") base start n a b)
-PlaceAt ts from levels stack (places.ArrowParenthesis base start name) b = Standing ts from levels stack (λ a n. StepAt ts n (codes "->") base start name a b)
-PlaceAt ts from levels stack (places.ArrowFirst base start name) b =
+StateAt ts from levels stack states.Type b = (n : ℕ) × Holds ts from levels stack b n
+StateAt ts from levels stack (states.TypeParenthesis start kind) b = Standing ts from levels stack (λ a n. KindAt ts kind start a b)
+StateAt ts from levels stack (states.TypePath path) b = Standing ts from levels stack (λ a n. PathAt ts 2 path a b)
+StateAt ts from levels stack (states.TypeName path) b = Standing ts from levels stack (λ a n. LongerPathAt ts 2 path a b)
+StateAt ts from levels stack (states.TypeEnd ty) b = Standing ts from levels stack (λ a n. type_of ts ty n a ≡ Some b)
+StateAt ts from levels stack (states.Brace start kind) b = Standing ts from levels stack (λ a n. KindAt ts kind start a b)
+StateAt ts from levels stack (states.DotName base start) b = Standing ts from levels stack (λ a n. DotNameAt ts (codes ".") base start n a b)
+StateAt ts from levels stack (states.Dotted base start name) b = Standing ts from levels stack (λ a n. StepAt ts n (codes ".") base start name a b)
+StateAt ts from levels stack (states.ArrowName base start) b = Standing ts from levels stack (λ a n. DotNameAt ts (codes "->") base start n a b)
+StateAt ts from levels stack (states.ArrowParenthesis base start name) b = Standing ts from levels stack (λ a n. StepAt ts n (codes "->") base start name a b)
+StateAt ts from levels stack (states.ArrowFirst base start name) b =
     Standing ts from levels stack (λ a n. CallOpenAt ts (record { before = before.Arrow base start; name = name }) n a b)
-PlaceAt ts from levels stack (places.ArrowSecond it) b = Standing ts from levels stack (λ a n. IteratorAt ts it n a b)
-PlaceAt ts from levels stack (places.ClassName called) b = Standing ts from levels stack (λ a n. ClassOpenAt ts called n a b)
-PlaceAt ts from levels stack (places.ClassPath called path) b = Standing ts from levels stack (λ a n. ClassPathAt ts called (λ from. PathAt ts 2 path from b) n a)
-PlaceAt ts from levels stack (places.ClassNext called path) b = Standing ts from levels stack (λ a n. ClassPathAt ts called (λ from. LongerPathAt ts 2 path from b) n a)
+StateAt ts from levels stack (states.ArrowSecond it) b = Standing ts from levels stack (λ a n. IteratorAt ts it n a b)
+StateAt ts from levels stack (states.ClassName called) b = Standing ts from levels stack (λ a n. ClassOpenAt ts called n a b)
+StateAt ts from levels stack (states.ClassPath called path) b = Standing ts from levels stack (λ a n. ClassPathAt ts called (λ from. PathAt ts 2 path from b) n a)
+StateAt ts from levels stack (states.ClassNext called path) b = Standing ts from levels stack (λ a n. ClassPathAt ts called (λ from. LongerPathAt ts 2 path from b) n a)

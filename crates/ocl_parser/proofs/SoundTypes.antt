@@ -11,7 +11,7 @@ use Rattle.qv_syntax.specs.declared.type_tree.TypeTree.{TypeTree}
 use Rattle.qv_syntax.specs.declared.type_tree.TypeTree.TheVariants as types
 use Rattle.ocl_parser.specs.Pieces.{end_of}
 use Rattle.ocl_parser.specs.Grammar.{type_of}
-use Rattle.ocl_parser.specs.Moves.{from_to, plain_type, type_begin, type_end, type_path, on_name, on_colon, on_brace, on_type_parenthesis, open_levels, place_levels}
+use Rattle.ocl_parser.specs.Moves.{from_to, plain_type, type_begin, type_end, type_path, on_name, on_colon, on_brace, on_type_parenthesis, open_levels, state_levels}
 use Rattle.ocl_parser.specs.declared.symbol.Symbol.{Symbol}
 use Rattle.ocl_parser.specs.declared.symbol.Symbol.TheVariants as symbols
 use Rattle.ocl_parser.specs.declared.symbol.PlainType.{PlainType}
@@ -19,11 +19,11 @@ use Rattle.ocl_parser.specs.declared.symbol.PlainType.TheVariants as plain
 use Rattle.ocl_parser.specs.declared.frame.Iterated.{Iterated}
 use Rattle.ocl_parser.specs.declared.frame.Frame.{Frame}
 use Rattle.ocl_parser.specs.declared.frame.Frame.TheVariants as frames
-use Rattle.ocl_parser.specs.declared.place.Place.{Place}
+use Rattle.ocl_parser.specs.declared.state.State.{State}
 use Rattle.ocl_parser.proofs.TypeLaws.{type_str, type_int, type_bool, type_named, type_coll}
 use Rattle.ocl_parser.proofs.HeadLaws.{bound_spelled, typed_spelled, variable_spelled}
-use Rattle.ocl_parser.proofs.SoundStacks.{here, IsNamed, IsSign, LetAt, KindAt, PathAt, Holds, PlaceAt}
-use Rattle.ocl_parser.proofs.SoundSettled.{floor_most, span_to, chosen}
+use Rattle.ocl_parser.proofs.SoundStacks.{here, IsNamed, IsSign, LetAt, KindAt, PathAt, Holds, StateAt}
+use Rattle.ocl_parser.proofs.SoundReduced.{floor_most, span_to, chosen}
 use Rattle.ocl_parser.proofs.SoundParts.{path_one}
 use Rattle.ocl_parser.proofs.SoundOperands.{one_span, path_spelled, few}
 use Rattle.ocl_parser.proofs.SoundMoves.{Fits, IsAt, room}
@@ -153,9 +153,9 @@ type_path_fits ts from levels stack p s a b n h r e = path_ends ts from levels s
 
 -- ---- a name
 
--- where a name is read, and the next place holds what it holds with the name
-pub name_fits : (ts : List Lexeme) (from levels : ℕ) (stack : List Frame) (next : Name → Place) (s : Symbol) (b : ℕ)
-    → ((name : Name) → IsNamed ts name b → open_levels stack + place_levels (next name) ≤ levels → PlaceAt ts from levels stack (next name) (b + 1)) → IsAt ts b s
+-- where a name is read, and the next state holds what it holds with the name
+pub name_fits : (ts : List Lexeme) (from levels : ℕ) (stack : List Frame) (next : Name → State) (s : Symbol) (b : ℕ)
+    → ((name : Name) → IsNamed ts name b → open_levels stack + state_levels (next name) ≤ levels → StateAt ts from levels stack (next name) (b + 1)) → IsAt ts b s
     → Fits ts from levels b (on_name stack next s)
 name_fits ts from levels stack next (symbols.Name name) b holds e = holds name e
 name_fits ts from levels stack next s b holds e = tt

@@ -1,32 +1,33 @@
 -- What the parser answers, and its steps, as they are stated of the code.
 use Rattle.std.specs.Prelude.{◌≡◌, ℕ, ◌+◌, ◌==◌, nat_le, Bool, true, false, List, drop, slice_get, Option, Some, None, Result, Ok, Err}
 use Rattle.std.specs.Option.{option_map_or}
+use Rattle.mof_metamodel.specs.declared.limits.TheConstants.{MAX_NESTING}
 use Rattle.ql_lex.specs.Lexed.{Lexeme, LexedText}
 use Rattle.qv_syntax.specs.declared.expr.Expr.{Expr}
 use Rattle.qv_syntax.specs.declared.expr.Expr.TheVariants as exprs
 use Rattle.qv_syntax.specs.Operators.{level_of}
 use Rattle.ocl_parser.specs.Symbols.{symbol_of}
-use Rattle.ocl_parser.specs.Moves.{Move, Settled, chained, from_to}
+use Rattle.ocl_parser.specs.Moves.{Move, Reduced, chained, from_to}
 use Rattle.ocl_parser.specs.Beginnings.{IsTree, IsStuck, IsDeep}
 use Rattle.ocl_parser.specs.Runs.{Answer, go_on, run, Tree, Stuck, Deep, nowhere}
 use Rattle.ocl_parser.specs.declared.error.ParseError.{ParseError}
 use Rattle.ocl_parser.specs.declared.error.ParseError.TheVariants as errors
 use Rattle.ocl_parser.specs.declared.symbol.Symbol.TheVariants as symbols
 use Rattle.ocl_parser.specs.declared.symbol.Terminal.{Terminal}
-use Rattle.ocl_parser.specs.declared.frame.Part.{Part}
+use Rattle.ocl_parser.specs.declared.frame.Subtree.{Subtree}
 use Rattle.ocl_parser.specs.declared.frame.Frame.{Frame}
 use Rattle.ocl_parser.specs.declared.frame.Frame.TheVariants as frames
-use Rattle.ocl_parser.specs.declared.place.Place.{Place}
-use Rattle.ocl_parser.specs.declared.place.Outcome.{Outcome}
-use Rattle.ocl_parser.specs.declared.place.Outcome.TheVariants as outcomes
+use Rattle.ocl_parser.specs.declared.state.State.{State}
+use Rattle.ocl_parser.specs.declared.state.Action.{Action}
+use Rattle.ocl_parser.specs.declared.state.Action.TheVariants as actions
 
--- the stack and the outcome that a step left
-abbrev pub made : List Frame → Outcome → Move
-made stack outcome = record { stack = stack; outcome = outcome }
+-- the stack and the action that a move left
+abbrev pub made : List Frame → Action → Move
+made stack action = record { stack = stack; action = action }
 
 -- the stack and the part that are left
-abbrev pub left : List Frame → Part → Settled
-left stack part = record { stack = stack; part = part }
+abbrev pub left : List Frame → Subtree → Reduced
+left stack subtree = record { stack = stack; subtree = subtree }
 
 -- the symbol that a token is, and where it stands; nothing stands behind the last one
 abbrev pub terminal_of : Option Lexeme → Terminal
@@ -42,12 +43,12 @@ ends level (frames.In start name ty value) = level == 0
 ends level frame = false
 
 -- the construct with its last part
-abbrev pub wrapped : Frame → Part → Part
-wrapped (frames.Not start) part = record { tree = exprs.Not part.tree (from_to start part.span.end); span = from_to start part.span.end }
-wrapped (frames.Negated start) part = record { tree = exprs.Negated part.tree (from_to start part.span.end); span = from_to start part.span.end }
-wrapped (frames.Row first rest operator) part = chained first rest operator part
-wrapped (frames.In start name ty value) part = record { tree = exprs.Let name ty value part.tree (from_to start part.span.end); span = from_to start part.span.end }
-wrapped frame part = part
+abbrev pub wrapped : Frame → Subtree → Subtree
+wrapped (frames.Not start) subtree = record { tree = exprs.Not subtree.tree (from_to start subtree.span.end); span = from_to start subtree.span.end }
+wrapped (frames.Negated start) subtree = record { tree = exprs.Negated subtree.tree (from_to start subtree.span.end); span = from_to start subtree.span.end }
+wrapped (frames.Row first rest operator) subtree = chained first rest operator subtree
+wrapped (frames.In start name ty value) subtree = record { tree = exprs.Let name ty value subtree.tree (from_to start subtree.span.end); span = from_to start subtree.span.end }
+wrapped frame subtree = subtree
 
 -- where the token of this number begins, or the text ends
 abbrev pub place_of : LexedText → ℕ → ℕ
@@ -58,23 +59,27 @@ result_of text (Tree tree end) = Ok (tree, end)
 result_of text (Stuck at) = Err (errors.Parse (place_of text at))
 result_of text (Deep at) = Err (errors.Limit (place_of text at))
 
--- what was answered is this, unless memory could not be had
+-- this is answered, unless memory could not be had
+abbrev pub IsAnswered : Result (Expr × ℕ) ParseError → Result (Expr × ℕ) ParseError → Type 0
+IsAnswered expected (Err errors.NoMemory) = Unit {0}
+IsAnswered expected result = expected ≡ result
+
+-- the same of what the automaton answers
 abbrev pub Answers : LexedText → Answer → Result (Expr × ℕ) ParseError → Type 0
-Answers text expected (Err errors.NoMemory) = Unit {0}
-Answers text expected result = result_of text expected ≡ result
+Answers text expected result = IsAnswered (result_of text expected) result
 
 -- the answer by what the token of this number made
 abbrev pub step_answer : ℕ → List Lexeme → ℕ → Move → Answer
-step_answer levels behind at m = elim m.outcome [
-  | outcomes.Read next ↦ go_on levels m.stack next at (run levels behind m.stack next (at + 1))
-  | outcomes.Whole tree ↦ Tree tree at
-  | outcomes.Refused ↦ Stuck at
+step_answer levels behind at m = elim m.action [
+  | actions.Read next ↦ go_on levels m.stack next at (run levels behind m.stack next (at + 1))
+  | actions.Whole tree ↦ Tree tree at
+  | actions.Refused ↦ Stuck at
 ]
 
 -- the token before this number was read, and what stands from there on has the answer, or this is the answer
-abbrev pub Passed : LexedText → ℕ → List Frame → Place → Answer → Option (Result (Expr × ℕ) ParseError) → Type 0
-Passed text at stack place expected None = run 128 (drop at text.lexemes) stack place at ≡ expected
-Passed text at stack place expected (Some result) = Answers text expected result
+abbrev pub Passed : LexedText → ℕ → List Frame → State → Answer → Option (Result (Expr × ℕ) ParseError) → Type 0
+Passed text at stack state expected None = run MAX_NESTING (drop at text.lexemes) stack state at ≡ expected
+Passed text at stack state expected (Some result) = Answers text expected result
 
 -- What is answered is what stands: the longest list of tokens with which an expression begins is one, or is none, or nests
 -- too deep; unless memory could not be had.

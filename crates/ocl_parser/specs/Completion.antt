@@ -5,36 +5,36 @@ use Rattle.ql_lex.specs.declared.token.TokenKind.TheVariants as kinds
 use Rattle.ql_lex.specs.Lexed.{Lexeme}
 use Rattle.qv_syntax.specs.declared.expr.Expr.{Expr}
 use Rattle.ocl_parser.specs.Symbols.{symbol_of}
-use Rattle.ocl_parser.specs.Moves.{move, open_levels, place_levels}
+use Rattle.ocl_parser.specs.Moves.{move, open_levels, state_levels}
 use Rattle.ocl_parser.specs.Runs.{Tree, run, nowhere}
 use Rattle.ocl_parser.specs.declared.frame.Frame.{Frame}
 use Rattle.ocl_parser.specs.declared.frame.Frame.TheVariants as frames
-use Rattle.ocl_parser.specs.declared.place.Place.{Place}
-use Rattle.ocl_parser.specs.declared.place.Place.TheVariants as places
-use Rattle.ocl_parser.specs.declared.place.Outcome.TheVariants as outcomes
+use Rattle.ocl_parser.specs.declared.state.State.{State}
+use Rattle.ocl_parser.specs.declared.state.State.TheVariants as states
+use Rattle.ocl_parser.specs.declared.state.Action.TheVariants as actions
 
 -- ---- what was read
 
 -- the open constructs, and what may come next
 pub record Reading : Type 0 where
   pub stack : List Frame
-  pub place : Place
+  pub state : State
 
 -- what all these tokens, behind what was read before them, make of it, if all are read
-unfoldable pub reads : ℕ → List Lexeme → List Frame → Place → Option Reading
-reads levels [] stack place = Some (record { stack = stack; place = place })
-reads levels (l ∷ ls) stack place = elim (move stack place (symbol_of l) l.token.span).outcome [
-  | outcomes.Read next ↦ if nat_lt levels (open_levels (move stack place (symbol_of l) l.token.span).stack + place_levels next) then None
-      else reads levels ls (move stack place (symbol_of l) l.token.span).stack next
-  | outcomes.Whole tree ↦ None
-  | outcomes.Refused ↦ None
+unfoldable pub reads : ℕ → List Lexeme → List Frame → State → Option Reading
+reads levels [] stack state = Some (record { stack = stack; state = state })
+reads levels (l ∷ ls) stack state = elim (move stack state (symbol_of l) l.token.span).action [
+  | actions.Read next ↦ if nat_lt levels (open_levels (move stack state (symbol_of l) l.token.span).stack + state_levels next) then None
+      else reads levels ls (move stack state (symbol_of l) l.token.span).stack next
+  | actions.Whole tree ↦ None
+  | actions.Refused ↦ None
 ]
 
 -- the tokens before number k are read from the one of number `from` on
 abbrev pub Reaches : List Lexeme → ℕ → ℕ → ℕ → Reading → Type 0
-Reaches ts levels from k reading = reads levels (drop from (take k ts)) [] places.Operand ≡ Some reading
+Reaches ts levels from k reading = reads levels (drop from (take k ts)) [] states.Operand ≡ Some reading
 
--- ---- which constructs stand below which place
+-- ---- which constructs stand below which state
 
 -- a construct in which expressions are read
 abbrev pub holds_expressions : Frame → Bool
@@ -55,13 +55,13 @@ is_type (frames.VariableType it ∷ stack) = are_expressions stack
 is_type (frames.OfKind start kind ∷ stack) = is_type stack
 is_type (frame ∷ stack) = false
 
-abbrev pub is_open : List Frame → Place → Bool
-is_open stack places.Type = is_type stack
-is_open stack (places.TypeParenthesis start kind) = is_type stack
-is_open stack (places.TypePath path) = is_type stack
-is_open stack (places.TypeName path) = is_type stack
-is_open stack (places.TypeEnd ty) = is_type stack
-is_open stack place = are_expressions stack
+abbrev pub is_open : List Frame → State → Bool
+is_open stack states.Type = is_type stack
+is_open stack (states.TypeParenthesis start kind) = is_type stack
+is_open stack (states.TypePath path) = is_type stack
+is_open stack (states.TypeName path) = is_type stack
+is_open stack (states.TypeEnd ty) = is_type stack
+is_open stack state = are_expressions stack
 
 -- ---- what ends it
 
@@ -106,46 +106,46 @@ closing (frames.OfKind start kind ∷ stack) = closes ∷ closing stack
 abbrev pub let_head : List Lexeme
 let_head = mark (codes ":") ∷ reserved (codes "String") ∷ mark (codes "=") ∷ null ∷ reserved (codes "in") ∷ null ∷ []
 
--- what ends an operand or a type at this place
-abbrev pub ending : Place → List Lexeme
-ending places.Operand = null ∷ []
-ending (places.After base) = []
-ending (places.Path path) = []
-ending (places.PathName path) = some_name ∷ []
-ending (places.LetName start) = some_name ∷ let_head
-ending (places.LetColon start name) = let_head
-ending places.Type = reserved (codes "String") ∷ []
-ending (places.TypeParenthesis start kind) = mark (codes "(") ∷ reserved (codes "String") ∷ closes ∷ []
-ending (places.TypePath path) = []
-ending (places.TypeName path) = some_name ∷ []
-ending (places.TypeEnd ty) = []
-ending (places.Brace start kind) = mark (codes "{") ∷ mark (codes "}") ∷ []
-ending (places.DotName base start) = some_name ∷ []
-ending (places.Dotted base start name) = []
-ending (places.ArrowName base start) = some_name ∷ mark (codes "(") ∷ some_name ∷ closes ∷ []
-ending (places.ArrowParenthesis base start name) = mark (codes "(") ∷ some_name ∷ closes ∷ []
-ending (places.ArrowFirst base start name) = some_name ∷ closes ∷ []
-ending (places.ArrowSecond it) = closes ∷ []
-ending (places.ClassName called) = some_name ∷ closes ∷ []
-ending (places.ClassPath called path) = closes ∷ []
-ending (places.ClassNext called path) = some_name ∷ closes ∷ []
+-- what ends an operand or a type in this state
+abbrev pub ending : State → List Lexeme
+ending states.Operand = null ∷ []
+ending (states.After base) = []
+ending (states.Path path) = []
+ending (states.PathName path) = some_name ∷ []
+ending (states.LetName start) = some_name ∷ let_head
+ending (states.LetColon start name) = let_head
+ending states.Type = reserved (codes "String") ∷ []
+ending (states.TypeParenthesis start kind) = mark (codes "(") ∷ reserved (codes "String") ∷ closes ∷ []
+ending (states.TypePath path) = []
+ending (states.TypeName path) = some_name ∷ []
+ending (states.TypeEnd ty) = []
+ending (states.Brace start kind) = mark (codes "{") ∷ mark (codes "}") ∷ []
+ending (states.DotName base start) = some_name ∷ []
+ending (states.Dotted base start name) = []
+ending (states.ArrowName base start) = some_name ∷ mark (codes "(") ∷ some_name ∷ closes ∷ []
+ending (states.ArrowParenthesis base start name) = mark (codes "(") ∷ some_name ∷ closes ∷ []
+ending (states.ArrowFirst base start name) = some_name ∷ closes ∷ []
+ending (states.ArrowSecond it) = closes ∷ []
+ending (states.ClassName called) = some_name ∷ closes ∷ []
+ending (states.ClassPath called path) = closes ∷ []
+ending (states.ClassNext called path) = some_name ∷ closes ∷ []
 
-abbrev pub completion : List Frame → Place → List Lexeme
-completion stack place = ending place ++ closing stack
+abbrev pub completion : List Frame → State → List Lexeme
+completion stack state = ending state ++ closing stack
 
--- the places behind which a level has to be opened
-abbrev pub opening_levels : Place → ℕ
-opening_levels (places.TypeParenthesis start kind) = 1
-opening_levels (places.Brace start kind) = 1
-opening_levels (places.ArrowName base start) = 1
-opening_levels (places.ArrowParenthesis base start name) = 1
-opening_levels place = 0
+-- the states behind which a level has to be opened
+abbrev pub opening_levels : State → ℕ
+opening_levels (states.TypeParenthesis start kind) = 1
+opening_levels (states.Brace start kind) = 1
+opening_levels (states.ArrowName base start) = 1
+opening_levels (states.ArrowParenthesis base start name) = 1
+opening_levels state = 0
 
 -- the levels that the whole takes at least
-abbrev pub needed_levels : List Frame → Place → ℕ
-needed_levels stack place = open_levels stack + place_levels place + opening_levels place
+abbrev pub needed_levels : List Frame → State → ℕ
+needed_levels stack state = open_levels stack + state_levels state + opening_levels state
 
 -- these tokens, behind what was read before them, end an expression
-pub record Ends (levels : ℕ) (more : List Lexeme) (stack : List Frame) (place : Place) (at : ℕ) : Type 0 where
+pub record Ends (levels : ℕ) (more : List Lexeme) (stack : List Frame) (state : State) (at : ℕ) : Type 0 where
   pub tree : Expr
-  pub ends : run levels more stack place at ≡ Tree tree (at + length more)
+  pub ends : run levels more stack state at ≡ Tree tree (at + length more)

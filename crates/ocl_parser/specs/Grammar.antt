@@ -13,8 +13,8 @@ use Rattle.qv_syntax.specs.declared.type_tree.Kind.TheVariants as collections
 use Rattle.qv_syntax.specs.declared.type_tree.TypeTree.{TypeTree, fold-TypeTree}
 use Rattle.qv_syntax.specs.declared.type_tree.TypeTree.TheOpen as types
 use Rattle.qv_syntax.specs.declared.expr.Expr.{Expr, fold-Expr}
-use Rattle.qv_syntax.specs.declared.expr.Link.{Link, fold-Link}
-use Rattle.qv_syntax.specs.declared.expr.Step.{Step, fold-Step}
+use Rattle.qv_syntax.specs.declared.expr.Infix.{Infix, fold-Infix}
+use Rattle.qv_syntax.specs.declared.expr.Postfix.{Postfix, fold-Postfix}
 use Rattle.qv_syntax.specs.declared.expr.Args.{Args, fold-Args}
 use Rattle.qv_syntax.specs.declared.expr.Args.TheOpen as of
 use Rattle.qv_syntax.specs.Operators.{level_of}
@@ -80,9 +80,9 @@ pub record Form : Type 0 where
   pub piece : Piece
 
 -- an operator and the part behind it
-pub record Joined : Type 0 where
+pub record InfixForm : Type 0 where
   pub level : ℕ
-  pub part : ℕ
+  pub subtree : ℕ
   pub piece : Piece
 
 -- what stands between the parentheses of a call
@@ -91,16 +91,16 @@ pub record Given : Type 0 where
   pub piece : Piece
 
 -- the level of a chain's operators
-abbrev pub chain_level : List Joined → ℕ
+abbrev pub chain_level : List InfixForm → ℕ
 chain_level [] = 0
 chain_level (l ∷ ls) = l.level
 
 -- an operator of this level, and behind it a part that binds tighter
-abbrev pub is_of_level : ℕ → Joined → Bool
-is_of_level level l = (l.level == level) && nat_lt level l.part
+abbrev pub is_of_level : ℕ → InfixForm → Bool
+is_of_level level l = (l.level == level) && nat_lt level l.subtree
 
 -- there is an operator, all are of one level, and each part binds tighter
-abbrev pub is_chain : Form → List Joined → Bool
+abbrev pub is_chain : Form → List InfixForm → Bool
 is_chain first rest = nat_lt 0 (length rest) && nat_lt (chain_level rest) first.binding
     && list_all (is_of_level (chain_level rest)) rest
 
@@ -129,7 +129,7 @@ declared_variable ts n ty = sign ts (codes "(") ▸ name ts n ▸ optional_type 
 abbrev pub constant : Bool → List ℕ
 constant value = if value then codes "true" else codes "false"
 
-abbrev pub expr_step : List Lexeme → of.Expr-F Given Form Piece Joined → Form
+abbrev pub expr_step : List Lexeme → of.Expr-F Given Form Piece InfixForm → Form
 expr_step ts (of.Let n ty value body span) = record {
   binding = 0;
   piece = spanned ts span (nested
@@ -142,7 +142,7 @@ expr_step ts (of.Chain first rest span) = record {
 }
 expr_step ts (of.Not operand span) = record { binding = 8; piece = spanned ts span (only (nat_le 8 operand.binding) (nested (word ts (codes "not") ▸ operand.piece))) }
 expr_step ts (of.Negated operand span) = record { binding = 8; piece = spanned ts span (only (nat_le 8 operand.binding) (nested (sign ts (codes "-") ▸ operand.piece))) }
-expr_step ts (of.Calls part steps span) = record { binding = 9; piece = spanned ts span (only (nat_le 10 part.binding && nat_lt 0 (length steps)) (part.piece ▸ each steps)) }
+expr_step ts (of.Calls subtree steps span) = record { binding = 9; piece = spanned ts span (only (nat_le 10 subtree.binding && nat_lt 0 (length steps)) (subtree.piece ▸ each steps)) }
 expr_step ts (of.Number value span) = record { binding = 10; piece = spanned ts span (token (is_number value) ts) }
 expr_step ts (of.Str value span) = record { binding = 10; piece = spanned ts span (token (is_string value) ts) }
 expr_step ts (of.Bool value span) = record { binding = 10; piece = spanned ts span (word ts (constant value)) }
@@ -162,50 +162,50 @@ expr_step ts (of.Coll kind elements span) = record {
 expr_step ts (of.Call n args span) = record { binding = 10; piece = spanned ts span (name ts n ▸ args_for n.text args) }
 expr_step ts (of.Named p) = record { binding = 10; piece = named_path ts p }
 
-abbrev pub link_step : List Lexeme → of.Link-F Given Form Piece Joined → Joined
-link_step ts l = record { level = level_of l.operator; part = l.right.binding; piece = token (is_operator l.operator) ts ▸ l.right.piece }
+abbrev pub infix_step : List Lexeme → of.Infix-F Given Form Piece InfixForm → InfixForm
+infix_step ts l = record { level = level_of l.operator; subtree = l.right.binding; piece = token (is_operator l.operator) ts ▸ l.right.piece }
 
-abbrev pub step_step : List Lexeme → of.Step-F Given Form Piece Joined → Piece
-step_step ts (of.Property n) = sign ts (codes ".") ▸ name ts n
-step_step ts (of.Dot n args span) = spanned ts span (sign ts (codes ".") ▸ name ts n ▸ args_for n.text args)
-step_step ts (of.Arrow n args span) = spanned ts span (sign ts (codes "->") ▸ name ts n ▸ args_for n.text args)
-step_step ts (of.Iterator n variable ty body span) = spanned ts span (sign ts (codes "->") ▸ name ts n
+abbrev pub postfix_step : List Lexeme → of.Postfix-F Given Form Piece InfixForm → Piece
+postfix_step ts (of.Property n) = sign ts (codes ".") ▸ name ts n
+postfix_step ts (of.Dot n args span) = spanned ts span (sign ts (codes ".") ▸ name ts n ▸ args_for n.text args)
+postfix_step ts (of.Arrow n args span) = spanned ts span (sign ts (codes "->") ▸ name ts n ▸ args_for n.text args)
+postfix_step ts (of.Iterator n variable ty body span) = spanned ts span (sign ts (codes "->") ▸ name ts n
     ▸ nested (declared_variable ts variable ty ▸ body.piece ▸ sign ts (codes ")")))
 
-abbrev pub args_step : List Lexeme → of.Args-F Given Form Piece Joined → Given
+abbrev pub args_step : List Lexeme → of.Args-F Given Form Piece InfixForm → Given
 args_step ts (of.Values values) = record { is_class = false; piece = nested (sign ts (codes "(") ▸ separated ts (codes ",") (map (λ e. e.piece) values) ▸ sign ts (codes ")")) }
 args_step ts (of.Class p) = record { is_class = true; piece = nested (sign ts (codes "(") ▸ class_path ts p ▸ sign ts (codes ")")) }
 
 abbrev pub form : List Lexeme → Expr → Form
-form ts = fold-Expr Given Form Piece Joined (args_step ts) (expr_step ts) (step_step ts) (link_step ts)
+form ts = fold-Expr Given Form Piece InfixForm (args_step ts) (expr_step ts) (postfix_step ts) (infix_step ts)
 
-abbrev pub joined : List Lexeme → Link → Joined
-joined ts = fold-Link Given Form Piece Joined (args_step ts) (expr_step ts) (step_step ts) (link_step ts)
+abbrev pub infix_form : List Lexeme → Infix → InfixForm
+infix_form ts = fold-Infix Given Form Piece InfixForm (args_step ts) (expr_step ts) (postfix_step ts) (infix_step ts)
 
-abbrev pub step_piece : List Lexeme → Step → Piece
-step_piece ts = fold-Step Given Form Piece Joined (args_step ts) (expr_step ts) (step_step ts) (link_step ts)
+abbrev pub postfix_piece : List Lexeme → Postfix → Piece
+postfix_piece ts = fold-Postfix Given Form Piece InfixForm (args_step ts) (expr_step ts) (postfix_step ts) (infix_step ts)
 
 abbrev pub given : List Lexeme → Args → Given
-given ts = fold-Args Given Form Piece Joined (args_step ts) (expr_step ts) (step_step ts) (link_step ts)
+given ts = fold-Args Given Form Piece InfixForm (args_step ts) (expr_step ts) (postfix_step ts) (infix_step ts)
 
 -- how tightly an expression binds
 unfoldable pub binding : List Lexeme → Expr → ℕ
 binding ts e = (form ts e).binding
 
--- The number of the token behind those that spell the expression from a place on, if they do, with at most so many levels
+-- The number of the token behind those that spell the expression from a number on, if they do, with at most so many levels
 -- of nesting.
 unfoldable pub spelled : List Lexeme → ℕ → Expr → ℕ → Option ℕ
 spelled ts levels e at = (form ts e).piece levels at
 
 -- the same of the operators of a chain with their parts, of one call, of several, of arguments behind a name, and of a list
-unfoldable pub spelled_links : List Lexeme → ℕ → List Link → ℕ → Option ℕ
-spelled_links ts levels links at = each (map (λ l. l.piece) (map (joined ts) links)) levels at
+unfoldable pub spelled_infixes : List Lexeme → ℕ → List Infix → ℕ → Option ℕ
+spelled_infixes ts levels infixes at = each (map (λ l. l.piece) (map (infix_form ts) infixes)) levels at
 
-unfoldable pub spelled_step : List Lexeme → ℕ → Step → ℕ → Option ℕ
-spelled_step ts levels step at = step_piece ts step levels at
+unfoldable pub spelled_postfix : List Lexeme → ℕ → Postfix → ℕ → Option ℕ
+spelled_postfix ts levels step at = postfix_piece ts step levels at
 
-unfoldable pub spelled_steps : List Lexeme → ℕ → List Step → ℕ → Option ℕ
-spelled_steps ts levels steps at = each (map (step_piece ts) steps) levels at
+unfoldable pub spelled_postfixes : List Lexeme → ℕ → List Postfix → ℕ → Option ℕ
+spelled_postfixes ts levels steps at = each (map (postfix_piece ts) steps) levels at
 
 unfoldable pub spelled_args : List Lexeme → ℕ → List ℕ → Args → ℕ → Option ℕ
 spelled_args ts levels text args at = args_for text (given ts args) levels at
@@ -214,5 +214,5 @@ unfoldable pub spelled_list : List Lexeme → ℕ → List Expr → ℕ → Opti
 spelled_list ts levels es at = separated ts (codes ",") (map (λ e. e.piece) (map (form ts) es)) levels at
 
 -- the operators are of this level, and the parts behind them bind tighter
-unfoldable pub are_of_level : List Lexeme → ℕ → List Link → Bool
-are_of_level ts level links = list_all (is_of_level level) (map (joined ts) links)
+unfoldable pub are_of_level : List Lexeme → ℕ → List Infix → Bool
+are_of_level ts level infixes = list_all (is_of_level level) (map (infix_form ts) infixes)

@@ -7,3 +7,4 @@ pub mod Runs
 pub mod Beginnings
 pub mod Answers
 pub mod Completion
+pub mod Words

@@ -9,7 +9,8 @@ use Rattle.mof_metamodel.specs.Characters.{is_storable_text}
 use Rattle.mof_metamodel.specs.declared.span.Span.{Span}
 use Rattle.ql_lex.specs.declared.token.TokenKind.{TokenKind}
 use Rattle.ql_lex.specs.declared.token.TokenKind.TheVariants as kinds
-use Rattle.ql_lex.specs.Forms.{decimal, greatest}
+use Rattle.ql_lex.specs.declared.limits.TheConstants.{MAX_INTEGER}
+use Rattle.ql_lex.specs.Forms.{decimal}
 use Rattle.ql_lex.specs.Lexed.{Lexeme}
 use Rattle.qv_syntax.specs.declared.name.Name.{Name}
 use Rattle.ocl_parser.specs.Unquoting.{unquoted}
@@ -50,7 +51,7 @@ name_text kinds.Sign text = None
 
 -- the Integer that decimal digits write
 unfoldable pub integer_of : List ℕ → Option ℤ
-integer_of text = if list_all is_ascii_digit text && nat_le (decimal 0 text) greatest then Some (pos (decimal 0 text)) else None
+integer_of text = if list_all is_ascii_digit text && nat_le (decimal 0 text) MAX_INTEGER then Some (pos (decimal 0 text)) else None
 
 abbrev pub is_name : Name → Lexeme → Bool
 is_name name l = option_map_or (bytes_eq name.text) (name_text l.token.kind l.text) false && is_same_span l.token.span name.span

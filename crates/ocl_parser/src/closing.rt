@@ -2,18 +2,18 @@ ghost use Rattle.std.specs.Prelude.{◌≡◌, [], ◌∷◌, IfOk};
 ghost use Rattle.ocl_parser.specs.Moves.{after as after_move, behind as behind_move, close_by, operator_on, to};
 ghost use Rattle.ocl_parser.specs.Answers.{made};
 ghost use Rattle.ocl_parser.specs.declared.frame.Frame.TheVariants as frames;
-ghost use Rattle.ocl_parser.specs.declared.place.Place.TheVariants as places;
+ghost use Rattle.ocl_parser.specs.declared.state.State.TheVariants as states;
 ghost use Rattle.ocl_parser.specs.declared.symbol.Symbol.TheVariants as symbols;
 
-use crate::frame::{Base, Frame, Part};
-use crate::parts::{behind_base, behind_body, behind_call, link, part_of};
-use crate::place::{Outcome, Place};
-use crate::settling::settle;
+use crate::frame::{Base, Frame, Row, Subtree};
+use crate::parts::{behind_base, behind_body, behind_call, infixed, subtree_of};
+use crate::reducing::reduce;
+use crate::shifting::{open, refuse};
 use crate::stack::Stack;
-use crate::steps::{open, refuse};
-use crate::symbol::Symbol;
+use crate::state::{Action, State};
+use crate::symbol::{Symbol, Terminal};
 use mof_metamodel::{NoMemory, Seq, Span};
-use qv_syntax::{Args, Expr, Link, Operator};
+use qv_syntax::{Args, Expr, Infix, Operator};
 use std::alloc::Global;
 
 /// A row whose first part stands before the operator.
@@ -21,15 +21,15 @@ fn begin_row(
     alloc: Global,
     stack: &mut Stack,
     operator: Operator,
-    part: Part,
-) -> Result<Outcome, NoMemory>
-    ensures { IfOk result (λ o. made stack.new o ≡ to (frames.Row part [] operator ∷ stack.old) places.Operand) }
+    subtree: Subtree,
+) -> Result<Action, NoMemory>
+    ensures { IfOk result (λ o. made stack.new o ≡ to (frames.Row subtree [] operator ∷ stack.old) states.Operand) }
 {
     let rest = Seq::new(alloc);
     open(
         stack,
         Frame::Row {
-            first: part,
+            first: subtree,
             rest,
             operator,
         },
@@ -41,16 +41,19 @@ fn operator_in_row(
     alloc: Global,
     operator: Operator,
     stack: &mut Stack,
-    first: Part,
-    rest: Seq<Link>,
-    waiting: Operator,
-    part: Part,
-) -> Result<Outcome, NoMemory>
-    ensures { IfOk result (λ o. made stack.new o ≡ operator_on operator (frames.Row first rest waiting ∷ stack.old) part) }
+    row: Row,
+    subtree: Subtree,
+) -> Result<Action, NoMemory>
+    ensures { IfOk result (λ o. made stack.new o ≡ operator_on operator (frames.Row row.first row.rest row.operator ∷ stack.old) subtree) }
 {
+    let Row {
+        first,
+        rest,
+        operator: waiting,
+    } = row;
     if waiting.level() == operator.level() {
         let mut rest = rest;
-        rest.push(link(waiting, part))?;
+        rest.push(infixed(waiting, subtree))?;
         open(
             stack,
             Frame::Row {
@@ -65,7 +68,7 @@ fn operator_in_row(
             rest,
             operator: waiting,
         })?;
-        begin_row(alloc, stack, operator, part)
+        begin_row(alloc, stack, operator, subtree)
     }
 }
 
@@ -75,19 +78,26 @@ fn operator_in(
     operator: Operator,
     stack: &mut Stack,
     frame: Frame,
-    part: Part,
-) -> Result<Outcome, NoMemory>
-    ensures { IfOk result (λ o. made stack.new o ≡ operator_on operator (frame ∷ stack.old) part) }
+    subtree: Subtree,
+) -> Result<Action, NoMemory>
+    ensures { IfOk result (λ o. made stack.new o ≡ operator_on operator (frame ∷ stack.old) subtree) }
 {
     match frame {
         Frame::Row {
             first,
             rest,
             operator: waiting,
-        } => operator_in_row(alloc, operator, stack, first, rest, waiting, part),
+        } => {
+            let row = Row {
+                first,
+                rest,
+                operator: waiting,
+            };
+            operator_in_row(alloc, operator, stack, row, subtree)
+        }
         other => {
             stack.push(other)?;
-            begin_row(alloc, stack, operator, part)
+            begin_row(alloc, stack, operator, subtree)
         }
     }
 }
@@ -97,13 +107,13 @@ fn operator_behind(
     alloc: Global,
     operator: Operator,
     stack: &mut Stack,
-    part: Part,
-) -> Result<Outcome, NoMemory>
-    ensures { IfOk result (λ o. made stack.new o ≡ operator_on operator stack.old part) }
+    subtree: Subtree,
+) -> Result<Action, NoMemory>
+    ensures { IfOk result (λ o. made stack.new o ≡ operator_on operator stack.old subtree) }
 {
     match stack.pop() {
-        Some(frame) => operator_in(alloc, operator, stack, frame, part),
-        None => begin_row(alloc, stack, operator, part),
+        Some(frame) => operator_in(alloc, operator, stack, frame, subtree),
+        None => begin_row(alloc, stack, operator, subtree),
     }
 }
 
@@ -112,24 +122,24 @@ fn close_parenthesis(
     alloc: Global,
     stack: &mut Stack,
     frame: Frame,
-    part: Part,
+    subtree: Subtree,
     span: Span,
-) -> Result<Outcome, NoMemory>
-    ensures { IfOk result (λ o. made stack.new o ≡ close_by (frame ∷ stack.old) part symbols.CloseParenthesis span) }
+) -> Result<Action, NoMemory>
+    ensures { IfOk result (λ o. made stack.new o ≡ close_by (frame ∷ stack.old) subtree symbols.CloseParenthesis span) }
 {
     let end = span.end;
     match frame {
         Frame::Parens { start } => {
             let span = Span { start, end };
-            let inner = part.tree;
+            let inner = subtree.tree;
             behind_base(alloc, Expr::Parens { inner, span }, span)
         }
         Frame::Arguments { called, values } => {
             let mut values = values;
-            values.push(part.tree.into_inner())?;
+            values.push(subtree.tree.into_inner())?;
             behind_call(alloc, called, Args::Values { values }, end)
         }
-        Frame::Body { iterated, ty } => behind_body(iterated, ty, part.tree, end),
+        Frame::Body { iterated, ty } => behind_body(iterated, ty, subtree.tree, end),
         other => refuse(stack, other),
     }
 }
@@ -139,10 +149,10 @@ fn close_brace(
     alloc: Global,
     stack: &mut Stack,
     frame: Frame,
-    part: Part,
+    subtree: Subtree,
     span: Span,
-) -> Result<Outcome, NoMemory>
-    ensures { IfOk result (λ o. made stack.new o ≡ close_by (frame ∷ stack.old) part symbols.CloseBrace span) }
+) -> Result<Action, NoMemory>
+    ensures { IfOk result (λ o. made stack.new o ≡ close_by (frame ∷ stack.old) subtree symbols.CloseBrace span) }
 {
     match frame {
         Frame::Elements {
@@ -151,7 +161,7 @@ fn close_brace(
             elements,
         } => {
             let mut elements = elements;
-            elements.push(part.tree.into_inner())?;
+            elements.push(subtree.tree.into_inner())?;
             let span = Span {
                 start,
                 end: span.end,
@@ -168,13 +178,13 @@ fn close_brace(
 }
 
 /// `,` behind an expression.
-fn comma(stack: &mut Stack, frame: Frame, part: Part, _span: Span) -> Result<Outcome, NoMemory>
-    ensures { IfOk result (λ o. made stack.new o ≡ close_by (frame ∷ stack.old) part symbols.Comma _span) }
+fn comma(stack: &mut Stack, frame: Frame, subtree: Subtree, _span: Span) -> Result<Action, NoMemory>
+    ensures { IfOk result (λ o. made stack.new o ≡ close_by (frame ∷ stack.old) subtree symbols.Comma _span) }
 {
     match frame {
         Frame::Arguments { called, values } => {
             let mut values = values;
-            values.push(part.tree.into_inner())?;
+            values.push(subtree.tree.into_inner())?;
             open(stack, Frame::Arguments { called, values })
         }
         Frame::Elements {
@@ -183,7 +193,7 @@ fn comma(stack: &mut Stack, frame: Frame, part: Part, _span: Span) -> Result<Out
             elements,
         } => {
             let mut elements = elements;
-            elements.push(part.tree.into_inner())?;
+            elements.push(subtree.tree.into_inner())?;
             open(
                 stack,
                 Frame::Elements {
@@ -198,12 +208,12 @@ fn comma(stack: &mut Stack, frame: Frame, part: Part, _span: Span) -> Result<Out
 }
 
 /// `then` behind an expression.
-fn then(stack: &mut Stack, frame: Frame, part: Part, _span: Span) -> Result<Outcome, NoMemory>
-    ensures { IfOk result (λ o. made stack.new o ≡ close_by (frame ∷ stack.old) part symbols.Then _span) }
+fn then(stack: &mut Stack, frame: Frame, subtree: Subtree, _span: Span) -> Result<Action, NoMemory>
+    ensures { IfOk result (λ o. made stack.new o ≡ close_by (frame ∷ stack.old) subtree symbols.Then _span) }
 {
     match frame {
         Frame::If { start } => {
-            let condition = part.tree;
+            let condition = subtree.tree;
             open(stack, Frame::Then { start, condition })
         }
         other => refuse(stack, other),
@@ -211,8 +221,13 @@ fn then(stack: &mut Stack, frame: Frame, part: Part, _span: Span) -> Result<Outc
 }
 
 /// `else` behind an expression.
-fn otherwise(stack: &mut Stack, frame: Frame, part: Part, _span: Span) -> Result<Outcome, NoMemory>
-    ensures { IfOk result (λ o. made stack.new o ≡ close_by (frame ∷ stack.old) part symbols.Else _span) }
+fn otherwise(
+    stack: &mut Stack,
+    frame: Frame,
+    subtree: Subtree,
+    _span: Span,
+) -> Result<Action, NoMemory>
+    ensures { IfOk result (λ o. made stack.new o ≡ close_by (frame ∷ stack.old) subtree symbols.Else _span) }
 {
     match frame {
         Frame::Then { start, condition } => open(
@@ -220,7 +235,7 @@ fn otherwise(stack: &mut Stack, frame: Frame, part: Part, _span: Span) -> Result
             Frame::Else {
                 start,
                 condition,
-                one: part.tree,
+                one: subtree.tree,
             },
         ),
         other => refuse(stack, other),
@@ -232,10 +247,10 @@ fn endif(
     alloc: Global,
     stack: &mut Stack,
     frame: Frame,
-    part: Part,
+    subtree: Subtree,
     span: Span,
-) -> Result<Outcome, NoMemory>
-    ensures { IfOk result (λ o. made stack.new o ≡ close_by (frame ∷ stack.old) part symbols.Endif span) }
+) -> Result<Action, NoMemory>
+    ensures { IfOk result (λ o. made stack.new o ≡ close_by (frame ∷ stack.old) subtree symbols.Endif span) }
 {
     match frame {
         Frame::Else {
@@ -250,7 +265,7 @@ fn endif(
             let tree = Expr::If {
                 condition,
                 one,
-                other: part.tree,
+                other: subtree.tree,
                 span,
             };
             behind_base(alloc, tree, span)
@@ -260,8 +275,13 @@ fn endif(
 }
 
 /// `in` behind an expression.
-fn begin_body(stack: &mut Stack, frame: Frame, part: Part, _span: Span) -> Result<Outcome, NoMemory>
-    ensures { IfOk result (λ o. made stack.new o ≡ close_by (frame ∷ stack.old) part symbols.In _span) }
+fn begin_body(
+    stack: &mut Stack,
+    frame: Frame,
+    subtree: Subtree,
+    _span: Span,
+) -> Result<Action, NoMemory>
+    ensures { IfOk result (λ o. made stack.new o ≡ close_by (frame ∷ stack.old) subtree symbols.In _span) }
 {
     match frame {
         Frame::Let { start, name, ty } => open(
@@ -270,7 +290,7 @@ fn begin_body(stack: &mut Stack, frame: Frame, part: Part, _span: Span) -> Resul
                 start,
                 name,
                 ty,
-                value: part.tree,
+                value: subtree.tree,
             },
         ),
         other => refuse(stack, other),
@@ -282,20 +302,20 @@ fn close_in(
     alloc: Global,
     stack: &mut Stack,
     frame: Frame,
-    part: Part,
-    symbol: Symbol,
-    span: Span,
-) -> Result<Outcome, NoMemory>
-    ensures { IfOk result (λ o. made stack.new o ≡ close_by (frame ∷ stack.old) part symbol span) }
+    subtree: Subtree,
+    terminal: Terminal,
+) -> Result<Action, NoMemory>
+    ensures { IfOk result (λ o. made stack.new o ≡ close_by (frame ∷ stack.old) subtree terminal.symbol terminal.span) }
 {
+    let Terminal { symbol, span } = terminal;
     match symbol {
-        Symbol::CloseParenthesis => close_parenthesis(alloc, stack, frame, part, span),
-        Symbol::CloseBrace => close_brace(alloc, stack, frame, part, span),
-        Symbol::Comma => comma(stack, frame, part, span),
-        Symbol::Then => then(stack, frame, part, span),
-        Symbol::Else => otherwise(stack, frame, part, span),
-        Symbol::Endif => endif(alloc, stack, frame, part, span),
-        Symbol::In => begin_body(stack, frame, part, span),
+        Symbol::CloseParenthesis => close_parenthesis(alloc, stack, frame, subtree, span),
+        Symbol::CloseBrace => close_brace(alloc, stack, frame, subtree, span),
+        Symbol::Comma => comma(stack, frame, subtree, span),
+        Symbol::Then => then(stack, frame, subtree, span),
+        Symbol::Else => otherwise(stack, frame, subtree, span),
+        Symbol::Endif => endif(alloc, stack, frame, subtree, span),
+        Symbol::In => begin_body(stack, frame, subtree, span),
         _ => refuse(stack, frame),
     }
 }
@@ -304,15 +324,14 @@ fn close_in(
 fn close(
     alloc: Global,
     stack: &mut Stack,
-    part: Part,
-    symbol: Symbol,
-    span: Span,
-) -> Result<Outcome, NoMemory>
-    ensures { IfOk result (λ o. made stack.new o ≡ close_by stack.old part symbol span) }
+    subtree: Subtree,
+    terminal: Terminal,
+) -> Result<Action, NoMemory>
+    ensures { IfOk result (λ o. made stack.new o ≡ close_by stack.old subtree terminal.symbol terminal.span) }
 {
     match stack.pop() {
-        Some(frame) => close_in(alloc, stack, frame, part, symbol, span),
-        None => Ok(Outcome::Whole(part.tree.into_inner())),
+        Some(frame) => close_in(alloc, stack, frame, subtree, terminal),
+        None => Ok(Action::Whole(subtree.tree.into_inner())),
     }
 }
 
@@ -320,20 +339,24 @@ fn close(
 fn behind(
     alloc: Global,
     stack: &mut Stack,
-    part: Part,
-    symbol: Symbol,
-    span: Span,
-) -> Result<Outcome, NoMemory>
-    ensures { IfOk result (λ o. made stack.new o ≡ behind_move stack.old part symbol span) }
+    subtree: Subtree,
+    terminal: Terminal,
+) -> Result<Action, NoMemory>
+    ensures { IfOk result (λ o. made stack.new o ≡ behind_move stack.old subtree terminal.symbol terminal.span) }
 {
+    let Terminal { symbol, span } = terminal;
     match symbol {
         Symbol::Operator(operator) => {
-            let part = settle(alloc, operator.level() + 1, stack, part)?;
-            operator_behind(alloc, operator, stack, part)
+            let subtree = reduce(alloc, operator.level() + 1, stack, subtree)?;
+            operator_behind(alloc, operator, stack, subtree)
         }
         other => {
-            let part = settle(alloc, 0, stack, part)?;
-            close(alloc, stack, part, other, span)
+            let subtree = reduce(alloc, 0, stack, subtree)?;
+            let terminal = Terminal {
+                symbol: other,
+                span,
+            };
+            close(alloc, stack, subtree, terminal)
         }
     }
 }
@@ -343,18 +366,22 @@ pub(crate) fn after(
     alloc: Global,
     stack: &mut Stack,
     base: Base,
-    symbol: Symbol,
-    span: Span,
-) -> Result<Outcome, NoMemory>
-    ensures { IfOk result (λ o. made stack.new o ≡ after_move stack.old base symbol span) }
+    terminal: Terminal,
+) -> Result<Action, NoMemory>
+    ensures { IfOk result (λ o. made stack.new o ≡ after_move stack.old base terminal.symbol terminal.span) }
 {
+    let Terminal { symbol, span } = terminal;
     let start = span.start;
     match symbol {
-        Symbol::Dot => Ok(Outcome::Read(Place::DotName { base, start })),
-        Symbol::Arrow => Ok(Outcome::Read(Place::ArrowName { base, start })),
+        Symbol::Dot => Ok(Action::Read(State::DotName { base, start })),
+        Symbol::Arrow => Ok(Action::Read(State::ArrowName { base, start })),
         other => {
-            let part = part_of(alloc, base)?;
-            behind(alloc, stack, part, other, span)
+            let subtree = subtree_of(alloc, base)?;
+            let terminal = Terminal {
+                symbol: other,
+                span,
+            };
+            behind(alloc, stack, subtree, terminal)
         }
     }
 }

@@ -5,24 +5,24 @@ ghost use Rattle.ocl_parser.specs.Runs.{Tree, Stuck, Deep, answer};
 ghost use Rattle.ocl_parser.specs.Beginnings.{BeginsWithin, IsTree, IsStuck, IsDeep};
 ghost use Rattle.ocl_parser.specs.Completion.{Ends, Reaches, Reading, completion, is_open, needed_levels, opening_levels};
 ghost use Rattle.ocl_parser.specs.declared.frame.Frame.{Frame};
-ghost use Rattle.ocl_parser.specs.declared.place.Place.{Place};
+ghost use Rattle.ocl_parser.specs.declared.state.State.{State};
 
-/// What is open at a place can be ended, and takes only the levels that are open there, and one where none is open yet
+/// What is open in a state can be ended, and takes only the levels that are open there, and one where none is open yet
 /// of what began.
 pub fn open_constructs_end()
-    ensures { (levels : ℕ) (stack : List Frame) (place : Place) (at : ℕ) → is_open stack place ≡ true → needed_levels stack place ≤ levels → Ends levels (completion stack place) stack place at }
+    ensures { (levels : ℕ) (stack : List Frame) (state : State) (at : ℕ) → is_open stack state ≡ true → needed_levels stack state ≤ levels → Ends levels (completion stack state) stack state at }
 {}
 
 /// The tokens that are read, and those that end what they leave open, are read as an expression.
 pub fn readings_end()
-    ensures { (ts : List Lexeme) (levels from k : ℕ) (r : Reading) → from ≤ k → k ≤ length ts → Reaches ts levels from k r → (wider : ℕ) → levels + opening_levels r.place ≤ wider
-        → (tree : Expr) × (answer (take k ts ++ completion r.stack r.place) wider from ≡ Tree tree (length (take k ts ++ completion r.stack r.place))) }
+    ensures { (ts : List Lexeme) (levels from k : ℕ) (r : Reading) → from ≤ k → k ≤ length ts → Reaches ts levels from k r → (wider : ℕ) → levels + opening_levels r.state ≤ wider
+        → (tree : Expr) × (answer (take k ts ++ completion r.stack r.state) wider from ≡ Tree tree (length (take k ts ++ completion r.stack r.state))) }
 {}
 
 /// Tokens that are read begin an expression, with the levels in which they are read, or one more where they end in what
 /// begins a level and has not opened it yet.
 pub fn readings_begin()
-    ensures { (ts : List Lexeme) (levels from k : ℕ) (r : Reading) → from ≤ k → k ≤ length ts → Reaches ts levels from k r → BeginsWithin ts from (levels + opening_levels r.place) k }
+    ensures { (ts : List Lexeme) (levels from k : ℕ) (r : Reading) → from ≤ k → k ≤ length ts → Reaches ts levels from k r → BeginsWithin ts from (levels + opening_levels r.state) k }
 {}
 
 /// Each answer is exactly what it stands for: the longest list of tokens with which an expression begins is one, or is

@@ -1,38 +1,46 @@
 use mof_metamodel::{Boxed, Seq, Span};
-use qv_syntax::{Expr, Kind, Link, Name, Operator, Path, Step, TypeTree};
+use qv_syntax::{Expr, Infix, Kind, Name, Operator, Path, Postfix, TypeTree};
 
 /// An expression and where it stands.
-#[derive(Debug, Drop)]
-pub(crate) struct Part {
+#[derive(Drop)]
+pub(crate) struct Subtree {
     pub(crate) tree: Boxed<Expr>,
     pub(crate) span: Span,
 }
 
 /// A part that binds tightest, and what is called on it so far.
-#[derive(Debug, Drop)]
+#[derive(Drop)]
 pub(crate) struct Base {
     pub(crate) of: Boxed<Expr>,
-    pub(crate) steps: Seq<Step>,
+    pub(crate) steps: Seq<Postfix>,
     pub(crate) span: Span,
 }
 
 /// What stands before the name of a call, with the start of its sign.
-#[derive(Debug, Drop)]
+#[derive(Drop)]
 pub(crate) enum Before {
     Nothing,
     Dot { base: Base, start: usize },
     Arrow { base: Base, start: usize },
 }
 
+/// A call behind `.` or `->` up to its name.
+#[derive(Drop)]
+pub(crate) struct PostfixHead {
+    pub(crate) base: Base,
+    pub(crate) start: usize,
+    pub(crate) name: Name,
+}
+
 /// A call up to its `(`.
-#[derive(Debug, Drop)]
-pub(crate) struct Called {
+#[derive(Drop)]
+pub(crate) struct CallHead {
     pub(crate) before: Before,
     pub(crate) name: Name,
 }
 
 /// An iterator up to its variable.
-#[derive(Debug, Drop)]
+#[derive(Drop)]
 pub(crate) struct Iterated {
     pub(crate) base: Base,
     pub(crate) start: usize,
@@ -40,8 +48,16 @@ pub(crate) struct Iterated {
     pub(crate) variable: Name,
 }
 
+/// Subtrees with operators of one level between them, and behind them one more operator of the level.
+#[derive(Drop)]
+pub(crate) struct Row {
+    pub(crate) first: Subtree,
+    pub(crate) rest: Seq<Infix>,
+    pub(crate) operator: Operator,
+}
+
 /// A construct that is open, with what has been read of it.
-#[derive(Debug, Drop)]
+#[derive(Drop)]
 pub(crate) enum Frame {
     /// `let name :`, and a type is read.
     LetType {
@@ -71,8 +87,8 @@ pub(crate) enum Frame {
     },
     /// Parts with operators of one level between them, and behind them one more operator of the level.
     Row {
-        first: Part,
-        rest: Seq<Link>,
+        first: Subtree,
+        rest: Seq<Infix>,
         operator: Operator,
     },
     /// `(`
@@ -102,7 +118,7 @@ pub(crate) enum Frame {
     },
     /// `name (`, and arguments so far, each with a `,`.
     Arguments {
-        called: Called,
+        called: CallHead,
         values: Seq<Expr>,
     },
     /// `->name ( variable :`, and a type is read.

@@ -1,7 +1,7 @@
 //! The expressions of scripts, from tokens to trees (OCL 2.4, chapter 9). `specs/Grammar.antt` says which tokens spell
 //! which tree, one clause for each form, and `specs/Beginnings.antt` where an expression ends and where faults stand.
-//! `specs/Moves.antt` says how they are read, symbol by symbol, with the open constructs on a stack, and `specs/Runs.antt`
-//! what the reading answers. That this is the same are the laws of the functions that do nothing.
+//! `specs/Moves.antt` says how they are read, symbol by symbol, with the open constructs on the operator stack, and
+//! `specs/Runs.antt` what the reading answers. That this is the same are the laws of the functions that do nothing.
 #![tactic(auto)]
 
 mod answer_laws;
@@ -17,14 +17,12 @@ mod operands;
 mod parsing;
 mod parts;
 mod paths;
-mod place;
-mod settling;
+mod reducing;
+mod shifting;
 mod stack;
-mod steps;
+mod state;
 mod symbol;
 mod terminals;
-#[cfg(test)]
-mod tests;
 mod texts;
 mod types;
 

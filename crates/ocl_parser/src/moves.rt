@@ -2,42 +2,42 @@ ghost use Rattle.std.specs.Prelude.{◌≡◌, List, IfOk};
 ghost use Rattle.ocl_parser.specs.Moves.{extended as longer, move as next_move, on_arrow_parenthesis, on_brace, on_colon, on_name, on_type_parenthesis, path_of as first_path};
 ghost use Rattle.ocl_parser.specs.Answers.{made};
 ghost use Rattle.ocl_parser.specs.declared.frame.Frame.{Frame as AnyFrame};
-ghost use Rattle.ocl_parser.specs.declared.place.Place.TheVariants as places;
+ghost use Rattle.ocl_parser.specs.declared.state.State.TheVariants as states;
 
 use crate::closing::after;
-use crate::frame::{Base, Called, Frame};
+use crate::frame::{Base, CallHead, Frame, PostfixHead};
 use crate::operands::operand;
 use crate::parts::{extended, path_of};
 use crate::paths::{arrow_first, arrow_second, class_path, dotted, on_path};
-use crate::place::{Outcome, Place};
+use crate::shifting::{open, open_type};
 use crate::stack::Stack;
-use crate::steps::{open, open_type};
-use crate::symbol::Symbol;
+use crate::state::{Action, State};
+use crate::symbol::{Symbol, Terminal};
 use crate::types::{type_begin, type_end, type_path};
-use mof_metamodel::{NoMemory, Seq, Span};
+use mof_metamodel::{NoMemory, Seq};
 use qv_syntax::{Kind, Name, Path};
 use std::alloc::Global;
 
 /// A symbol behind `::` in a path.
-fn path_name(path: Path, symbol: Symbol) -> Result<Outcome, NoMemory>
-    ensures { IfOk result (λ o. (stack : List AnyFrame) → made stack o ≡ on_name stack (λ n. places.Path (longer path n)) symbol) }
+fn path_name(path: Path, symbol: Symbol) -> Result<Action, NoMemory>
+    ensures { IfOk result (λ o. (stack : List AnyFrame) → made stack o ≡ on_name stack (λ n. states.Path (longer path n)) symbol) }
 {
     match symbol {
         Symbol::Name(name) => {
             let path = extended(path, name)?;
-            Ok(Outcome::Read(Place::Path { path }))
+            Ok(Action::Read(State::Path { path }))
         }
-        _ => Ok(Outcome::Refused),
+        _ => Ok(Action::Refused),
     }
 }
 
 /// A symbol behind `let`.
-fn let_name(start: usize, symbol: Symbol) -> Outcome
-    ensures { (stack : List AnyFrame) → made stack result ≡ on_name stack (λ n. places.LetColon start n) symbol }
+fn let_name(start: usize, symbol: Symbol) -> Action
+    ensures { (stack : List AnyFrame) → made stack result ≡ on_name stack (λ n. states.LetColon start n) symbol }
 {
     match symbol {
-        Symbol::Name(name) => Outcome::Read(Place::LetColon { start, name }),
-        _ => Outcome::Refused,
+        Symbol::Name(name) => Action::Read(State::LetColon { start, name }),
+        _ => Action::Refused,
     }
 }
 
@@ -47,12 +47,12 @@ fn let_colon(
     start: usize,
     name: Name,
     symbol: Symbol,
-) -> Result<Outcome, NoMemory>
+) -> Result<Action, NoMemory>
     ensures { IfOk result (λ o. made stack.new o ≡ on_colon stack.old start name symbol) }
 {
     match symbol {
         Symbol::Colon => open_type(stack, Frame::LetType { start, name }),
-        _ => Ok(Outcome::Refused),
+        _ => Ok(Action::Refused),
     }
 }
 
@@ -62,25 +62,25 @@ fn type_parenthesis(
     start: usize,
     kind: Kind,
     symbol: Symbol,
-) -> Result<Outcome, NoMemory>
+) -> Result<Action, NoMemory>
     ensures { IfOk result (λ o. made stack.new o ≡ on_type_parenthesis stack.old start kind symbol) }
 {
     match symbol {
         Symbol::OpenParenthesis => open_type(stack, Frame::OfKind { start, kind }),
-        _ => Ok(Outcome::Refused),
+        _ => Ok(Action::Refused),
     }
 }
 
 /// A symbol behind `::` in a type.
-fn type_name(path: Path, symbol: Symbol) -> Result<Outcome, NoMemory>
-    ensures { IfOk result (λ o. (stack : List AnyFrame) → made stack o ≡ on_name stack (λ n. places.TypePath (longer path n)) symbol) }
+fn type_name(path: Path, symbol: Symbol) -> Result<Action, NoMemory>
+    ensures { IfOk result (λ o. (stack : List AnyFrame) → made stack o ≡ on_name stack (λ n. states.TypePath (longer path n)) symbol) }
 {
     match symbol {
         Symbol::Name(name) => {
             let path = extended(path, name)?;
-            Ok(Outcome::Read(Place::TypePath { path }))
+            Ok(Action::Read(State::TypePath { path }))
         }
-        _ => Ok(Outcome::Refused),
+        _ => Ok(Action::Refused),
     }
 }
 
@@ -91,7 +91,7 @@ fn brace(
     start: usize,
     kind: Kind,
     symbol: Symbol,
-) -> Result<Outcome, NoMemory>
+) -> Result<Action, NoMemory>
     ensures { IfOk result (λ o. made stack.new o ≡ on_brace stack.old start kind symbol) }
 {
     match symbol {
@@ -106,63 +106,63 @@ fn brace(
                 },
             )
         }
-        _ => Ok(Outcome::Refused),
+        _ => Ok(Action::Refused),
     }
 }
 
 /// A symbol behind `.`.
-fn dot_name(base: Base, start: usize, symbol: Symbol) -> Outcome
-    ensures { (stack : List AnyFrame) → made stack result ≡ on_name stack (λ n. places.Dotted base start n) symbol }
+fn dot_name(base: Base, start: usize, symbol: Symbol) -> Action
+    ensures { (stack : List AnyFrame) → made stack result ≡ on_name stack (λ n. states.Dotted base start n) symbol }
 {
     match symbol {
-        Symbol::Name(name) => Outcome::Read(Place::Dotted { base, start, name }),
-        _ => Outcome::Refused,
+        Symbol::Name(name) => Action::Read(State::Dotted { base, start, name }),
+        _ => Action::Refused,
     }
 }
 
 /// A symbol behind `->`.
-fn arrow_name(base: Base, start: usize, symbol: Symbol) -> Outcome
-    ensures { (stack : List AnyFrame) → made stack result ≡ on_name stack (λ n. places.ArrowParenthesis base start n) symbol }
+fn arrow_name(base: Base, start: usize, symbol: Symbol) -> Action
+    ensures { (stack : List AnyFrame) → made stack result ≡ on_name stack (λ n. states.ArrowParenthesis base start n) symbol }
 {
     match symbol {
-        Symbol::Name(name) => Outcome::Read(Place::ArrowParenthesis { base, start, name }),
-        _ => Outcome::Refused,
+        Symbol::Name(name) => Action::Read(State::ArrowParenthesis { base, start, name }),
+        _ => Action::Refused,
     }
 }
 
 /// A symbol behind `->name`.
-fn arrow_parenthesis(base: Base, start: usize, name: Name, symbol: Symbol) -> Outcome
+fn arrow_parenthesis(base: Base, start: usize, name: Name, symbol: Symbol) -> Action
     ensures { (stack : List AnyFrame) → made stack result ≡ on_arrow_parenthesis stack base start name symbol }
 {
     match symbol {
-        Symbol::OpenParenthesis => Outcome::Read(Place::ArrowFirst { base, start, name }),
-        _ => Outcome::Refused,
+        Symbol::OpenParenthesis => Action::Read(State::ArrowFirst { base, start, name }),
+        _ => Action::Refused,
     }
 }
 
 /// A symbol behind the `(` of a call whose argument is a class.
-fn class_name(alloc: Global, called: Called, symbol: Symbol) -> Result<Outcome, NoMemory>
-    ensures { IfOk result (λ o. (stack : List AnyFrame) → made stack o ≡ on_name stack (λ n. places.ClassPath called (first_path n)) symbol) }
+fn class_name(alloc: Global, called: CallHead, symbol: Symbol) -> Result<Action, NoMemory>
+    ensures { IfOk result (λ o. (stack : List AnyFrame) → made stack o ≡ on_name stack (λ n. states.ClassPath called (first_path n)) symbol) }
 {
     match symbol {
         Symbol::Name(name) => {
             let path = path_of(alloc, name)?;
-            Ok(Outcome::Read(Place::ClassPath { called, path }))
+            Ok(Action::Read(State::ClassPath { called, path }))
         }
-        _ => Ok(Outcome::Refused),
+        _ => Ok(Action::Refused),
     }
 }
 
 /// A symbol behind `::` in that class.
-fn class_next(called: Called, path: Path, symbol: Symbol) -> Result<Outcome, NoMemory>
-    ensures { IfOk result (λ o. (stack : List AnyFrame) → made stack o ≡ on_name stack (λ n. places.ClassPath called (longer path n)) symbol) }
+fn class_next(called: CallHead, path: Path, symbol: Symbol) -> Result<Action, NoMemory>
+    ensures { IfOk result (λ o. (stack : List AnyFrame) → made stack o ≡ on_name stack (λ n. states.ClassPath called (longer path n)) symbol) }
 {
     match symbol {
         Symbol::Name(name) => {
             let path = extended(path, name)?;
-            Ok(Outcome::Read(Place::ClassPath { called, path }))
+            Ok(Action::Read(State::ClassPath { called, path }))
         }
-        _ => Ok(Outcome::Refused),
+        _ => Ok(Action::Refused),
     }
 }
 
@@ -170,39 +170,45 @@ fn class_next(called: Called, path: Path, symbol: Symbol) -> Result<Outcome, NoM
 pub(crate) fn move_on(
     alloc: Global,
     stack: &mut Stack,
-    place: Place,
-    symbol: Symbol,
-    span: Span,
-) -> Result<Outcome, NoMemory>
-    ensures { IfOk result (λ o. made stack.new o ≡ next_move stack.old place symbol span) }
+    state: State,
+    terminal: Terminal,
+) -> Result<Action, NoMemory>
+    ensures { IfOk result (λ o. made stack.new o ≡ next_move stack.old state terminal.symbol terminal.span) }
 {
-    match place {
-        Place::Operand => operand(alloc, stack, symbol, span),
-        Place::After { base } => after(alloc, stack, base, symbol, span),
-        Place::Path { path } => on_path(alloc, stack, path, symbol, span),
-        Place::PathName { path } => path_name(path, symbol),
-        Place::LetName { start } => Ok(let_name(start, symbol)),
-        Place::LetColon { start, name } => let_colon(stack, start, name, symbol),
-        Place::Type => type_begin(alloc, symbol, span),
-        Place::TypeParenthesis { start, kind } => type_parenthesis(stack, start, kind, symbol),
-        Place::TypePath { path } => type_path(alloc, stack, path, symbol, span),
-        Place::TypeName { path } => type_name(path, symbol),
-        Place::TypeEnd { ty } => type_end(alloc, stack, ty, symbol, span),
-        Place::Brace { start, kind } => brace(alloc, stack, start, kind, symbol),
-        Place::DotName { base, start } => Ok(dot_name(base, start, symbol)),
-        Place::Dotted { base, start, name } => {
-            dotted(alloc, stack, base, start, name, symbol, span)
+    match state {
+        State::Operand => operand(alloc, stack, terminal),
+        State::After { base } => after(alloc, stack, base, terminal),
+        State::Path { path } => on_path(alloc, stack, path, terminal),
+        State::PathName { path } => path_name(path, terminal.symbol),
+        State::LetName { start } => Ok(let_name(start, terminal.symbol)),
+        State::LetColon { start, name } => let_colon(stack, start, name, terminal.symbol),
+        State::Type => type_begin(alloc, terminal),
+        State::TypeParenthesis { start, kind } => type_parenthesis(
+            stack,
+            start,
+            kind,
+            terminal.symbol,
+        ),
+        State::TypePath { path } => type_path(alloc, stack, path, terminal),
+        State::TypeName { path } => type_name(path, terminal.symbol),
+        State::TypeEnd { ty } => type_end(alloc, stack, ty, terminal),
+        State::Brace { start, kind } => brace(alloc, stack, start, kind, terminal.symbol),
+        State::DotName { base, start } => Ok(dot_name(base, start, terminal.symbol)),
+        State::Dotted { base, start, name } => {
+            let head = PostfixHead { base, start, name };
+            dotted(alloc, stack, head, terminal)
         }
-        Place::ArrowName { base, start } => Ok(arrow_name(base, start, symbol)),
-        Place::ArrowParenthesis { base, start, name } => {
-            Ok(arrow_parenthesis(base, start, name, symbol))
+        State::ArrowName { base, start } => Ok(arrow_name(base, start, terminal.symbol)),
+        State::ArrowParenthesis { base, start, name } => {
+            Ok(arrow_parenthesis(base, start, name, terminal.symbol))
         }
-        Place::ArrowFirst { base, start, name } => {
-            arrow_first(alloc, stack, base, start, name, symbol, span)
+        State::ArrowFirst { base, start, name } => {
+            let head = PostfixHead { base, start, name };
+            arrow_first(alloc, stack, head, terminal)
         }
-        Place::ArrowSecond { iterated } => arrow_second(alloc, stack, iterated, symbol, span),
-        Place::ClassName { called } => class_name(alloc, called, symbol),
-        Place::ClassPath { called, path } => class_path(alloc, called, path, symbol, span),
-        Place::ClassNext { called, path } => class_next(called, path, symbol),
+        State::ArrowSecond { iterated } => arrow_second(alloc, stack, iterated, terminal),
+        State::ClassName { called } => class_name(alloc, called, terminal.symbol),
+        State::ClassPath { called, path } => class_path(alloc, called, path, terminal),
+        State::ClassNext { called, path } => class_next(called, path, terminal.symbol),
     }
 }

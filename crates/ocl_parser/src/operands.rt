@@ -6,10 +6,10 @@ ghost use Rattle.ocl_parser.specs.declared.symbol.Symbol.TheVariants as symbols;
 
 use crate::frame::Frame;
 use crate::parts::{behind_base, behind_call, path_of};
-use crate::place::{Outcome, Place};
+use crate::shifting::{open, refuse};
 use crate::stack::Stack;
-use crate::steps::{open, refuse};
-use crate::symbol::Symbol;
+use crate::state::{Action, State};
+use crate::symbol::{Symbol, Terminal};
 use mof_metamodel::{NoMemory, Span};
 use qv_syntax::{Args, Expr, Operator};
 use std::alloc::Global;
@@ -35,23 +35,23 @@ fn begins_in(frame: &Frame) -> bool
 }
 
 /// `let`
-fn begin_let(stack: &Stack, start: usize) -> Outcome
+fn begin_let(stack: &Stack, start: usize) -> Action
     ensures { made stack.now result ≡ let_on (begins_expression stack.now) stack.now start }
 {
     if begins(stack) {
-        Outcome::Read(Place::LetName { start })
+        Action::Read(State::LetName { start })
     } else {
-        Outcome::Refused
+        Action::Refused
     }
 }
 
 /// An operator in front of an operand.
-fn sign(stack: &mut Stack, operator: Operator, span: Span) -> Result<Outcome, NoMemory>
+fn sign(stack: &mut Stack, operator: Operator, span: Span) -> Result<Action, NoMemory>
     ensures { IfOk result (λ o. made stack.new o ≡ operand_move stack.old (symbols.Operator operator) span) }
 {
     match operator {
         Operator::Minus => open(stack, Frame::Negated { start: span.start }),
-        _ => Ok(Outcome::Refused),
+        _ => Ok(Action::Refused),
     }
 }
 
@@ -61,7 +61,7 @@ fn no_argument(
     stack: &mut Stack,
     frame: Frame,
     end: usize,
-) -> Result<Outcome, NoMemory>
+) -> Result<Action, NoMemory>
     ensures { IfOk result (λ o. made stack.new o ≡ none_in_parentheses (frame ∷ stack.old) end) }
 {
     match frame {
@@ -77,12 +77,12 @@ fn no_argument(
 }
 
 /// `)` where an operand may begin.
-fn end_parentheses(alloc: Global, stack: &mut Stack, end: usize) -> Result<Outcome, NoMemory>
+fn end_parentheses(alloc: Global, stack: &mut Stack, end: usize) -> Result<Action, NoMemory>
     ensures { IfOk result (λ o. made stack.new o ≡ none_in_parentheses stack.old end) }
 {
     match stack.pop() {
         Some(frame) => no_argument(alloc, stack, frame, end),
-        None => Ok(Outcome::Refused),
+        None => Ok(Action::Refused),
     }
 }
 
@@ -92,7 +92,7 @@ fn no_element(
     stack: &mut Stack,
     frame: Frame,
     end: usize,
-) -> Result<Outcome, NoMemory>
+) -> Result<Action, NoMemory>
     ensures { IfOk result (λ o. made stack.new o ≡ none_in_braces (frame ∷ stack.old) end) }
 {
     match frame {
@@ -125,12 +125,12 @@ fn no_element(
 }
 
 /// `}` where an operand may begin.
-fn end_braces(alloc: Global, stack: &mut Stack, end: usize) -> Result<Outcome, NoMemory>
+fn end_braces(alloc: Global, stack: &mut Stack, end: usize) -> Result<Action, NoMemory>
     ensures { IfOk result (λ o. made stack.new o ≡ none_in_braces stack.old end) }
 {
     match stack.pop() {
         Some(frame) => no_element(alloc, stack, frame, end),
-        None => Ok(Outcome::Refused),
+        None => Ok(Action::Refused),
     }
 }
 
@@ -138,11 +138,11 @@ fn end_braces(alloc: Global, stack: &mut Stack, end: usize) -> Result<Outcome, N
 pub(crate) fn operand(
     alloc: Global,
     stack: &mut Stack,
-    symbol: Symbol,
-    span: Span,
-) -> Result<Outcome, NoMemory>
-    ensures { IfOk result (λ o. made stack.new o ≡ operand_move stack.old symbol span) }
+    terminal: Terminal,
+) -> Result<Action, NoMemory>
+    ensures { IfOk result (λ o. made stack.new o ≡ operand_move stack.old terminal.symbol terminal.span) }
 {
+    let Terminal { symbol, span } = terminal;
     let start = span.start;
     match symbol {
         Symbol::Let => Ok(begin_let(stack, start)),
@@ -157,11 +157,11 @@ pub(crate) fn operand(
         Symbol::Str(value) => behind_base(alloc, Expr::Str { value, span }, span),
         Symbol::Name(name) => {
             let path = path_of(alloc, name)?;
-            Ok(Outcome::Read(Place::Path { path }))
+            Ok(Action::Read(State::Path { path }))
         }
-        Symbol::Kind(kind) => Ok(Outcome::Read(Place::Brace { start, kind })),
+        Symbol::Kind(kind) => Ok(Action::Read(State::Brace { start, kind })),
         Symbol::CloseParenthesis => end_parentheses(alloc, stack, span.end),
         Symbol::CloseBrace => end_braces(alloc, stack, span.end),
-        _ => Ok(Outcome::Refused),
+        _ => Ok(Action::Refused),
     }
 }

@@ -1,13 +1,15 @@
-ghost use Rattle.std.specs.Prelude.{◌≡◌, ◌≤◌, ◌<◌, ◌+◌, nat_lt, [], drop, length, slice_get, IfOk};
-ghost use Rattle.ocl_parser.specs.Moves.{move as next_move, open_levels, place_levels as levels_of};
+ghost use Rattle.std.specs.Prelude.{◌≡◌, ◌≤◌, ◌<◌, ◌+◌, ℕ, nat_lt, [], drop, length, slice_get, Ok, Err, IfOk};
+ghost use Rattle.qv_syntax.specs.declared.expr.Expr.{Expr as AnyExpr};
+ghost use Rattle.ocl_parser.specs.Beginnings.{IsDeep, IsStuck, IsTree};
+ghost use Rattle.ocl_parser.specs.Moves.{move as next_move, open_levels, state_levels as levels_of};
 ghost use Rattle.ocl_parser.specs.Runs.{answer, ended_by, run};
-ghost use Rattle.ocl_parser.specs.Answers.{Answers, Tells, Passed, made, place_of, step_answer, terminal_of};
+ghost use Rattle.ocl_parser.specs.Answers.{Answers, IsAnswered, Tells, Passed, made, place_of, step_answer, terminal_of};
 
 use crate::error::ParseError;
 use crate::look::peek;
 use crate::moves::move_on;
-use crate::place::{Outcome, Place};
 use crate::stack::Stack;
+use crate::state::{Action, State};
 use crate::terminals::symbol_at;
 use mof_metamodel::{MAX_NESTING, NoMemory};
 use ql_lex::Tokens;
@@ -18,21 +20,21 @@ use std::alloc::Global;
 #[derive(Drop)]
 struct Reading {
     stack: Stack,
-    place: Place,
+    state: State,
 }
 
 /// How many levels are open and in no frame yet.
-fn place_levels(place: &Place) -> usize
-    ensures { result ≡ levels_of place.now }
+fn state_levels(state: &State) -> usize
+    ensures { result ≡ levels_of state.now }
 {
-    match place {
-        Place::LetName { .. }
-        | Place::LetColon { .. }
-        | Place::ArrowFirst { .. }
-        | Place::ArrowSecond { .. }
-        | Place::ClassName { .. }
-        | Place::ClassPath { .. }
-        | Place::ClassNext { .. } => 1,
+    match state {
+        State::LetName { .. }
+        | State::LetColon { .. }
+        | State::ArrowFirst { .. }
+        | State::ArrowSecond { .. }
+        | State::ClassName { .. }
+        | State::ClassPath { .. }
+        | State::ClassNext { .. } => 1,
         _ => 0,
     }
 }
@@ -48,31 +50,25 @@ fn place_at(tokens: &Tokens<'_>, at: usize) -> usize
 }
 
 /// Whether more levels are open than may be.
-fn is_deep(stack: &Stack, place: &Place) -> bool
-    ensures { result ≡ nat_lt 128 (open_levels stack.now + levels_of place.now) }
+fn is_deep(stack: &Stack, state: &State) -> bool
+    ensures { result ≡ nat_lt MAX_NESTING (open_levels stack.now + levels_of state.now) }
 {
     let levels = stack.levels();
-    levels > MAX_NESTING || place_levels(place) > MAX_NESTING - levels
+    levels > MAX_NESTING || state_levels(state) > MAX_NESTING - levels
 }
 
-/// The outcome of the symbol of this number.
+/// What comes of the symbol of this number.
 fn next(
     alloc: Global,
     tokens: &Tokens<'_>,
     at: usize,
     reading: &mut Reading,
-) -> Result<Outcome, NoMemory>
-    ensures { IfOk result (λ o. made reading.new.stack o ≡ next_move reading.old.stack reading.old.place (terminal_of (slice_get tokens.now.lexemes at)).symbol (terminal_of (slice_get tokens.now.lexemes at)).span) }
+) -> Result<Action, NoMemory>
+    ensures { IfOk result (λ o. made reading.new.stack o ≡ next_move reading.old.stack reading.old.state (terminal_of (slice_get tokens.now.lexemes at)).symbol (terminal_of (slice_get tokens.now.lexemes at)).span) }
 {
     let terminal = symbol_at(alloc, tokens, at)?;
-    let place = std::mem::replace(&mut reading.place, Place::Operand);
-    move_on(
-        alloc,
-        &mut reading.stack,
-        place,
-        terminal.symbol,
-        terminal.span,
-    )
+    let state = std::mem::replace(&mut reading.state, State::Operand);
+    move_on(alloc, &mut reading.stack, state, terminal)
 }
 
 /// Goes on behind a token that was read, or answers.
@@ -80,21 +76,21 @@ fn judge(
     tokens: &Tokens<'_>,
     at: usize,
     reading: &mut Reading,
-    outcome: Outcome,
+    action: Action,
 ) -> Option<Result<(Expr, usize), ParseError>>
-    ensures { Passed tokens.now (at + 1) reading.new.stack reading.new.place (step_answer 128 (drop (at + 1) tokens.now.lexemes) at (made reading.old.stack outcome)) result }
+    ensures { Passed tokens.now (at + 1) reading.new.stack reading.new.state (step_answer MAX_NESTING (drop (at + 1) tokens.now.lexemes) at (made reading.old.stack action)) result }
 {
-    match outcome {
-        Outcome::Read(place) => {
-            if is_deep(&reading.stack, &place) {
+    match action {
+        Action::Read(state) => {
+            if is_deep(&reading.stack, &state) {
                 let at = place_at(tokens, at);
                 return Some(Err(ParseError::Limit { at }));
             }
-            reading.place = place;
+            reading.state = state;
             None
         }
-        Outcome::Whole(tree) => Some(Ok((tree, at))),
-        Outcome::Refused => {
+        Action::Whole(tree) => Some(Ok((tree, at))),
+        Action::Refused => {
             let at = place_at(tokens, at);
             Some(Err(ParseError::Parse { at }))
         }
@@ -109,20 +105,20 @@ fn pass(
     reading: &mut Reading,
 ) -> Option<Result<(Expr, usize), ParseError>>
     requires { at < length tokens.now.lexemes }
-    ensures { Passed tokens.now (at + 1) reading.new.stack reading.new.place (run 128 (drop at tokens.now.lexemes) reading.old.stack reading.old.place at) result }
+    ensures { Passed tokens.now (at + 1) reading.new.stack reading.new.state (run MAX_NESTING (drop at tokens.now.lexemes) reading.old.stack reading.old.state at) result }
 {
     match next(alloc, tokens, at, reading) {
-        Ok(outcome) => judge(tokens, at, reading, outcome),
+        Ok(action) => judge(tokens, at, reading, action),
         Err(_) => Some(Err(ParseError::NoMemory)),
     }
 }
 
 /// The answer by what comes of the end of the text.
-fn judge_end(tokens: &Tokens<'_>, at: usize, outcome: Outcome) -> Result<(Expr, usize), ParseError>
-    ensures { Answers tokens.now (ended_by outcome at) result }
+fn judge_end(tokens: &Tokens<'_>, at: usize, action: Action) -> Result<(Expr, usize), ParseError>
+    ensures { Answers tokens.now (ended_by action at) result }
 {
-    match outcome {
-        Outcome::Whole(tree) => Ok((tree, at)),
+    match action {
+        Action::Whole(tree) => Ok((tree, at)),
         _ => Err(ParseError::Parse {
             at: place_at(tokens, at),
         }),
@@ -135,11 +131,11 @@ fn end(
     tokens: &Tokens<'_>,
     reading: &mut Reading,
 ) -> Result<(Expr, usize), ParseError>
-    ensures { Answers tokens.now (run 128 [] reading.old.stack reading.old.place (length tokens.now.lexemes)) result }
+    ensures { Answers tokens.now (run MAX_NESTING [] reading.old.stack reading.old.state (length tokens.now.lexemes)) result }
 {
     let at = tokens.len();
     match next(alloc, tokens, at, reading) {
-        Ok(outcome) => judge_end(tokens, at, outcome),
+        Ok(action) => judge_end(tokens, at, action),
         Err(_) => Err(ParseError::NoMemory),
     }
 }
@@ -152,7 +148,7 @@ fn read(
     reading: &mut Reading,
 ) -> Result<(Expr, usize), ParseError>
     requires { from ≤ length tokens.now.lexemes }
-    ensures { Answers tokens.now (run 128 (drop from tokens.now.lexemes) reading.old.stack reading.old.place from) result }
+    ensures { Answers tokens.now (run MAX_NESTING (drop from tokens.now.lexemes) reading.old.stack reading.old.state from) result }
 {
     for at in from..tokens.len() {
         if let Some(answer) = pass(alloc, tokens, at, reading) {
@@ -166,11 +162,11 @@ fn read(
 #[tactic(auto, unfolding(crate::specs::Runs::answer))]
 fn answer_from(alloc: Global, tokens: &Tokens<'_>, from: usize) -> Result<(Expr, usize), ParseError>
     requires { from ≤ length tokens.now.lexemes }
-    ensures { Answers tokens.now (answer tokens.now.lexemes 128 from) result }
+    ensures { Answers tokens.now (answer tokens.now.lexemes MAX_NESTING from) result }
 {
     let mut reading = Reading {
         stack: Stack::new(alloc),
-        place: Place::Operand,
+        state: State::Operand,
     };
     read(alloc, tokens, from, &mut reading)
 }
@@ -180,8 +176,9 @@ fn answer_from(alloc: Global, tokens: &Tokens<'_>, from: usize) -> Result<(Expr,
 ///
 /// # Errors
 ///
-/// `Parse` where that list is no expression, at the start of the token behind it, in bytes, or at the end of the
-/// text; `Limit` where it nests to level 129, at the start of the token that opens the level; and `NoMemory`.
+/// `Parse` where that list is no expression and nests no deeper than it may, at the start of the token behind it, in
+/// bytes, or at the end of the text; `Limit` where a token of it opens a level past `MAX_NESTING`, at the start of the
+/// first such token; and `NoMemory`.
 #[tactic(auto, using(crate::proofs::AnswerLaws::told))]
 pub fn parse_expr(
     alloc: Global,
@@ -189,8 +186,12 @@ pub fn parse_expr(
     from: usize,
 ) -> Result<(Expr, usize), ParseError>
     requires { from ≤ length tokens.now.lexemes }
-    ensures tells { Tells tokens.now from 128 result }
-    ensures answer { Answers tokens.now (answer tokens.now.lexemes 128 from) result }
+    // What is answered is so.
+    ensures tells { Tells tokens.now from MAX_NESTING result }
+    // What is so is answered, unless memory could not be had.
+    ensures tree { (e : AnyExpr) (end : ℕ) → IsTree tokens.now.lexemes from MAX_NESTING e end → IsAnswered (Ok (e, end)) result }
+    ensures stuck { (k : ℕ) → IsStuck tokens.now.lexemes from MAX_NESTING k → IsAnswered (Err (ParseError.Parse (place_of tokens.now k))) result }
+    ensures deep { (k : ℕ) → IsDeep tokens.now.lexemes from MAX_NESTING k → IsAnswered (Err (ParseError.Limit (place_of tokens.now k))) result }
 {
     answer_from(alloc, tokens, from)
 }

@@ -1,12 +1,12 @@
 ghost use Rattle.std.specs.Prelude.{◌≡◌, [], ◌∷◌, length, IfOk, MatchResult};
-ghost use Rattle.ocl_parser.specs.declared.place.Outcome.TheVariants as outcomes;
-ghost use Rattle.ocl_parser.specs.declared.place.Place.TheVariants as places;
-ghost use Rattle.ocl_parser.specs.Moves.{base_of as base_meant, called_by as called_meant, chained as chain_meant, extended as path_meant, link as link_meant, part_of as part_meant, path_of as first_path, with_args as args_meant, with_body as body_meant, with_step as step_meant};
+ghost use Rattle.ocl_parser.specs.declared.state.Action.TheVariants as actions;
+ghost use Rattle.ocl_parser.specs.declared.state.State.TheVariants as states;
+ghost use Rattle.ocl_parser.specs.Moves.{base_of as base_meant, called_by as called_meant, chained as chain_meant, extended as path_meant, infixed as infix_meant, subtree_of as subtree_meant, path_of as first_path, with_args as args_meant, with_body as body_meant, with_postfix as postfix_meant};
 
-use crate::frame::{Base, Before, Called, Iterated, Part};
-use crate::place::{Outcome, Place};
+use crate::frame::{Base, Before, CallHead, Iterated, Subtree};
+use crate::state::{Action, State};
 use mof_metamodel::{Boxed, NoMemory, Seq, Span};
-use qv_syntax::{Args, Expr, Link, Name, Operator, Path, Step, TypeTree};
+use qv_syntax::{Args, Expr, Infix, Name, Operator, Path, Postfix, TypeTree};
 use std::alloc::Global;
 
 /// A part that binds tightest, with no calls on it yet.
@@ -21,16 +21,16 @@ pub(crate) fn base_of(alloc: Global, of: Expr, span: Span) -> Result<Base, NoMem
 }
 
 /// Goes on behind a part that binds tightest.
-pub(crate) fn behind_base(alloc: Global, of: Expr, span: Span) -> Result<Outcome, NoMemory>
-    ensures { IfOk result (λ o. o ≡ outcomes.Read (places.After (base_meant of span))) }
+pub(crate) fn behind_base(alloc: Global, of: Expr, span: Span) -> Result<Action, NoMemory>
+    ensures { IfOk result (λ o. o ≡ actions.Read (states.After (base_meant of span))) }
 {
     let base = base_of(alloc, of, span)?;
-    Ok(Outcome::Read(Place::After { base }))
+    Ok(Action::Read(State::After { base }))
 }
 
 /// The part with one more call, which ends at this place.
-pub(crate) fn with_step(base: Base, step: Step, end: usize) -> Result<Base, NoMemory>
-    ensures { IfOk result (λ b. b ≡ step_meant base step end) }
+pub(crate) fn with_postfix(base: Base, step: Postfix, end: usize) -> Result<Base, NoMemory>
+    ensures { IfOk result (λ b. b ≡ postfix_meant base step end) }
 {
     let Base {
         of,
@@ -49,16 +49,23 @@ pub(crate) fn with_step(base: Base, step: Step, end: usize) -> Result<Base, NoMe
 }
 
 /// The part with its calls.
-#[tactic(auto, using(crate::proofs::PartLaws::called_part))]
-pub(crate) fn part_of(alloc: Global, base: Base) -> Result<Part, NoMemory>
-    ensures { IfOk result (λ p. p ≡ part_meant base) }
+#[tactic(auto, using(crate::proofs::PartLaws::called_subtree))]
+pub(crate) fn subtree_of(alloc: Global, base: Base) -> Result<Subtree, NoMemory>
+    ensures { IfOk result (λ p. p ≡ subtree_meant base) }
 {
     let Base { of, steps, span } = base;
     if steps.is_empty() {
-        return Ok(Part { tree: of, span });
+        return Ok(Subtree { tree: of, span });
     }
-    let tree = Boxed::new(alloc, Expr::Calls { of, steps, span })?;
-    Ok(Part { tree, span })
+    let tree = Boxed::new(
+        alloc,
+        Expr::Calls {
+            of,
+            calls: steps,
+            span,
+        },
+    )?;
+    Ok(Subtree { tree, span })
 }
 
 /// A path of one name.
@@ -117,11 +124,11 @@ fn called_by(
         }
         Before::Dot { base, start } => {
             let span = Span { start, end };
-            with_step(base, Step::Dot { name, args, span }, end)
+            with_postfix(base, Postfix::Dot { name, args, span }, end)
         }
         Before::Arrow { base, start } => {
             let span = Span { start, end };
-            with_step(base, Step::Arrow { name, args, span }, end)
+            with_postfix(base, Postfix::Arrow { name, args, span }, end)
         }
     }
 }
@@ -129,15 +136,15 @@ fn called_by(
 /// Goes on behind a call with its arguments.
 pub(crate) fn behind_call(
     alloc: Global,
-    called: Called,
+    called: CallHead,
     args: Args,
     end: usize,
-) -> Result<Outcome, NoMemory>
-    ensures { IfOk result (λ o. o ≡ outcomes.Read (places.After (args_meant called args end))) }
+) -> Result<Action, NoMemory>
+    ensures { IfOk result (λ o. o ≡ actions.Read (states.After (args_meant called args end))) }
 {
-    let Called { before, name } = called;
+    let CallHead { before, name } = called;
     let base = called_by(alloc, before, name, args, end)?;
-    Ok(Outcome::Read(Place::After { base }))
+    Ok(Action::Read(State::After { base }))
 }
 
 /// Goes on behind an iterator with its body.
@@ -146,8 +153,8 @@ pub(crate) fn behind_body(
     ty: Option<TypeTree>,
     body: Boxed<Expr>,
     end: usize,
-) -> Result<Outcome, NoMemory>
-    ensures { IfOk result (λ o. o ≡ outcomes.Read (places.After (body_meant iterated ty body end))) }
+) -> Result<Action, NoMemory>
+    ensures { IfOk result (λ o. o ≡ actions.Read (states.After (body_meant iterated ty body end))) }
 {
     let Iterated {
         base,
@@ -155,22 +162,22 @@ pub(crate) fn behind_body(
         name,
         variable,
     } = iterated;
-    let step = Step::Iterator {
+    let step = Postfix::Iterator {
         name,
         variable,
         ty,
         body,
         span: Span { start, end },
     };
-    let base = with_step(base, step, end)?;
-    Ok(Outcome::Read(Place::After { base }))
+    let base = with_postfix(base, step, end)?;
+    Ok(Action::Read(State::After { base }))
 }
 
 /// An operator and the part behind it.
-pub(crate) fn link(operator: Operator, right: Part) -> Link
-    ensures { result ≡ link_meant operator right.tree }
+pub(crate) fn infixed(operator: Operator, right: Subtree) -> Infix
+    ensures { result ≡ infix_meant operator right.tree }
 {
-    Link {
+    Infix {
         operator,
         right: right.tree.into_inner(),
     }
@@ -179,11 +186,11 @@ pub(crate) fn link(operator: Operator, right: Part) -> Link
 /// A row with its last part.
 pub(crate) fn chained(
     alloc: Global,
-    first: Part,
-    rest: Seq<Link>,
+    first: Subtree,
+    rest: Seq<Infix>,
     operator: Operator,
-    right: Part,
-) -> Result<Part, NoMemory>
+    right: Subtree,
+) -> Result<Subtree, NoMemory>
     ensures { IfOk result (λ p. p ≡ chain_meant first rest operator right) }
 {
     let mut rest = rest;
@@ -191,8 +198,8 @@ pub(crate) fn chained(
         start: first.span.start,
         end: right.span.end,
     };
-    rest.push(link(operator, right))?;
+    rest.push(infixed(operator, right))?;
     let first = first.tree;
     let tree = Boxed::new(alloc, Expr::Chain { first, rest, span })?;
-    Ok(Part { tree, span })
+    Ok(Subtree { tree, span })
 }

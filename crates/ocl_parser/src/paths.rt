@@ -7,16 +7,16 @@ ghost use Rattle.ocl_parser.specs.declared.frame.Frame.TheVariants as frames;
 ghost use Rattle.ocl_parser.specs.declared.symbol.Symbol.TheVariants as symbols;
 
 use crate::closing::after;
-use crate::frame::{Base, Before, Called, Frame, Iterated};
+use crate::frame::{Base, Before, CallHead, Frame, Iterated, PostfixHead};
 use crate::names::CLASS_NAMES;
 use crate::operands::operand;
-use crate::parts::{base_of, behind_call, only_name, path_of, with_step};
-use crate::place::{Outcome, Place};
+use crate::parts::{base_of, behind_call, only_name, path_of, with_postfix};
+use crate::shifting::{open, open_type};
 use crate::stack::Stack;
-use crate::steps::{open, open_type};
-use crate::symbol::Symbol;
+use crate::state::{Action, State};
+use crate::symbol::{Symbol, Terminal};
 use mof_metamodel::{NoMemory, Seq, Span, Text};
-use qv_syntax::{Args, Expr, Name, Path, Step};
+use qv_syntax::{Args, Expr, Name, Path, Postfix};
 use std::alloc::Global;
 
 /// The greatest number of names of a variable, a class or a literal.
@@ -32,11 +32,11 @@ fn takes_class(name: &Text) -> bool
 }
 
 /// The `(` of a call.
-fn arguments(alloc: Global, stack: &mut Stack, called: Called) -> Result<Outcome, NoMemory>
+fn arguments(alloc: Global, stack: &mut Stack, called: CallHead) -> Result<Action, NoMemory>
     ensures { IfOk result (λ o. made stack.new o ≡ arguments_move stack.old called) }
 {
     if takes_class(&called.name.text) {
-        Ok(Outcome::Read(Place::ClassName { called }))
+        Ok(Action::Read(State::ClassName { called }))
     } else {
         let values = Seq::new(alloc);
         open(stack, Frame::Arguments { called, values })
@@ -48,34 +48,34 @@ fn after_path(
     alloc: Global,
     stack: &mut Stack,
     path: Path,
-    symbol: Symbol,
-    span: Span,
-) -> Result<Outcome, NoMemory>
-    ensures { IfOk result (λ o. made stack.new o ≡ after_path_move stack.old path symbol span) }
+    terminal: Terminal,
+) -> Result<Action, NoMemory>
+    ensures { IfOk result (λ o. made stack.new o ≡ after_path_move stack.old path terminal.symbol terminal.span) }
 {
-    let place = path.span;
-    let base = base_of(alloc, Expr::Named { path }, place)?;
-    after(alloc, stack, base, symbol, span)
+    let whole = path.span;
+    let base = base_of(alloc, Expr::Named { path }, whole)?;
+    after(alloc, stack, base, terminal)
 }
 
 /// `(` behind a path: one name is a call.
 #[tactic(auto, using(crate::proofs::PathLaws::more_names))]
-fn call_path(alloc: Global, stack: &mut Stack, path: Path, span: Span) -> Result<Outcome, NoMemory>
+fn call_path(alloc: Global, stack: &mut Stack, path: Path, span: Span) -> Result<Action, NoMemory>
     ensures { IfOk result (λ o. made stack.new o ≡ path_move stack.old path symbols.OpenParenthesis span) }
 {
-    let place = path.span;
+    let whole = path.span;
     match only_name(path.names) {
         Ok(name) => arguments(
             alloc,
             stack,
-            Called {
+            CallHead {
                 before: Before::Nothing,
                 name,
             },
         ),
         Err(names) => {
-            let path = Path { names, span: place };
-            after_path(alloc, stack, path, Symbol::OpenParenthesis, span)
+            let path = Path { names, span: whole };
+            let symbol = Symbol::OpenParenthesis;
+            after_path(alloc, stack, path, Terminal { symbol, span })
         }
     }
 }
@@ -86,21 +86,30 @@ pub(crate) fn on_path(
     alloc: Global,
     stack: &mut Stack,
     path: Path,
-    symbol: Symbol,
-    span: Span,
-) -> Result<Outcome, NoMemory>
-    ensures { IfOk result (λ o. made stack.new o ≡ path_move stack.old path symbol span) }
+    terminal: Terminal,
+) -> Result<Action, NoMemory>
+    ensures { IfOk result (λ o. made stack.new o ≡ path_move stack.old path terminal.symbol terminal.span) }
 {
+    let Terminal { symbol, span } = terminal;
     match symbol {
         Symbol::OpenParenthesis => call_path(alloc, stack, path, span),
         Symbol::DoubleColon => {
             if path.names.len() < PATH_NAMES {
-                Ok(Outcome::Read(Place::PathName { path }))
+                Ok(Action::Read(State::PathName { path }))
             } else {
-                after_path(alloc, stack, path, Symbol::DoubleColon, span)
+                let symbol = Symbol::DoubleColon;
+                after_path(alloc, stack, path, Terminal { symbol, span })
             }
         }
-        other => after_path(alloc, stack, path, other, span),
+        other => after_path(
+            alloc,
+            stack,
+            path,
+            Terminal {
+                symbol: other,
+                span,
+            },
+        ),
     }
 }
 
@@ -108,23 +117,30 @@ pub(crate) fn on_path(
 pub(crate) fn dotted(
     alloc: Global,
     stack: &mut Stack,
-    base: Base,
-    start: usize,
-    name: Name,
-    symbol: Symbol,
-    span: Span,
-) -> Result<Outcome, NoMemory>
-    ensures { IfOk result (λ o. made stack.new o ≡ dotted_move stack.old base start name symbol span) }
+    head: PostfixHead,
+    terminal: Terminal,
+) -> Result<Action, NoMemory>
+    ensures { IfOk result (λ o. made stack.new o ≡ dotted_move stack.old head.base head.start head.name terminal.symbol terminal.span) }
 {
+    let Terminal { symbol, span } = terminal;
+    let PostfixHead { base, start, name } = head;
     match symbol {
         Symbol::OpenParenthesis => {
             let before = Before::Dot { base, start };
-            arguments(alloc, stack, Called { before, name })
+            arguments(alloc, stack, CallHead { before, name })
         }
         other => {
             let end = name.span.end;
-            let base = with_step(base, Step::Property { name }, end)?;
-            after(alloc, stack, base, other, span)
+            let base = with_postfix(base, Postfix::Property { name }, end)?;
+            after(
+                alloc,
+                stack,
+                base,
+                Terminal {
+                    symbol: other,
+                    span,
+                },
+            )
         }
     }
 }
@@ -132,23 +148,23 @@ pub(crate) fn dotted(
 /// A symbol behind a name of the class of a call.
 pub(crate) fn class_path(
     alloc: Global,
-    called: Called,
+    called: CallHead,
     path: Path,
-    symbol: Symbol,
-    span: Span,
-) -> Result<Outcome, NoMemory>
-    ensures { IfOk result (λ o. (stack : List AnyFrame) → made stack o ≡ class_move stack called path symbol span) }
+    terminal: Terminal,
+) -> Result<Action, NoMemory>
+    ensures { IfOk result (λ o. (stack : List AnyFrame) → made stack o ≡ class_move stack called path terminal.symbol terminal.span) }
 {
+    let Terminal { symbol, span } = terminal;
     match symbol {
         Symbol::DoubleColon => {
             if path.names.len() < CLASS_NAMES {
-                Ok(Outcome::Read(Place::ClassNext { called, path }))
+                Ok(Action::Read(State::ClassNext { called, path }))
             } else {
-                Ok(Outcome::Refused)
+                Ok(Action::Refused)
             }
         }
         Symbol::CloseParenthesis => behind_call(alloc, called, Args::Class { path }, span.end),
-        _ => Ok(Outcome::Refused),
+        _ => Ok(Action::Refused),
     }
 }
 
@@ -156,14 +172,13 @@ pub(crate) fn class_path(
 pub(crate) fn arrow_first(
     alloc: Global,
     stack: &mut Stack,
-    base: Base,
-    start: usize,
-    name: Name,
-    symbol: Symbol,
-    span: Span,
-) -> Result<Outcome, NoMemory>
-    ensures { IfOk result (λ o. made stack.new o ≡ first_move stack.old base start name symbol span) }
+    head: PostfixHead,
+    terminal: Terminal,
+) -> Result<Action, NoMemory>
+    ensures { IfOk result (λ o. made stack.new o ≡ first_move stack.old head.base head.start head.name terminal.symbol terminal.span) }
 {
+    let Terminal { symbol, span } = terminal;
+    let PostfixHead { base, start, name } = head;
     match symbol {
         Symbol::Name(variable) => {
             let iterated = Iterated {
@@ -172,14 +187,22 @@ pub(crate) fn arrow_first(
                 name,
                 variable,
             };
-            Ok(Outcome::Read(Place::ArrowSecond { iterated }))
+            Ok(Action::Read(State::ArrowSecond { iterated }))
         }
         other => {
-            let called = Called {
+            let called = CallHead {
                 before: Before::Arrow { base, start },
                 name,
             };
-            first_argument(alloc, stack, called, other, span)
+            first_argument(
+                alloc,
+                stack,
+                called,
+                Terminal {
+                    symbol: other,
+                    span,
+                },
+            )
         }
     }
 }
@@ -188,18 +211,17 @@ pub(crate) fn arrow_first(
 fn first_argument(
     alloc: Global,
     stack: &mut Stack,
-    called: Called,
-    symbol: Symbol,
-    span: Span,
-) -> Result<Outcome, NoMemory>
-    ensures { IfOk result (λ o. made stack.new o ≡ (if class_taken called.name.text then refused stack.old else operand_move (frames.Arguments called [] ∷ stack.old) symbol span)) }
+    called: CallHead,
+    terminal: Terminal,
+) -> Result<Action, NoMemory>
+    ensures { IfOk result (λ o. made stack.new o ≡ (if class_taken called.name.text then refused stack.old else operand_move (frames.Arguments called [] ∷ stack.old) terminal.symbol terminal.span)) }
 {
     if takes_class(&called.name.text) {
-        Ok(Outcome::Refused)
+        Ok(Action::Refused)
     } else {
         let values = Seq::new(alloc);
         stack.push(Frame::Arguments { called, values })?;
-        operand(alloc, stack, symbol, span)
+        operand(alloc, stack, terminal)
     }
 }
 
@@ -207,19 +229,18 @@ fn first_argument(
 fn first_path(
     alloc: Global,
     stack: &mut Stack,
-    called: Called,
+    called: CallHead,
     path: Path,
-    symbol: Symbol,
-    span: Span,
-) -> Result<Outcome, NoMemory>
-    ensures { IfOk result (λ o. made stack.new o ≡ (if class_taken called.name.text then class_move stack.old called path symbol span else path_move (frames.Arguments called [] ∷ stack.old) path symbol span)) }
+    terminal: Terminal,
+) -> Result<Action, NoMemory>
+    ensures { IfOk result (λ o. made stack.new o ≡ (if class_taken called.name.text then class_move stack.old called path terminal.symbol terminal.span else path_move (frames.Arguments called [] ∷ stack.old) path terminal.symbol terminal.span)) }
 {
     if takes_class(&called.name.text) {
-        class_path(alloc, called, path, symbol, span)
+        class_path(alloc, called, path, terminal)
     } else {
         let values = Seq::new(alloc);
         stack.push(Frame::Arguments { called, values })?;
-        on_path(alloc, stack, path, symbol, span)
+        on_path(alloc, stack, path, terminal)
     }
 }
 
@@ -228,11 +249,11 @@ pub(crate) fn arrow_second(
     alloc: Global,
     stack: &mut Stack,
     iterated: Iterated,
-    symbol: Symbol,
-    span: Span,
-) -> Result<Outcome, NoMemory>
-    ensures { IfOk result (λ o. made stack.new o ≡ second_move stack.old iterated symbol span) }
+    terminal: Terminal,
+) -> Result<Action, NoMemory>
+    ensures { IfOk result (λ o. made stack.new o ≡ second_move stack.old iterated terminal.symbol terminal.span) }
 {
+    let Terminal { symbol, span } = terminal;
     match symbol {
         Symbol::Colon => open_type(stack, Frame::VariableType { iterated }),
         Symbol::Bar => open(stack, Frame::Body { iterated, ty: None }),
@@ -245,7 +266,17 @@ pub(crate) fn arrow_second(
             } = iterated;
             let before = Before::Arrow { base, start };
             let path = path_of(alloc, variable)?;
-            first_path(alloc, stack, Called { before, name }, path, other, span)
+            let called = CallHead { before, name };
+            first_path(
+                alloc,
+                stack,
+                called,
+                path,
+                Terminal {
+                    symbol: other,
+                    span,
+                },
+            )
         }
     }
 }

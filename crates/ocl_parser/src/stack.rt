@@ -7,7 +7,7 @@ use std::alloc::Global;
 use std::marker::Model;
 
 /// The constructs that are open, with the levels of nesting that they open. Contracts see the innermost first.
-#[derive(Debug, Drop)]
+#[derive(Drop)]
 pub(crate) struct Stack {
     frames: Vec<Frame>,
     levels: usize,

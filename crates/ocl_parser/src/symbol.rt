@@ -2,7 +2,7 @@ use mof_metamodel::Span;
 use qv_syntax::{Kind, Literal, Name, Operator};
 
 /// A token as the grammar sees it.
-#[derive(Debug, Drop)]
+#[derive(Drop)]
 pub(crate) enum Symbol {
     Let,
     In,
@@ -35,7 +35,7 @@ pub(crate) enum Symbol {
 }
 
 /// `String`, `Integer` and `Boolean`.
-#[derive(Clone, Copy, Debug, PartialEq, Eq)]
+#[derive(Clone, Copy)]
 pub(crate) enum PlainType {
     Str,
     Int,
@@ -43,7 +43,7 @@ pub(crate) enum PlainType {
 }
 
 /// A symbol and where it stands.
-#[derive(Debug, Drop)]
+#[derive(Drop)]
 pub(crate) struct Terminal {
     pub(crate) symbol: Symbol,
     pub(crate) span: Span,

@@ -1,10 +1,10 @@
 ghost use Rattle.std.specs.Prelude.{◌≡◌, ◌≤◌, true, None, Some, pos, IfOk, OnOk, MatchOption};
 ghost use Rattle.std.specs.Str.{chars};
-ghost use Rattle.ql_lex.specs.Forms.{greatest};
 ghost use Rattle.ocl_parser.specs.Pieces.{integer_of};
 ghost use Rattle.ocl_parser.specs.Unquoting.{meaning as meaning_of, passed, unquoted};
 
 use mof_metamodel::{NoMemory, Text};
+use ql_lex::MAX_INTEGER;
 use std::alloc::Global;
 
 /// What a string or a quoted name was found to stand for, from its first character on.
@@ -63,12 +63,9 @@ pub(crate) fn unquote(alloc: Global, token: &str) -> Result<Text, NoMemory>
     Ok(so_far.text)
 }
 
-/// The greatest Integer.
-const GREATEST: u64 = 9_223_372_036_854_775_807;
-
 /// The number that digits write, if all are digits and it is an Integer.
 fn decimal_value(digits: &[u8]) -> Option<u64>
-    ensures { MatchOption result (integer_of digits.now ≡ None) (λ v. (integer_of digits.now ≡ Some (pos v)) × (v ≤ greatest)) }
+    ensures { MatchOption result (integer_of digits.now ≡ None) (λ v. (integer_of digits.now ≡ Some (pos v)) × (v ≤ MAX_INTEGER)) }
 {
     let mut value = 0;
     for d in digits {
@@ -76,7 +73,7 @@ fn decimal_value(digits: &[u8]) -> Option<u64>
             return None;
         }
         let digit = u64::from(d.saturating_sub(b'0'));
-        if value > (GREATEST - digit) / 10 {
+        if value > (MAX_INTEGER - digit) / 10 {
             return None;
         }
         value = 10 * value + digit;

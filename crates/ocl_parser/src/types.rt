@@ -8,10 +8,10 @@ ghost use Rattle.ocl_parser.specs.declared.symbol.Symbol.TheVariants as symbols;
 use crate::frame::Frame;
 use crate::names::CLASS_NAMES;
 use crate::parts::path_of;
-use crate::place::{Outcome, Place};
+use crate::shifting::{open, refuse};
 use crate::stack::Stack;
-use crate::steps::{open, refuse};
-use crate::symbol::{PlainType, Symbol};
+use crate::state::{Action, State};
+use crate::symbol::{PlainType, Symbol, Terminal};
 use mof_metamodel::{Boxed, NoMemory, Span};
 use qv_syntax::{Operator, Path, TypeTree};
 use std::alloc::Global;
@@ -28,22 +28,23 @@ fn plain_type(ty: PlainType, span: Span) -> TypeTree
 }
 
 /// A symbol where a type may begin.
-pub(crate) fn type_begin(alloc: Global, symbol: Symbol, span: Span) -> Result<Outcome, NoMemory>
-    ensures { IfOk result (λ o. (stack : List AnyFrame) → made stack o ≡ begin_move stack symbol span) }
+pub(crate) fn type_begin(alloc: Global, terminal: Terminal) -> Result<Action, NoMemory>
+    ensures { IfOk result (λ o. (stack : List AnyFrame) → made stack o ≡ begin_move stack terminal.symbol terminal.span) }
 {
+    let Terminal { symbol, span } = terminal;
     match symbol {
-        Symbol::Plain(ty) => Ok(Outcome::Read(Place::TypeEnd {
+        Symbol::Plain(ty) => Ok(Action::Read(State::TypeEnd {
             ty: plain_type(ty, span),
         })),
-        Symbol::Kind(kind) => Ok(Outcome::Read(Place::TypeParenthesis {
+        Symbol::Kind(kind) => Ok(Action::Read(State::TypeParenthesis {
             start: span.start,
             kind,
         })),
         Symbol::Name(name) => {
             let path = path_of(alloc, name)?;
-            Ok(Outcome::Read(Place::TypePath { path }))
+            Ok(Action::Read(State::TypePath { path }))
         }
-        _ => Ok(Outcome::Refused),
+        _ => Ok(Action::Refused),
     }
 }
 
@@ -54,7 +55,7 @@ fn end_of_kind(
     frame: Frame,
     ty: TypeTree,
     span: Span,
-) -> Result<Outcome, NoMemory>
+) -> Result<Action, NoMemory>
     ensures { IfOk result (λ o. made stack.new o ≡ end_move (frame ∷ stack.old) ty symbols.CloseParenthesis span) }
 {
     match frame {
@@ -65,7 +66,7 @@ fn end_of_kind(
                 end: span.end,
             };
             let ty = TypeTree::Coll { kind, of, span };
-            Ok(Outcome::Read(Place::TypeEnd { ty }))
+            Ok(Action::Read(State::TypeEnd { ty }))
         }
         other => refuse(stack, other),
     }
@@ -77,7 +78,7 @@ fn begin_value(
     frame: Frame,
     ty: TypeTree,
     _span: Span,
-) -> Result<Outcome, NoMemory>
+) -> Result<Action, NoMemory>
     ensures { IfOk result (λ o. made stack.new o ≡ end_move (frame ∷ stack.old) ty (symbols.Operator operators.Equal) _span) }
 {
     match frame {
@@ -93,7 +94,7 @@ fn operator_behind(
     ty: TypeTree,
     operator: Operator,
     span: Span,
-) -> Result<Outcome, NoMemory>
+) -> Result<Action, NoMemory>
     ensures { IfOk result (λ o. made stack.new o ≡ end_move (frame ∷ stack.old) ty (symbols.Operator operator) span) }
 {
     match operator {
@@ -108,7 +109,7 @@ fn begin_body(
     frame: Frame,
     ty: TypeTree,
     _span: Span,
-) -> Result<Outcome, NoMemory>
+) -> Result<Action, NoMemory>
     ensures { IfOk result (λ o. made stack.new o ≡ end_move (frame ∷ stack.old) ty symbols.Bar _span) }
 {
     match frame {
@@ -129,11 +130,11 @@ fn end_in(
     stack: &mut Stack,
     frame: Frame,
     ty: TypeTree,
-    symbol: Symbol,
-    span: Span,
-) -> Result<Outcome, NoMemory>
-    ensures { IfOk result (λ o. made stack.new o ≡ end_move (frame ∷ stack.old) ty symbol span) }
+    terminal: Terminal,
+) -> Result<Action, NoMemory>
+    ensures { IfOk result (λ o. made stack.new o ≡ end_move (frame ∷ stack.old) ty terminal.symbol terminal.span) }
 {
+    let Terminal { symbol, span } = terminal;
     match symbol {
         Symbol::CloseParenthesis => end_of_kind(alloc, stack, frame, ty, span),
         Symbol::Operator(operator) => operator_behind(stack, frame, ty, operator, span),
@@ -147,14 +148,13 @@ pub(crate) fn type_end(
     alloc: Global,
     stack: &mut Stack,
     ty: TypeTree,
-    symbol: Symbol,
-    span: Span,
-) -> Result<Outcome, NoMemory>
-    ensures { IfOk result (λ o. made stack.new o ≡ end_move stack.old ty symbol span) }
+    terminal: Terminal,
+) -> Result<Action, NoMemory>
+    ensures { IfOk result (λ o. made stack.new o ≡ end_move stack.old ty terminal.symbol terminal.span) }
 {
     match stack.pop() {
-        Some(frame) => end_in(alloc, stack, frame, ty, symbol, span),
-        None => Ok(Outcome::Refused),
+        Some(frame) => end_in(alloc, stack, frame, ty, terminal),
+        None => Ok(Action::Refused),
     }
 }
 
@@ -163,25 +163,31 @@ pub(crate) fn type_path(
     alloc: Global,
     stack: &mut Stack,
     path: Path,
-    symbol: Symbol,
-    span: Span,
-) -> Result<Outcome, NoMemory>
-    ensures { IfOk result (λ o. made stack.new o ≡ path_move stack.old path symbol span) }
+    terminal: Terminal,
+) -> Result<Action, NoMemory>
+    ensures { IfOk result (λ o. made stack.new o ≡ path_move stack.old path terminal.symbol terminal.span) }
 {
+    let Terminal { symbol, span } = terminal;
     match symbol {
         Symbol::DoubleColon => {
             if path.names.len() < CLASS_NAMES {
-                Ok(Outcome::Read(Place::TypeName { path }))
+                Ok(Action::Read(State::TypeName { path }))
             } else {
+                let symbol = Symbol::DoubleColon;
                 type_end(
                     alloc,
                     stack,
                     TypeTree::Named { path },
-                    Symbol::DoubleColon,
-                    span,
+                    Terminal { symbol, span },
                 )
             }
         }
-        other => type_end(alloc, stack, TypeTree::Named { path }, other, span),
+        other => {
+            let terminal = Terminal {
+                symbol: other,
+                span,
+            };
+            type_end(alloc, stack, TypeTree::Named { path }, terminal)
+        }
     }
 }

@@ -2,7 +2,7 @@
 use Rattle.std.proofs.Common.{◌≡◌, ℕ, zero, suc, ◌+◌, ◌-◌, ◌*◌, ◌<◌, ◌≤◌, Result, Ok, Err, map, slice_get, subst, slice_range, append_assoc, append-nil, Option, add-zero, Bool, true, false, if◌then◌else◌, ◌&&◌, nat_lt, nat_eq, List, [], ◌∷◌, ◌++◌, length, take, drop, get_or, Some, None, refl, sym, ◌∙◌, ap, arith, lt-ltb, le-ltb, zero-add}
 use Rattle.std.specs.Prelude.{◌==◌}
 use Rattle.std.proofs.lemmas.List.{drop_more, drop_all, drop-drop, map-append, take-take}
-use Rattle.ql_lex.specs.Forms.{decimal, greatest, front_width, name_len, step_len, comment_end, string_end, closes, escapes, misfit_from, begins_misfit, form, whole_form, whole_form_of, fault}
+use Rattle.ql_lex.specs.Forms.{decimal, front_width, name_len, step_len, comment_end, string_end, closes, escapes, misfit_from, begins_misfit, form, whole_form, whole_form_of, fault}
 use Rattle.std.specs.Str.{IsUtf8}
 use Rattle.std.proofs.lemmas.Str.{IsUtf8-append}
 use Rattle.std.proofs.Math.Nat.{le_refl}
@@ -13,16 +13,16 @@ use Rattle.std.specs.List.{prefix_len, starts_with}
 use Rattle.std.specs.Option.{option_map}
 use Rattle.std.proofs.lemmas.Option.{slice_get-map, slice_get_read}
 use Rattle.std.proofs.lemmas.Bool.{eq-eqb, ne_eqb}
+use Rattle.mof_metamodel.specs.declared.limits.TheConstants.{MAX_SCRIPT}
+use Rattle.ql_lex.specs.declared.limits.TheConstants.{MAX_INTEGER}
 use Rattle.ql_lex.specs.declared.fault.LexFault.{LexFault}
-use Rattle.ql_lex.specs.declared.fault.LexError.{LexError}
-use Rattle.ql_lex.specs.declared.fault.LexError.TheVariants as errors
 use Rattle.ql_lex.specs.declared.fault.LexKind.TheVariants.{BadUtf8, Limit}
 use Rattle.ql_lex.specs.declared.token.TokenKind.{TokenKind}
 use Rattle.mof_metamodel.specs.declared.span.Span.{Span}
 use Rattle.ql_lex.specs.declared.piece.Piece.{Piece}
 use Rattle.ql_lex.specs.declared.word.Word.{Word}
-use Rattle.ql_lex.specs.Lexed.{Lexeme, lexemes_of, with_front, moved, lexed_from, lexed, mark_len, most_bytes, AreSlices}
-use Rattle.ql_lex.specs.Answers.{seen, seen_all, Fails}
+use Rattle.ql_lex.specs.Lexed.{Lexeme, lexemes_of, with_front, moved, lexed_from, lexed, mark_len, AreSlices}
+use Rattle.ql_lex.specs.Answers.{seen, seen_all}
 use Rattle.bstr.proofs.lemmas.PieceLemmas.{piece-bounds}
 
 -- further digits make no number less
@@ -40,17 +40,17 @@ pub decimal-step : (ds : List ℕ) (i before : ℕ) → i < length ds
     → decimal before (drop i ds) ≡ decimal (10 * before + (get_or ds i 0 - 48)) (drop (i + 1) ds)
 decimal-step ds i before h = ap (decimal before) (drop_more ds i 0 h) ∙ decimal-cons (get_or ds i 0) (drop (i + 1) ds) before
 
--- a digit that takes a number above the greatest, and none left
-pub decimal-over : (ds : List ℕ) (i before : ℕ) → i < length ds → greatest < 10 * before + (get_or ds i 0 - 48)
-    → nat_lt greatest (decimal before (drop i ds)) ≡ true
+-- a digit that takes a number above the MAX_INTEGER, and none left
+pub decimal-over : (ds : List ℕ) (i before : ℕ) → i < length ds → MAX_INTEGER < 10 * before + (get_or ds i 0 - 48)
+    → nat_lt MAX_INTEGER (decimal before (drop i ds)) ≡ true
 decimal-over ds i before h over =
     let step = decimal-step ds i before h in
     let more = decimal-le (drop (i + 1) ds) (10 * before + (get_or ds i 0 - 48)) in
-    lt-ltb greatest (decimal before (drop i ds)) (omega (arith, step, more))
+    lt-ltb MAX_INTEGER (decimal before (drop i ds)) (omega (arith, step, more))
 
-pub decimal-none : (ds : List ℕ) (i before : ℕ) → length ds ≤ i → before ≤ greatest → nat_lt greatest (decimal before (drop i ds)) ≡ false
+pub decimal-none : (ds : List ℕ) (i before : ℕ) → length ds ≤ i → before ≤ MAX_INTEGER → nat_lt MAX_INTEGER (decimal before (drop i ds)) ≡ false
 unfolding decimal
-decimal-none ds i before h le = ap (λ xs. nat_lt greatest (decimal before xs)) (drop_all i ds h) ∙ le-ltb greatest before le
+decimal-none ds i before h le = ap (λ xs. nat_lt MAX_INTEGER (decimal before xs)) (drop_all i ds h) ∙ le-ltb MAX_INTEGER before le
 
 -- a front that isn't empty takes a byte, and no more than there are
 pub width-some : (bs : List ℕ) → 0 < length bs → 0 < front_width bs
@@ -90,7 +90,7 @@ name_len-end [] e = refl
 name_len-end (b ∷ bs) e = name_len-none b bs e
 
 -- one more byte of a comment, its end, and none left
-comment_end-cons : (b : ℕ) (bs : List ℕ) (i : ℕ) (star : Bool)
+pub comment_end-cons : (b : ℕ) (bs : List ℕ) (i : ℕ) (star : Bool)
     → comment_end i star (b ∷ bs) ≡ (if star && (b == 47) then Some (i + 1) else comment_end (i + 1) (b == 42) bs)
 unfolding comment_end
 comment_end-cons b bs i star = refl
@@ -110,7 +110,7 @@ unfolding comment_end
 comment_end-none bs i star h = ap (comment_end i star) (drop_all i bs h)
 
 -- one more byte of a text, its end, and none left
-string_end-cons : (b : ℕ) (bs : List ℕ) (i : ℕ) (escaped : Bool)
+pub string_end-cons : (b : ℕ) (bs : List ℕ) (i : ℕ) (escaped : Bool)
     → string_end i escaped (b ∷ bs) ≡ (if closes escaped b then Some (i + 1) else string_end (i + 1) (escapes escaped b) bs)
 unfolding string_end
 string_end-cons b bs i escaped = refl
@@ -130,7 +130,7 @@ unfolding string_end
 string_end-none bs i escaped h = ap (string_end i escaped) (drop_all i bs h)
 
 -- one more byte of a text's inside, a misfit, and none left
-misfit_from-cons : (b : ℕ) (bs : List ℕ) (i : ℕ) (escaped : Bool) → misfit_from i escaped (b ∷ bs)
+pub misfit_from-cons : (b : ℕ) (bs : List ℕ) (i : ℕ) (escaped : Bool) → misfit_from i escaped (b ∷ bs)
     ≡ (if begins_misfit escaped (b ∷ bs) then Some (if escaped then i - 1 else i) else misfit_from (i + 1) (escapes escaped b) bs)
 unfolding misfit_from
 misfit_from-cons b bs i escaped = refl
@@ -220,15 +220,6 @@ pub with_front-append : (xs ys : List Lexeme) (r : Result (List Lexeme) LexFault
 with_front-append xs ys (Ok zs) = ap Ok (sym (append_assoc xs ys zs))
 with_front-append xs ys (Err f) = refl
 
-pub with_front-nil : (r : Result (List Lexeme) LexFault) → with_front [] r ≡ r
-with_front-nil (Ok zs) = refl
-with_front-nil (Err f) = refl
-
--- a fault stays one behind tokens
-pub fails_behind : (e : LexError) (front : List Lexeme) (r whole : Result (List Lexeme) LexFault) → with_front front r ≡ whole → Fails e r → Fails e whole
-fails_behind (errors.Fault f) front r whole is fails = sym is ∙ ap (with_front front) fails
-fails_behind errors.NoMemory front r whole is fails = tt
-
 -- a token of the list
 pub lexeme_at : {X : Type 0} (f : Lexeme → X) (words : List Word) (i : ℕ) (w : Word) → i < length words → w ≡ get_or words i w
     → slice_get (map f (seen_all words)) i ≡ Some (f (seen w))
@@ -277,15 +268,15 @@ behind_nothing words bytes at p kind is some within =
     ∙ behind_piece (seen_all words) bytes at p is some within
 
 -- a text that is too long, and one that isn't
-pub lexed-long : (bs : List ℕ) → most_bytes < length bs → lexed bs ≡ Err (record { kind = Limit; at = length bs })
+pub lexed-long : (bs : List ℕ) → MAX_SCRIPT < length bs → lexed bs ≡ Err (record { kind = Limit; at = MAX_SCRIPT })
 unfolding lexed
-lexed-long bs h = ap (λ t. if t then Err (record { kind = Limit; at = length bs }) else lexed_from (drop (mark_len bs) bs) (mark_len bs) 0)
-    (lt-ltb most_bytes (length bs) h)
+lexed-long bs h = ap (λ t. if t then Err (record { kind = Limit; at = MAX_SCRIPT }) else lexed_from (drop (mark_len bs) bs) (mark_len bs) 0)
+    (lt-ltb MAX_SCRIPT (length bs) h)
 
-pub lexed-short : (bs : List ℕ) → length bs ≤ most_bytes → lexed bs ≡ lexed_from (drop (mark_len bs) bs) (mark_len bs) 0
+pub lexed-short : (bs : List ℕ) → length bs ≤ MAX_SCRIPT → lexed bs ≡ lexed_from (drop (mark_len bs) bs) (mark_len bs) 0
 unfolding lexed
-lexed-short bs h = ap (λ t. if t then Err (record { kind = Limit; at = length bs }) else lexed_from (drop (mark_len bs) bs) (mark_len bs) 0)
-    (le-ltb most_bytes (length bs) h)
+lexed-short bs h = ap (λ t. if t then Err (record { kind = Limit; at = MAX_SCRIPT }) else lexed_from (drop (mark_len bs) bs) (mark_len bs) 0)
+    (le-ltb MAX_SCRIPT (length bs) h)
 
 -- one more token behind the others
 pub slices_push : (bytes : List ℕ) (ls : List Lexeme) (l : Lexeme) (from to : ℕ) → AreSlices bytes from ls to → to ≤ l.token.span.start
@@ -299,7 +290,7 @@ pub slices_widen : (bytes : List ℕ) (ls : List Lexeme) (from to end : ℕ) →
 slices_widen bytes [] from to end are le = omega arith
 slices_widen bytes (k ∷ ls) from to end are le = (are.0, are.1, are.2, slices_widen bytes ls k.token.span.end to end are.3 le)
 
-take-more : (n m : ℕ) (xs : List ℕ) → take (n + m) xs ≡ take n xs ++ take m (drop n xs)
+pub take-more : (n m : ℕ) (xs : List ℕ) → take (n + m) xs ≡ take n xs ++ take m (drop n xs)
 take-more zero m xs = ap (λ k. take k xs) (zero-add m)
 take-more (suc n) m [] = take-nil (suc n + m) ∙ sym (take-nil m)
 take-more (suc n) m (x ∷ xs) =

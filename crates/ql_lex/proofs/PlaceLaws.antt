@@ -21,10 +21,11 @@ use Rattle.bstr.proofs.lemmas.LossyLemmas.{utf8_valid_len-cases}
 use Rattle.mof_metamodel.specs.Characters.{is_blank}
 use Rattle.ql_lex.specs.declared.token.TokenKind.{TokenKind}
 use Rattle.ql_lex.specs.declared.token.TokenKind.TheVariants.{Str, Quoted, Number}
+use Rattle.ql_lex.specs.declared.limits.TheConstants.{MAX_INTEGER}
 use Rattle.ql_lex.specs.declared.fault.LexFault.{LexFault}
 use Rattle.ql_lex.specs.declared.fault.LexKind.TheVariants.{BadUtf8, BadChar, OpenString, OpenComment, BigNumber}
 use Rattle.ql_lex.specs.declared.piece.Piece.{Piece}
-use Rattle.ql_lex.specs.Forms.{form, fault, token, nothing, front_character, front_width, line_len, block_comment, comment_end, string_end, misfit_from, begins_misfit, closes, escapes, closed, text, number, greatest, decimal, digits_len, name_len, step_len, sign, begins_long_sign, begins_short_sign, begins_line_comment, begins_block_comment, begins_quoted, begins_name}
+use Rattle.ql_lex.specs.Forms.{form, fault, token, nothing, front_character, front_width, line_len, block_comment, comment_end, string_end, misfit_from, begins_misfit, closes, escapes, closed, text, number, decimal, digits_len, name_len, step_len, sign, begins_long_sign, begins_short_sign, begins_line_comment, begins_block_comment, begins_quoted, begins_name}
 use Rattle.ql_lex.specs.Places.{IsCut, IsUtf8Place, EndsClean}
 use Rattle.ql_lex.proofs.Laws.{whole_front, whole_more, name_len-step, name_len-end, width-within}
 
@@ -137,10 +138,10 @@ cut_closed bs opening n byte low closed_at =
 -- ---- misfits
 
 -- a byte that begins a character, or an ASCII one
-abbrev IsStart : ℕ → Type 0
+abbrev pub IsStart : ℕ → Type 0
 IsStart b = 128 ≤ b → 192 ≤ b
 
-start_of : (b : ℕ) (bs : List ℕ) (c : ℕ) → front_character (b ∷ bs) ≡ Some c → IsStart b
+pub start_of : (b : ℕ) (bs : List ℕ) (c : ℕ) → front_character (b ∷ bs) ≡ Some c → IsStart b
 unfolding front_character
 start_of b bs c e =
     let char = λ (p : Decoded) (is : decoded (b ∷ bs) ≡ p). sym (ap (λ (q : Decoded). q.char) is) ∙ e in
@@ -159,7 +160,7 @@ start_of b bs c e =
     (λ h big. let k = char _ h.6 in absurd cc)
     (λ h big. omega (arith, h.1))
 
-character_of : (f : ℕ → Bool) (o : Option ℕ) → option_map_or f o false ≡ true → (c : ℕ) × (o ≡ Some c)
+pub character_of : (f : ℕ → Bool) (o : Option ℕ) → option_map_or f o false ≡ true → (c : ℕ) × (o ≡ Some c)
 character_of f None e = absurd (false≢true e)
 character_of f (Some c) e = (c, refl)
 
@@ -274,7 +275,7 @@ cut_long bs sign whole len starts =
     let is : sign ≡ take (length sign) bs = (bytes_decides sign (take (length sign) bs)).0 starts in
     cut_whole bs 2 (subst P (is ∙ ap (λ n. take n bs) len) whole)
 
-one_of_five : {P : Type 0} (a b c d e : Bool) → (a || b || c || d || e) ≡ true → (a ≡ true → P) → (b ≡ true → P) → (c ≡ true → P) → (d ≡ true → P)
+pub one_of_five : {P : Type 0} (a b c d e : Bool) → (a || b || c || d || e) ≡ true → (a ≡ true → P) → (b ≡ true → P) → (c ≡ true → P) → (d ≡ true → P)
     → (e ≡ true → P) → P
 one_of_five true b c d e is fa fb fc fd fe = fa refl
 one_of_five false true c d e is fa fb fc fd fe = fb refl
@@ -357,7 +358,7 @@ clean_text kind opening bs = go (string_end 0 false (drop opening bs)) refl
 
 clean_number : (bs : List ℕ) → EndsClean bs (number bs)
 clean_number bs =
-    clean_if bs (nat_lt greatest (decimal 0 (take (digits_len bs) bs))) (fault BigNumber 0) (token Number (digits_len bs))
+    clean_if bs (nat_lt MAX_INTEGER (decimal 0 (take (digits_len bs) bs))) (fault BigNumber 0) (token Number (digits_len bs))
     (λ e. (cut_none bs, λ k. absurd cc)) (λ e. cut_run is_ascii_digit bs digit_ascii)
 
 clean_sign : (bs : List ℕ) → 0 < length bs → EndsClean bs (sign bs)

@@ -1,5 +1,5 @@
 -- What the answers of the code stand for.
-use Rattle.std.specs.Prelude.{◌≡◌, ℕ, List, map, take, Result, Ok, Err}
+use Rattle.std.specs.Prelude.{◌≡◌, ℕ, List, map, take, Option, Some, None, IfSome, Result, Ok, Err}
 use Rattle.std.specs.Str.{IsUtf8}
 use Rattle.ql_lex.specs.declared.word.Word.{Word}
 use Rattle.ql_lex.specs.declared.fault.LexFault.{LexFault}
@@ -14,15 +14,14 @@ seen word = record { token = word.token; text = word.text.now }
 abbrev pub seen_all : List Word → List Lexeme
 seen_all words = map seen words
 
+-- the fault that an error holds
+abbrev pub fault_of : LexError → Option LexFault
+fault_of (errors.Fault f) = Some f
+fault_of errors.NoMemory = None
+
 -- the error is the fault that reading ends with, unless memory ran out
 abbrev pub Fails : {Y : Type 0} → LexError → Result Y LexFault → Type 0
-Fails (errors.Fault f) read = read ≡ Err f
-Fails errors.NoMemory read = Unit {0}
-
--- what a function returned, seen by view, is what reading gives, unless memory ran out
-abbrev pub Gives : {X Y : Type 0} → (X → Y) → Result X LexError → Result Y LexFault → Type 0
-Gives view (Ok x) read = read ≡ Ok (view x)
-Gives view (Err e) read = Fails e read
+Fails e read = IfSome (fault_of e) (λ f. read ≡ Err f)
 
 -- the bytes before the fault are whole characters
 abbrev pub IsWholeBefore : List ℕ → LexError → Type 0

@@ -9,6 +9,7 @@ use Rattle.std.specs.Str.Lossy.{utf8_valid_len}
 use Rattle.bstr.specs.Utf8.{decoded}
 use Rattle.unicode_ident.specs.Ident.{is_xid_start, is_xid_continue}
 use Rattle.mof_metamodel.specs.Characters.{is_blank, is_storable_character}
+use Rattle.ql_lex.specs.declared.limits.TheConstants.{MAX_INTEGER}
 use Rattle.ql_lex.specs.declared.token.TokenKind.{TokenKind}
 use Rattle.ql_lex.specs.declared.token.TokenKind.TheVariants.{Name, Quoted, Reserved, Number, Str, Sign}
 use Rattle.ql_lex.specs.declared.fault.LexKind.{LexKind}
@@ -120,15 +121,11 @@ unfoldable pub decimal : ℕ → List ℕ → ℕ
 decimal before [] = before
 decimal before (d ∷ ds) = decimal (10 * before + (d - 48)) ds
 
--- the greatest Integer
-abbrev pub greatest : ℕ
-greatest = 9223372036854775807
-
 abbrev pub digits_len : List ℕ → ℕ
 digits_len bytes = prefix_len is_ascii_digit bytes
 
 abbrev pub number : List ℕ → Result Piece LexFault
-number bytes = if nat_lt greatest (decimal 0 (take (digits_len bytes) bytes)) then fault BigNumber 0 else token Number (digits_len bytes)
+number bytes = if nat_lt MAX_INTEGER (decimal 0 (take (digits_len bytes) bytes)) then fault BigNumber 0 else token Number (digits_len bytes)
 
 -- ---- names and reserved words
 

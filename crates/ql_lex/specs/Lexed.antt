@@ -1,7 +1,8 @@
--- The tokens of a script, or its fault: the meaning of `lex`.
+-- The tokens of a script by counting the bytes of its forms, or its first fault.
 use Rattle.std.specs.Prelude.{◌≡◌, ◌<◌, ◌≤◌, ℕ, zero, suc, ◌+◌, ◌-◌, if◌then◌else◌, nat_lt, nat_eq, List, [], ◌∷◌, ◌++◌, length, take, drop, slice_range, Result, Ok, Err}
 use Rattle.std.specs.List.{starts_with}
 use Rattle.std.specs.Option.{option_map_or}
+use Rattle.mof_metamodel.specs.declared.limits.TheConstants.{MAX_SCRIPT}
 use Rattle.ql_lex.specs.declared.token.Token.{Token}
 use Rattle.ql_lex.specs.declared.fault.LexKind.TheVariants.{Limit}
 use Rattle.ql_lex.specs.declared.fault.LexFault.{LexFault}
@@ -46,18 +47,10 @@ lexed_from (b ∷ bs) at zero = elim (whole_form (b ∷ bs)) [
 unfoldable pub mark_len : List ℕ → ℕ
 mark_len bytes = if starts_with nat_eq bytes (0xEF ∷ 0xBB ∷ 0xBF ∷ []) then 3 else 0
 
--- the greatest number of bytes of a script
-abbrev pub most_bytes : ℕ
-most_bytes = 1048576
-
 -- the tokens of a text, or its fault
 unfoldable pub lexed : List ℕ → Result (List Lexeme) LexFault
-lexed bytes = if nat_lt most_bytes (length bytes) then Err (record { kind = Limit; at = length bytes })
+lexed bytes = if nat_lt MAX_SCRIPT (length bytes) then Err (record { kind = Limit; at = MAX_SCRIPT })
     else lexed_from (drop (mark_len bytes) bytes) (mark_len bytes) 0
-
--- these are the tokens of the text
-abbrev pub Lexed : List ℕ → List Lexeme → Type 0
-Lexed bytes lexemes = lexed bytes ≡ Ok lexemes
 
 -- the tokens lie in order between two places of the text, none over another, and the text of each is what stands at its span
 abbrev pub AreSlices : List ℕ → ℕ → List Lexeme → ℕ → Type 0

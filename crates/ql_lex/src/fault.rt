@@ -1,10 +1,11 @@
 ghost use Rattle.std.specs.Prelude.{◌≡◌};
+ghost use Rattle.ql_lex.specs.Words.{kind_word};
 
 use std::alloc::{AllocError, AllocFailed};
 use thiserror::Error;
 
 /// Why a text has no tokens.
-#[derive(Clone, Copy, Debug, PartialEq, Eq, PartialOrd, Ord, Hash)]
+#[derive(Clone, Copy, Debug)]
 pub enum LexKind {
     /// At the first byte at which no whole character stands.
     BadUtf8,
@@ -14,14 +15,30 @@ pub enum LexKind {
     OpenString,
     /// At the opening sign of a comment behind which the text ends first.
     OpenComment,
-    /// At the first digit of a number above 9223372036854775807.
+    /// At the first digit of a number above `MAX_INTEGER`.
     BigNumber,
-    /// The text has more than 1,048,576 bytes, the number of which is the place.
+    /// The text has more bytes than `MAX_SCRIPT`, which is the place.
     Limit,
 }
 
+impl LexKind {
+    /// The word that is printed of the kind.
+    pub fn word(self) -> &'static str
+        ensures { result.now ≡ kind_word self }
+    {
+        match self {
+            LexKind::BadUtf8 => "BadUtf8",
+            LexKind::BadChar => "BadChar",
+            LexKind::OpenString => "OpenString",
+            LexKind::OpenComment => "OpenComment",
+            LexKind::BigNumber => "BigNumber",
+            LexKind::Limit => "Limit",
+        }
+    }
+}
+
 /// The first fault of a text.
-#[derive(Clone, Copy, Debug, PartialEq, Eq, PartialOrd, Ord, Hash)]
+#[derive(Clone, Copy, Debug)]
 pub struct LexFault {
     pub kind: LexKind,
     /// The place, in bytes from the start of the text.
@@ -29,7 +46,7 @@ pub struct LexFault {
 }
 
 /// Why `lex` gave no tokens.
-#[derive(Clone, Copy, Debug, PartialEq, Eq, Error)]
+#[derive(Clone, Copy, Debug, Error)]
 pub enum LexError {
     #[error("the text is no list of tokens")]
     Fault(LexFault),

@@ -1,18 +1,16 @@
 ghost use Rattle.std.specs.Prelude.{◌≡◌, ◌≤◌, ◌<◌, ◌||◌, length, IfOk, IfErr, nat_lt, slice_index, codes, IsTrue};
 ghost use Rattle.std.specs.List.{prefix_len};
 ghost use Rattle.std.specs.Char.{is_ascii_digit};
-ghost use Rattle.ql_lex.specs.Forms.{blank_len as blanks, begins_line_comment as line_comment_begins, line_len as line, line_comment, nothing, decimal, greatest, digits_len as digits, number, begins_long_sign as long_sign, begins_short_sign as short_sign, sign, form};
+ghost use Rattle.ql_lex.specs.Forms.{blank_len as blanks, begins_line_comment as line_comment_begins, line_len as line, line_comment, nothing, decimal, digits_len as digits, number, begins_long_sign as long_sign, begins_short_sign as short_sign, sign, form};
 ghost use Rattle.mof_metamodel.specs.Characters.{is_blank as blank};
 
-use crate::cuts::behind;
+use crate::cuts::bytes_behind;
 use crate::fault::{LexFault, LexKind};
+use crate::limits::MAX_INTEGER;
 use crate::names::{begins_name, front_character, read_name};
 use crate::piece::{Piece, make_fault, make_nothing, make_token};
 use crate::texts::{read_block_comment, read_text};
 use crate::token::TokenKind;
-
-/// The greatest Integer.
-const GREATEST: u64 = 9_223_372_036_854_775_807;
 
 /// Whether the byte is a blank.
 fn is_blank(b: u8) -> bool
@@ -50,7 +48,7 @@ fn read_line_comment(bytes: &[u8]) -> Result<Piece, LexFault>
     ensures before { IfErr result (λ f. f.at ≤ length bytes.now) }
     ensures within { IfOk result (λ p. (0 < p.len) × (p.len ≤ length bytes.now)) }
 {
-    make_nothing(2 + line_len(behind(bytes, 2)))
+    make_nothing(2 + line_len(bytes_behind(bytes, 2)))
 }
 
 /// A run of blanks.
@@ -71,14 +69,14 @@ fn digits_len(bytes: &[u8]) -> usize
     bytes.iter().take_while(|b| b.is_ascii_digit()).count()
 }
 
-/// Whether the number that the digits write is above the greatest Integer.
+/// Whether the number that the digits write is above `MAX_INTEGER`.
 fn is_big(digits: &[u8]) -> bool
-    ensures { result ≡ nat_lt greatest (decimal 0 digits.now) }
+    ensures { result ≡ nat_lt MAX_INTEGER (decimal 0 digits.now) }
 {
     let mut value = 0;
     for d in digits {
         let digit = u64::from(d.saturating_sub(b'0'));
-        if value > (GREATEST - digit) / 10 {
+        if value > (MAX_INTEGER - digit) / 10 {
             return true;
         }
         value = 10 * value + digit;

@@ -1,22 +1,25 @@
 //! The tokens of a script in QVT Relations (QVT 1.3, section 7.13, the concrete syntax) and of the OCL expressions
-//! in it (OCL 2.4, chapter 9). `specs/Forms.antt` has one definition for each form of a token, `specs/Lexed.antt` the
-//! tokens of a text or its first fault.
+//! in it (OCL 2.4, chapter 9). `specs/Tokens.antt` is the grammar of tokens and says which are those of a text. Below it
+//! `specs/Forms.antt` counts the bytes of each form of a token, and `specs/Lexed.antt` says the tokens of a text by these
+//! counts, or its first fault.
 #![tactic(auto)]
 
 mod cuts;
 mod fault;
 mod forms;
+mod limits;
 mod names;
 mod piece;
 mod reading;
-#[cfg(test)]
-mod tests;
 mod texts;
 mod token;
+mod token_laws;
 mod tokens;
 mod word;
 
 pub use fault::{LexError, LexFault, LexKind};
+pub use limits::MAX_INTEGER;
 pub use reading::lex;
 pub use token::{Token, TokenKind};
+pub use token_laws::tokens_are_counted;
 pub use tokens::Tokens;

@@ -3,7 +3,7 @@ ghost use Rattle.std.specs.List.{list_any};
 ghost use Rattle.std.specs.Str.{bytes_eq};
 ghost use Rattle.ql_lex.specs.Forms.{front_character as character, front_width as width, begins_name as name_begins, continues_name as continues, step_len as step, name_len as whole_len, is_reserved as reserved, name as name_form};
 
-use crate::cuts::behind;
+use crate::cuts::bytes_behind;
 use crate::fault::LexFault;
 use crate::piece::{Piece, make_token};
 use crate::token::TokenKind;
@@ -68,7 +68,7 @@ fn name_len(bytes: &[u8]) -> usize
 {
     let mut len = 0;
     while len < bytes.len() {
-        let step = step_len(behind(bytes, len));
+        let step = step_len(bytes_behind(bytes, len));
         if step == 0 {
             break;
         }
@@ -137,7 +137,7 @@ pub(crate) fn read_name(bytes: &[u8]) -> Result<Piece, LexFault>
     ensures within { IfOk result (λ p. (0 < p.len) × (p.len ≤ length bytes.now)) }
 {
     let first = front_width(bytes);
-    let len = first + name_len(behind(bytes, first));
+    let len = first + name_len(bytes_behind(bytes, first));
     if is_reserved(&bytes[..len]) {
         make_token(TokenKind::Reserved, len)
     } else {

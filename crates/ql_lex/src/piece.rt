@@ -5,7 +5,7 @@ use crate::fault::{LexFault, LexKind};
 use crate::token::TokenKind;
 
 /// What stands at the front of some bytes.
-#[derive(Clone, Copy, Debug, PartialEq, Eq)]
+#[derive(Clone, Copy)]
 pub(crate) struct Piece {
     /// The kind of a token, or `None` for blanks and comments.
     pub kind: Option<TokenKind>,

@@ -1,12 +1,14 @@
-ghost use Rattle.std.specs.Prelude.{◌≡◌, ◌≢◌, ◌≤◌, ◌<◌, ◌+◌, length, drop, take, Ok, Err, MatchResult, IfOk, IfErr};
+ghost use Rattle.std.specs.Prelude.{◌≡◌, ◌≢◌, ◌≤◌, ◌<◌, ◌+◌, length, drop, take, Ok, Err, List, MatchResult, IfOk, IfErr};
 ghost use Rattle.std.specs.Str.{IsUtf8};
 ghost use Rattle.std.specs.Str.Lossy.{utf8_valid_len};
+ghost use Rattle.mof_metamodel.specs.Giving.{Gives};
 ghost use Rattle.ql_lex.specs.Forms.{whole_form};
-ghost use Rattle.ql_lex.specs.Lexed.{mark_len as byte_order_mark, lexed, lexed_from, with_front, AreSlices, most_bytes};
-ghost use Rattle.ql_lex.specs.Answers.{Gives, Fails, IsWholeBefore, seen_all};
+ghost use Rattle.ql_lex.specs.Tokens.{IsLexed};
+ghost use Rattle.ql_lex.specs.Lexed.{Lexeme, mark_len as byte_order_mark, lexed, lexed_from, with_front, AreSlices};
+ghost use Rattle.ql_lex.specs.Answers.{Fails, fault_of, IsWholeBefore, seen_all};
 ghost use Rattle.ql_lex.specs.Places.{IsUtf8Place, IsMalformedAt};
 
-use crate::cuts::behind;
+use crate::cuts::bytes_behind;
 use crate::fault::{LexError, LexFault, LexKind};
 use crate::forms::read_form;
 use crate::piece::Piece;
@@ -68,7 +70,7 @@ fn read_word<'t>(words: &mut Vec<Word<'t>>, bytes: &'t [u8], at: usize) -> Resul
     ensures whole { IsUtf8 (take at bytes.now) → MatchResult result (λ end. IsUtf8 (take end bytes.now)) (λ e. IsWholeBefore bytes.now e) }
     ensures place { IsUtf8 (take at bytes.now) → IfErr result (λ e. IsMalformedAt bytes.now e) }
 {
-    let (piece, text) = match read_front(behind(bytes, at)) {
+    let (piece, text) = match read_front(bytes_behind(bytes, at)) {
         Ok(found) => found,
         Err(fault) => {
             return Err(LexError::Fault(LexFault {
@@ -95,7 +97,7 @@ fn read_word<'t>(words: &mut Vec<Word<'t>>, bytes: &'t [u8], at: usize) -> Resul
 fn read_words<'t>(alloc: Global, bytes: &'t [u8], start: usize) -> Result<Vec<Word<'t>>, LexError>
     requires within { start ≤ length bytes.now }
     requires begun { IsUtf8 (take start bytes.now) }
-    ensures value { Gives (λ v. seen_all v.items) result (lexed_from (drop start bytes.now) start 0) }
+    ensures value { Gives fault_of (λ v. seen_all v.items) result (lexed_from (drop start bytes.now) start 0) }
     ensures slices { IfOk result (λ v. AreSlices bytes.now 0 (seen_all v.items) (length bytes.now)) }
     ensures whole { MatchResult result (λ v. IsUtf8 bytes.now) (λ e. IsWholeBefore bytes.now e) }
     ensures place { IfErr result (λ e. IsMalformedAt bytes.now e) }
@@ -122,31 +124,45 @@ fn mark_len(bytes: &[u8]) -> usize
     }
 }
 
-/// The tokens of a script, which is UTF-8. A byte order mark at its start is skipped.
-///
-/// # Errors
-///
-/// The fault of least place, in bytes from the start of the text. A text of more than 1,048,576 bytes is told before
-/// any other fault. `NoMemory` where memory runs out.
-pub fn lex<'t>(alloc: Global, text: &'t [u8]) -> Result<Tokens<'t>, LexError>
-    // The tokens are those of the text, or the fault is its fault.
-    ensures lexed { Gives (λ t. t.lexemes) result (lexed text.now) }
-    // Each token is a slice of the text, behind the tokens before it.
+/// The tokens of a text by the forms that stand in it, or its fault.
+fn read_tokens<'t>(alloc: Global, text: &'t [u8]) -> Result<Tokens<'t>, LexError>
+    ensures lexed { Gives fault_of (λ t. t.lexemes) result (lexed text.now) }
     ensures slices { IfOk result (λ t. AreSlices text.now 0 t.lexemes t.end) }
     ensures end { IfOk result (λ t. t.end ≡ length text.now) }
-    // What has tokens is UTF-8, and so is what stands before a fault, unless the text is too long.
-    ensures utf8 { length text.now ≤ most_bytes → MatchResult result (λ t. IsUtf8 text.now) (λ e. IsWholeBefore text.now e) }
-    // `BadUtf8` stands at the first byte of the text at which no whole character does.
+    ensures utf8 { length text.now ≤ MAX_SCRIPT → MatchResult result (λ t. IsUtf8 text.now) (λ e. IsWholeBefore text.now e) }
     ensures utf8_place { IfErr result (λ e. IsMalformedAt text.now e) }
 {
     if text.len() > MAX_SCRIPT {
         return Err(LexError::Fault(LexFault {
             kind: LexKind::Limit,
-            at: text.len(),
+            at: MAX_SCRIPT,
         }));
     }
     match read_words(alloc, text, mark_len(text)) {
         Ok(words) => Ok(Tokens::new(words, text.len())),
         Err(e) => Err(e),
     }
+}
+
+/// The tokens of a script, which is UTF-8. A byte order mark at its start is skipped.
+///
+/// # Errors
+///
+/// The fault of least place, in bytes from the start of the text. `Limit` is told before any other fault. `NoMemory` where memory runs out.
+pub fn lex<'t>(alloc: Global, text: &'t [u8]) -> Result<Tokens<'t>, LexError>
+    // The tokens are those of the text.
+    ensures tokens { IfOk result (λ t. IsLexed text.now t.lexemes) }
+    // A text that has tokens gets them, unless memory runs out.
+    ensures only { (ls : List Lexeme) → IsLexed text.now ls → IfErr result (λ e. e ≡ LexError.NoMemory) }
+    // A fault is the first one of the text.
+    ensures fault { IfErr result (λ e. Fails e (lexed text.now)) }
+    // Each token is a slice of the text, behind the tokens before it.
+    ensures slices { IfOk result (λ t. AreSlices text.now 0 t.lexemes t.end) }
+    ensures end { IfOk result (λ t. t.end ≡ length text.now) }
+    // What has tokens is UTF-8, and so is what stands before a fault, unless the text is too long.
+    ensures utf8 { length text.now ≤ MAX_SCRIPT → MatchResult result (λ t. IsUtf8 text.now) (λ e. IsWholeBefore text.now e) }
+    // `BadUtf8` stands at the first byte of the text at which no whole character does.
+    ensures utf8_place { IfErr result (λ e. IsMalformedAt text.now e) }
+{
+    read_tokens(alloc, text)
 }

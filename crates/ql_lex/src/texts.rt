@@ -2,7 +2,7 @@ ghost use Rattle.std.specs.Prelude.{◌≡◌, ◌≤◌, ◌<◌, ◌+◌, ◌-
 ghost use Rattle.ql_lex.specs.Forms.{comment_end, block_comment, string_end, closes as closing, escapes as escaping, is_escape as escape, begins_unstorable as unstorable, begins_misfit as misfit_begins, misfit_from, closed as closed_text, text as text_form};
 ghost use Rattle.mof_metamodel.specs.Characters.{is_storable_character as storable};
 
-use crate::cuts::behind;
+use crate::cuts::bytes_behind;
 use crate::fault::{LexFault, LexKind};
 use crate::names::front_character;
 use crate::piece::{Piece, make_fault, make_nothing, make_token};
@@ -37,7 +37,7 @@ pub(crate) fn read_block_comment(bytes: &[u8]) -> Result<Piece, LexFault>
     ensures before { IfErr result (λ f. f.at ≤ length bytes.now) }
     ensures within { IfOk result (λ p. (0 < p.len) × (p.len ≤ length bytes.now)) }
 {
-    match find_comment_end(behind(bytes, 2)) {
+    match find_comment_end(bytes_behind(bytes, 2)) {
         Some(n) => make_nothing(2 + n),
         None => make_fault(LexKind::OpenComment, 0),
     }
@@ -123,7 +123,7 @@ fn find_misfit(inside: &[u8]) -> Option<usize>
 {
     let mut escaped = false;
     for (i, b) in inside.iter().enumerate() {
-        if begins_misfit(escaped, behind(inside, i)) {
+        if begins_misfit(escaped, bytes_behind(inside, i)) {
             return Some(misfit_place(escaped, i));
         }
         escaped = escapes(escaped, *b);
@@ -154,7 +154,7 @@ pub(crate) fn read_text(kind: TokenKind, opening: usize, bytes: &[u8]) -> Result
     ensures before { IfErr result (λ f. f.at ≤ length bytes.now) }
     ensures within { IfOk result (λ p. (0 < p.len) × (p.len ≤ length bytes.now)) }
 {
-    let inside = behind(bytes, opening);
+    let inside = bytes_behind(bytes, opening);
     match find_string_end(inside) {
         Some(n) => read_closed(kind, opening, inside, n),
         None => make_fault(LexKind::OpenString, 0),

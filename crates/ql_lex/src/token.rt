@@ -1,7 +1,7 @@
 use mof_metamodel::Span;
 
 /// What kind of token it is. Which word or sign, the token's text says.
-#[derive(Clone, Copy, Debug, PartialEq, Eq, PartialOrd, Ord, Hash)]
+#[derive(Clone, Copy, Debug)]
 pub enum TokenKind {
     /// A name that is not reserved.
     Name,
@@ -18,7 +18,7 @@ pub enum TokenKind {
 }
 
 /// A token, and the bytes of the script at which it stands.
-#[derive(Clone, Copy, Debug, PartialEq, Eq, PartialOrd, Ord, Hash)]
+#[derive(Clone, Copy)]
 pub struct Token {
     pub kind: TokenKind,
     pub span: Span,

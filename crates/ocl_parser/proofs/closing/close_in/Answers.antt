@@ -7,7 +7,7 @@ use Rattle.ocl_parser.proofs.closing.close_in.Goals as goal
 pub returns-in_default : goal.returns-in_default
 returns-in_default c =
     let P : Move → Type 0 = λ m. IfOk c.refuse.result (λ o. made c.refuse.new.stack o ≡ m) in
-    let n : IsUnfit c.args.symbol = record {
+    let n : IsUnfit c.args.terminal.symbol = record {
       parenthesis = c.in_default.not-CloseParenthesis;
       brace = c.in_default.not-CloseBrace;
       comma = c.in_default.not-Comma;
@@ -16,4 +16,4 @@ returns-in_default c =
       endif_word = c.in_default.not-Endif;
       in_word = c.in_default.not-In;
     } in
-    subst P (sym (unfit c.args.frame c.args.stack.now c.args.part c.args.symbol c.args.span n)) c.refuse.ensures
+    subst P (sym (unfit c.args.frame c.args.stack.now c.args.subtree c.args.terminal.symbol c.args.terminal.span n)) c.refuse.ensures

@@ -4,4 +4,4 @@ use Rattle.ocl_parser.proofs.CompletionExact.{reached_begins}
 use Rattle.ocl_parser.proofs.completion_laws.readings_begin.Goals as goal
 
 pub returns : goal.returns
-returns c ts levels from k r order within reached = reached_begins ts levels from k r order within reached (levels + opening_levels r.place) (omega arith)
+returns c ts levels from k r order within reached = reached_begins ts levels from k r order within reached (levels + opening_levels r.state) (omega arith)

@@ -1,4 +1,5 @@
 use Rattle.std.proofs.Common.{◌≤◌, ℕ, [], length, ap, ◌∙◌, arith}
+use Rattle.mof_metamodel.specs.declared.limits.TheConstants.{MAX_NESTING}
 use Rattle.ocl_parser.specs.Runs.{ended_by, run}
 use Rattle.ocl_parser.proofs.RunLaws.{answers_so, no_token}
 use Rattle.ocl_parser.proofs.parsing.end.Goals as goal
@@ -8,7 +9,7 @@ returns-in-Ok c =
     let ts = c.args.tokens.now.lexemes in
     let old = c.args.reading.now in
     let behind : length ts ≤ c.len-at.result = omega (arith, c.len-at.ensures) in
-    answers_so c.args.tokens.now (ended_by c.in-Ok.outcome c.len-at.result) (run 128 [] old.stack old.place (length ts)) c.judge_end.result
-    (no_token 128 ts c.len-at.result old.stack c.next.new.reading.stack old.place c.in-Ok.outcome behind (record { made = c.in-Ok.ensures })
-    ∙ ap (λ (n : ℕ). run 128 [] old.stack old.place n) c.len-at.ensures)
+    answers_so c.args.tokens.now (ended_by c.in-Ok.action c.len-at.result) (run MAX_NESTING [] old.stack old.state (length ts)) c.judge_end.result
+    (no_token MAX_NESTING ts c.len-at.result old.stack c.next.new.reading.stack old.state c.in-Ok.action behind (record { made = c.in-Ok.ensures })
+    ∙ ap (λ (n : ℕ). run MAX_NESTING [] old.stack old.state n) c.len-at.ensures)
     c.judge_end.ensures

@@ -12,6 +12,6 @@ returns-in_ok-push c =
     let opened : c.push.new.self ≡ frames.Arguments c.args.called [] ∷ c.args.stack.now =
     c.in_ok-push.ensures.ok ∙ ap (λ (vs : List Expr). frames.Arguments c.args.called vs ∷ c.args.stack.now) c.new-values.ensures in
     so c.operand.result c.operand.new.stack _ _
-    (ap (λ (s : List Frame). operand s c.args.symbol c.args.span) opened
-    ∙ else_so (takes_class c.args.called.name.text) (refused c.args.stack.now) (operand (frames.Arguments c.args.called [] ∷ c.args.stack.now) c.args.symbol c.args.span) c.if-takes_class.ensures)
+    (ap (λ (s : List Frame). operand s c.args.terminal.symbol c.args.terminal.span) opened
+    ∙ else_so (takes_class c.args.called.name.text) (refused c.args.stack.now) (operand (frames.Arguments c.args.called [] ∷ c.args.stack.now) c.args.terminal.symbol c.args.terminal.span) c.if-takes_class.ensures)
     c.operand.ensures

@@ -1,7 +1,7 @@
 use Rattle.std.proofs.Common.{◌≡◌, ◌-◌, ◌≤◌, nat_lt, length, get_or, ap, sym, ◌∙◌, arith}
 use Rattle.std.specs.Char.{is_ascii_digit}
 use Rattle.std.proofs.lemmas.List.Folds.{list_all_at}
-use Rattle.ql_lex.specs.Forms.{greatest}
+use Rattle.ql_lex.specs.declared.limits.TheConstants.{MAX_INTEGER}
 use Rattle.ql_lex.proofs.Laws.{decimal-over}
 use Rattle.ocl_parser.proofs.DigitLaws.{digits-step, value-step, digits-none, value-none, integer, no_digits, too_great}
 use Rattle.ocl_parser.proofs.texts.decimal_value.Goals as goal
@@ -24,7 +24,7 @@ returns-then-value-digit c =
     let ds = c.args.digits.now in
     let i = c.loop-d.d-index in
     let digit : c.from-digit.result ≡ get_or ds i 0 - 48 = c.from-digit.ensures ∙ c.saturating_sub.ensures in
-    too_great ds (ap (nat_lt greatest) (sym c.loop-d.invariant.1) ∙ decimal-over ds i c.loop-d.value (omega arith) (omega (arith, digit)))
+    too_great ds (ap (nat_lt MAX_INTEGER) (sym c.loop-d.invariant.1) ∙ decimal-over ds i c.loop-d.value (omega arith) (omega (arith, digit)))
 
 pub returns : goal.returns
 returns c =

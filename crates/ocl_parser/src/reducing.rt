@@ -1,10 +1,10 @@
 ghost use Rattle.std.specs.Prelude.{◌≡◌, ◌∷◌, List, true, IfOk, MatchOption};
-ghost use Rattle.ocl_parser.specs.Moves.{settled};
+ghost use Rattle.ocl_parser.specs.Moves.{reduced};
 ghost use Rattle.ocl_parser.specs.Answers.{ends as ends_by, left, wrapped as wrapped_by};
-ghost use Rattle.ocl_parser.specs.declared.frame.Part.{Part as AnyPart};
+ghost use Rattle.ocl_parser.specs.declared.frame.Subtree.{Subtree as AnySubtree};
 ghost use Rattle.ocl_parser.specs.declared.frame.Frame.TheVariants as frames;
 
-use crate::frame::{Frame, Part};
+use crate::frame::{Frame, Subtree};
 use crate::parts::chained;
 use crate::stack::Stack;
 use mof_metamodel::{Boxed, NoMemory, Span};
@@ -25,7 +25,7 @@ fn ends(level: u8, frame: &Frame) -> bool
 
 /// Takes the innermost construct off, if it ends.
 fn pop_ended(level: u8, stack: &mut Stack) -> Option<Frame>
-    ensures { MatchOption result ((part : AnyPart) → settled level stack.old part ≡ left stack.new part) (λ frame. (stack.old ≡ frame ∷ stack.new) × (ends_by level frame ≡ true)) }
+    ensures { MatchOption result ((subtree : AnySubtree) → reduced level stack.old subtree ≡ left stack.new subtree) (λ frame. (stack.old ≡ frame ∷ stack.new) × (ends_by level frame ≡ true)) }
 {
     match stack.top() {
         Some(frame) => {
@@ -40,29 +40,29 @@ fn pop_ended(level: u8, stack: &mut Stack) -> Option<Frame>
 }
 
 /// `not` with its operand.
-fn negation(alloc: Global, start: usize, part: Part) -> Result<Part, NoMemory>
-    ensures { IfOk result (λ p. p ≡ wrapped_by (frames.Not start) part) }
+fn negation(alloc: Global, start: usize, subtree: Subtree) -> Result<Subtree, NoMemory>
+    ensures { IfOk result (λ p. p ≡ wrapped_by (frames.Not start) subtree) }
 {
     let span = Span {
         start,
-        end: part.span.end,
+        end: subtree.span.end,
     };
-    let operand = part.tree;
+    let operand = subtree.tree;
     let tree = Boxed::new(alloc, Expr::Not { operand, span })?;
-    Ok(Part { tree, span })
+    Ok(Subtree { tree, span })
 }
 
 /// `-` with its operand.
-fn negative(alloc: Global, start: usize, part: Part) -> Result<Part, NoMemory>
-    ensures { IfOk result (λ p. p ≡ wrapped_by (frames.Negated start) part) }
+fn negative(alloc: Global, start: usize, subtree: Subtree) -> Result<Subtree, NoMemory>
+    ensures { IfOk result (λ p. p ≡ wrapped_by (frames.Negated start) subtree) }
 {
     let span = Span {
         start,
-        end: part.span.end,
+        end: subtree.span.end,
     };
-    let operand = part.tree;
+    let operand = subtree.tree;
     let tree = Boxed::new(alloc, Expr::Negated { operand, span })?;
-    Ok(Part { tree, span })
+    Ok(Subtree { tree, span })
 }
 
 /// `let` with its body.
@@ -72,59 +72,59 @@ fn binding(
     name: Name,
     ty: TypeTree,
     value: Boxed<Expr>,
-    part: Part,
-) -> Result<Part, NoMemory>
-    ensures { IfOk result (λ p. p ≡ wrapped_by (frames.In start name ty value) part) }
+    subtree: Subtree,
+) -> Result<Subtree, NoMemory>
+    ensures { IfOk result (λ p. p ≡ wrapped_by (frames.In start name ty value) subtree) }
 {
     let span = Span {
         start,
-        end: part.span.end,
+        end: subtree.span.end,
     };
     let tree = Expr::Let {
         name,
         ty,
         value,
-        body: part.tree,
+        body: subtree.tree,
         span,
     };
     let tree = Boxed::new(alloc, tree)?;
-    Ok(Part { tree, span })
+    Ok(Subtree { tree, span })
 }
 
 /// The construct with its last part.
-fn wrapped(alloc: Global, frame: Frame, part: Part) -> Result<Part, NoMemory>
-    ensures { IfOk result (λ p. p ≡ wrapped_by frame part) }
+fn wrapped(alloc: Global, frame: Frame, subtree: Subtree) -> Result<Subtree, NoMemory>
+    ensures { IfOk result (λ p. p ≡ wrapped_by frame subtree) }
 {
     match frame {
-        Frame::Not { start } => negation(alloc, start, part),
-        Frame::Negated { start } => negative(alloc, start, part),
+        Frame::Not { start } => negation(alloc, start, subtree),
+        Frame::Negated { start } => negative(alloc, start, subtree),
         Frame::Row {
             first,
             rest,
             operator,
-        } => chained(alloc, first, rest, operator, part),
+        } => chained(alloc, first, rest, operator, subtree),
         Frame::In {
             start,
             name,
             ty,
             value,
-        } => binding(alloc, start, name, ty, value, part),
-        _ => Ok(part),
+        } => binding(alloc, start, name, ty, value, subtree),
+        _ => Ok(subtree),
     }
 }
 
 /// The part with all that ends before an operator of the level below this one, and at level 0 before all else.
-pub(crate) fn settle(
+pub(crate) fn reduce(
     alloc: Global,
     level: u8,
     stack: &mut Stack,
-    part: Part,
-) -> Result<Part, NoMemory>
-    ensures { IfOk result (λ p. left stack.new p ≡ settled level stack.old part) }
+    subtree: Subtree,
+) -> Result<Subtree, NoMemory>
+    ensures { IfOk result (λ p. left stack.new p ≡ reduced level stack.old subtree) }
 {
-    let mut part = part;
+    let mut subtree = subtree;
     while let Some(frame) = pop_ended(level, stack) {
-        part = wrapped(alloc, frame, part)?;
+        subtree = wrapped(alloc, frame, subtree)?;
     }
-    Ok(part)
+    Ok(subtree)
 }

@@ -1,9 +1,9 @@
-use crate::frame::{Base, Called, Iterated};
+use crate::frame::{Base, CallHead, Iterated};
 use qv_syntax::{Expr, Kind, Name, Path, TypeTree};
 
 /// What may come next, with what was read of the innermost construct and is in no frame yet.
-#[derive(Debug, Drop)]
-pub(crate) enum Place {
+#[derive(Drop)]
+pub(crate) enum State {
     /// An operand begins.
     Operand,
     /// Behind a part that binds tightest, or a call on it.
@@ -85,25 +85,25 @@ pub(crate) enum Place {
     },
     /// Behind the `(` of a call whose argument is a class.
     ClassName {
-        called: Called,
+        called: CallHead,
     },
     /// Behind a name of that class.
     ClassPath {
-        called: Called,
+        called: CallHead,
         path: Path,
     },
     /// Behind `::` in that class.
     ClassNext {
-        called: Called,
+        called: CallHead,
         path: Path,
     },
 }
 
 /// What comes of one more symbol.
-#[derive(Debug, Drop)]
-pub(crate) enum Outcome {
+#[derive(Drop)]
+pub(crate) enum Action {
     /// The symbol was read.
-    Read(Place),
+    Read(State),
     /// The expression ends before it.
     Whole(Expr),
     /// No expression begins with what was read and the symbol.
