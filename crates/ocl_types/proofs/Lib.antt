@@ -1,7 +1,7 @@
+pub mod MetaLaws
+pub mod FirstLaws
 pub mod FindLaws
 pub mod NamingLaws
-pub mod LiteralLaws
-pub mod OperationLaws
 pub mod ScopeLaws
 pub mod AgreementLaws
 pub mod ReachLaws

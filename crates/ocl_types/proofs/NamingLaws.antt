@@ -1,8 +1,8 @@
 -- The characters of words, and texts put together.
-use Rattle.std.proofs.Common.{◌≡◌, ℕ, ◌+◌, ◌<◌, ◌≤◌, List, [], ◌∷◌, ◌++◌, codes, length, drop, get_or, refl, sym, ◌∙◌, ap, append_assoc, Result, Ok, Err, arith}
+use Rattle.std.proofs.Common.{◌≡◌, ℕ, ◌<◌, ◌≤◌, List, [], ◌∷◌, ◌++◌, codes, length, refl, sym, ◌∙◌, ap, append_assoc, Result, Ok, Err, arith}
 use Rattle.std.specs.Prelude.{IfOk}
 use Rattle.std.specs.Str.{chars}
-use Rattle.std.proofs.lemmas.List.{drop_more, get_or_past}
+use Rattle.std.proofs.lemmas.List.{get_or_past}
 use Rattle.mof_metamodel.specs.declared.desc.ClassDesc.{ClassDesc}
 use Rattle.mof_metamodel.specs.declared.desc.EnumDesc.{EnumDesc}
 use Rattle.mof_metamodel.specs.Metamodels.{class_count, enum_count, class_at, enum_at, no_class, no_enum}
@@ -12,7 +12,7 @@ use Rattle.mof_metamodel.specs.declared.desc.MetaDesc.{MetaDesc}
 use Rattle.qv_syntax.specs.declared.ty.Ty.{fold-roll-Ty}
 use Rattle.qv_syntax.specs.declared.ty.Ty.TheVariants as types
 use Rattle.qv_syntax.specs.declared.ty.Ty.TheOpen as of
-use Rattle.ocl_types.specs.Naming.{behind_colons, texts_of, joined_names, type_text, type_text_step}
+use Rattle.ocl_types.specs.Naming.{texts_of, joined_names, type_text, type_text_step}
 
 pub string_characters : chars (codes "String") ≡ codes "String"
 unfolding chars
@@ -86,11 +86,6 @@ same_text (Err e) a b same is = tt
 pub no_names : (names : List Name) → length names < 1 → joined_names (texts_of names) ≡ []
 no_names [] few = refl
 no_names (n ∷ ns) few = absurd (omega arith)
-
--- one more name behind `::`
-pub colons_more : (names : List Name) (i : ℕ) (n : Name) → i < length names
-    → behind_colons (texts_of (drop i names)) ≡ (codes "::" ++ (get_or names i n).text) ++ behind_colons (texts_of (drop (i + 1) names))
-colons_more names i n within = ap (λ xs. behind_colons (texts_of xs)) (drop_more names i n within)
 
 -- a class or an enumeration that isn't there has no name
 pub no_class_name : (desc : MetaDesc) (c : ℕ) → class_count desc ≤ c → [] ≡ (class_at desc c).name

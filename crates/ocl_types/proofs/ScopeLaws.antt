@@ -9,8 +9,8 @@ use Rattle.std.proofs.lemmas.Bool.Decides.{nat_tests}
 use Rattle.mof_metamodel.specs.Metamodels.{same_name}
 use Rattle.mof_metamodel.proofs.TableLemmas.{position-map}
 use Rattle.ocl_types.specs.declared.variable.Variable.{Variable}
-use Rattle.ocl_types.specs.Environments.{Named, number_of, value_of, with_variable}
-use Rattle.ocl_types.specs.Scopes.{Reach, in_reach, entered, left}
+use Rattle.ocl_types.specs.Environments.{NamesWith, number_of, value_of, with_variable}
+use Rattle.ocl_types.specs.Scopes.{Reach, in_reach, entered}
 
 -- what was entered is one more variable of the environment
 pub entered_reach : (scope : Reach) (name : List ℕ) (variable : Variable) → in_reach (entered scope name variable) ≡ with_variable (in_reach scope) name variable
@@ -21,10 +21,6 @@ without_last : {X : Type 0} (xs : List X) (x : X) → take (length (xs ++ x ∷ 
 without_last xs x =
     let before : length (xs ++ x ∷ []) - 1 ≡ length xs = omega (arith, length-append xs (x ∷ [])) in
     ap (λ n. take n (xs ++ x ∷ [])) before ∙ take-append_seam xs (x ∷ [])
-
--- what was entered and left is as before
-pub left_entered : (scope : Reach) (name : List ℕ) (variable : Variable) → left (entered scope name variable) ≡ scope
-left_entered scope name variable = ap (λ vs. record scope { locals = vs }) (without_last scope.locals (name, variable))
 
 pub popped : {X : Type 0} (o : Option X) (before after : List X) → MatchOption o ((before ≡ []) × (after ≡ [])) (λ last. before ≡ after ++ last ∷ [])
     → after ≡ take (length before - 1) before
@@ -57,7 +53,7 @@ same_option None = refl
 same_option (Some i) = ap Some (omega arith)
 
 -- the first of a name stands in front of those behind
-number_behind : {X : Type 0} (es fs : Named X) (name : List ℕ)
+number_behind : {X : Type 0} (es fs : NamesWith X) (name : List ℕ)
     → number_of (es ++ fs) name ≡ option_or (number_of es name) (option_map (λ i. length es + i) (number_of fs name))
 number_behind [] fs name = same_option (number_of fs name)
 number_behind (e ∷ es) fs name =
@@ -73,7 +69,7 @@ number_behind (e ∷ es) fs name =
     by false None (Some i) = ap Some (omega arith)
     by false (Some i) q = refl
 
-value_behind : {X : Type 0} (es fs : Named X) (name : List ℕ) → value_of (es ++ fs) name ≡ option_or (value_of es name) (value_of fs name)
+value_behind : {X : Type 0} (es fs : NamesWith X) (name : List ℕ) → value_of (es ++ fs) name ≡ option_or (value_of es name) (value_of fs name)
 value_behind [] fs name = refl
 value_behind (e ∷ es) fs name = by (same_name name e.0) (value_behind es fs name)
   where
@@ -83,7 +79,7 @@ value_behind (e ∷ es) fs name = by (same_name name e.0) (value_behind es fs na
     by false rest = rest
 
 -- what stands at the place of a name
-value_at : {X : Type 0} (es : Named X) (name : List ℕ) (d : List ℕ × X) → value_of es name ≡ option_map (λ i. (get_or es i d).1) (number_of es name)
+value_at : {X : Type 0} (es : NamesWith X) (name : List ℕ) (d : List ℕ × X) → value_of es name ≡ option_map (λ i. (get_or es i d).1) (number_of es name)
 value_at [] name d = refl
 value_at (e ∷ es) name d =
     ap (cond (same_name name e.0) (Some e.1)) (value_at es name d)
@@ -97,23 +93,23 @@ value_at (e ∷ es) name d =
     by false (Some i) = refl
 
 -- the place that is looked for is that of the name
-place_number : {X : Type 0} (es : Named X) (name : List ℕ) → position (λ e. same_name name e.0) es ≡ number_of es name
+place_number : {X : Type 0} (es : NamesWith X) (name : List ℕ) → position (λ e. same_name name e.0) es ≡ number_of es name
 place_number es name = sym (position-map (same_name name) (λ e. e.0) es)
 
-pub local_number : {X : Type 0} (es fs : Named X) (name : List ℕ) (o : Option ℕ) → o ≡ position (λ e. same_name name e.0) fs
+pub local_number : {X : Type 0} (es fs : NamesWith X) (name : List ℕ) (o : Option ℕ) → o ≡ position (λ e. same_name name e.0) fs
     → option_map (λ i. length es + i) o ≡ option_map (λ i. length es + i) (number_of fs name)
 local_number es fs name o is = ap (option_map (λ i. length es + i)) (is ∙ place_number fs name)
 
-pub local_value : {X : Type 0} (es : Named X) (name : List ℕ) (d : List ℕ × X) (o : Option ℕ) → o ≡ position (λ e. same_name name e.0) es
+pub local_value : {X : Type 0} (es : NamesWith X) (name : List ℕ) (d : List ℕ × X) (o : Option ℕ) → o ≡ position (λ e. same_name name e.0) es
     → option_map (λ i. (get_or es i d).1) o ≡ value_of es name
 local_value es name d o is = ap (option_map (λ i. (get_or es i d).1)) (is ∙ place_number es name) ∙ sym (value_at es name d)
 
-pub absent : {X : Type 0} (es : Named X) (name : List ℕ) → None ≡ position (λ e. same_name name e.0) es → None ≡ value_of es name
+pub absent : {X : Type 0} (es : NamesWith X) (name : List ℕ) → None ≡ position (λ e. same_name name e.0) es → None ≡ value_of es name
 absent [] name is = refl
 absent (e ∷ es) name is = local_value (e ∷ es) name e None is
 
 -- a name that the environment has is found there, and else among those behind
-module _ {X : Type 0} (es fs : Named X) (name : List ℕ) where
+module _ {X : Type 0} (es fs : NamesWith X) (name : List ℕ) where
   pub number_outside : (n : ℕ) → Some n ≡ number_of es name → Some n ≡ number_of (es ++ fs) name
   number_outside n is = sym (number_behind es fs name ∙ ap (λ o. option_or o (option_map (λ i. length es + i) (number_of fs name))) (sym is))
 

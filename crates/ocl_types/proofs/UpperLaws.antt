@@ -12,9 +12,9 @@ use Rattle.mof_metamodel.specs.Metamodels.{class_count, lineage_of, IsPath}
 use Rattle.mof_metamodel.specs.MetaFaults.{WellMeta}
 use Rattle.mof_metamodel.proofs.LineageLemmas.{Has, conforms_exactly, grounded_from_acyclic}
 use Rattle.qv_syntax.specs.declared.ty.Ty.{Ty}
-use Rattle.ocl_types.specs.Environments.{meta_at, class_of}
+use Rattle.ocl_types.specs.Environments.{no_meta, meta_at, class_of, AreWell}
 use Rattle.ocl_types.specs.Outcomes.{wrong_type}
-use Rattle.ocl_types.specs.Agreement.{class_fits, fits_by, fits, higher, all_fit, agreed, AreWell, IsTop}
+use Rattle.ocl_types.specs.Agreement.{class_fits, fits_by, fits, higher, all_fit, agreed, IsTop}
 use Rattle.ocl_types.proofs.TypeLaws.{same_types, same_is_one, both_true, and_true}
 use Rattle.ocl_types.specs.Conformance.{ClassConforms, ConformsBy, TypeConforms}
 
@@ -52,7 +52,7 @@ module _ (metas : List MetaDesc) (well : AreWell metas) where
       let first = three_true (nat_lt m (length metas)) (nat_lt c.0 (class_count (meta_at metas m))) (list_any (nat_eq d.0) (lineage_of (meta_at metas m) c.0)) cd in
       let second = three_true (nat_lt m (length metas)) (nat_lt d.0 (class_count (meta_at metas m))) (list_any (nat_eq e.0) (lineage_of (meta_at metas m) d.0)) de in
       all_true _ _ _ first.0 first.1
-      (listed_joined (meta_at metas m) c.0 d.0 e.0 (well m (ltb-true _ _ first.0)) (ltb-true _ _ first.1) (ltb-true _ _ second.1) first.2 second.2)
+      (listed_joined (meta_at metas m) c.0 d.0 e.0 (well m no_meta (ltb-true _ _ first.0)) (ltb-true _ _ first.1) (ltb-true _ _ second.1) first.2 second.2)
 
   by_joined : (a b c : Ty) (x y z : Option (ℕ × ClassId)) → fits_by metas a b x y ≡ true → fits_by metas b c y z ≡ true → (a ≡ b) ⊎ ((b ≡ c) ⊎ (fits_by metas a c x z ≡ true))
   by_joined a b c (Some x) (Some y) (Some z) ab bc =
@@ -135,13 +135,13 @@ module _ (metas : List MetaDesc) (well : AreWell metas) where
           let all = three_true (nat_lt m (length metas)) (nat_lt c.0 (class_count (meta_at metas m))) (list_any (nat_eq d.0) (lineage_of (meta_at metas m) c.0)) is in
           let within : m < length metas = ltb-true _ _ all.0 in
           let inside : c.0 < class_count (meta_at metas m) = ltb-true _ _ all.1 in
-          (within, inside, (conforms_exactly (meta_at metas m) (grounded_from_acyclic (meta_at metas m) (well m within).acyclic) c.0 d.0 inside).0 all.2)
+          (within, inside, (conforms_exactly (meta_at metas m) (grounded_from_acyclic (meta_at metas m) (well m no_meta within).acyclic) c.0 d.0 inside).0 all.2)
 
       back : ClassConforms metas m c d → IsTrue (class_fits metas m c d)
       back is =
           let within : nat_lt m (length metas) ≡ true = true_lt _ _ is.0 in
           let inside : nat_lt c.0 (class_count (meta_at metas m)) ≡ true = true_lt _ _ is.1 in
-          all_true _ _ _ within inside ((conforms_exactly (meta_at metas m) (grounded_from_acyclic (meta_at metas m) (well m is.0).acyclic) c.0 d.0 is.1).1 is.2)
+          all_true _ _ _ within inside ((conforms_exactly (meta_at metas m) (grounded_from_acyclic (meta_at metas m) (well m no_meta is.0).acyclic) c.0 d.0 is.1).1 is.2)
 
   by_exactly : (a b : Ty) (x y : Option (ℕ × ClassId)) → IsTrue (fits_by metas a b x y) ↔ ConformsBy metas a b x y
   by_exactly a b (Some c) (Some d) =

@@ -1,16 +1,15 @@
 -- Types and models that go together (OCL 2.4, section 8.2.1), as tests.
-use Rattle.std.specs.Prelude.{ℕ, Bool, true, false, ◌&&◌, ◌||◌, ◌==◌, nat_lt, nat_eq, if◌then◌else◌, List, [], ◌∷◌, Option, None, Some, length, fold, Ok, Err, Contains, IsTrue, ◌<◌}
+use Rattle.std.specs.Prelude.{ℕ, Bool, true, false, ◌&&◌, ◌||◌, ◌==◌, nat_lt, nat_eq, if◌then◌else◌, List, [], ◌∷◌, Option, None, Some, length, fold, Ok, Err, Contains, IsTrue}
 use Rattle.std.specs.List.{list_any, list_all}
 use Rattle.mof_metamodel.specs.declared.desc.MetaDesc.{MetaDesc}
 use Rattle.mof_metamodel.specs.declared.desc.ClassId.{ClassId}
 use Rattle.mof_metamodel.specs.Metamodels.{class_count, lineage_of}
-use Rattle.mof_metamodel.specs.MetaFaults.{WellMeta}
 use Rattle.qv_syntax.specs.declared.type_tree.Kind.{Kind}
 use Rattle.qv_syntax.specs.declared.type_tree.Kind.TheVariants as kinds
 use Rattle.qv_syntax.specs.declared.ty.Ty.{Ty, fold-Ty, out-Ty}
 use Rattle.qv_syntax.specs.declared.ty.Ty.TheOpen as of
 use Rattle.ocl_types.specs.Environments.{meta_at, class_of}
-use Rattle.ocl_types.specs.Outcomes.{Outcome, wrong_type}
+use Rattle.ocl_types.specs.Outcomes.{RuleResult, wrong_type}
 
 -- ---- types that are one
 
@@ -95,13 +94,13 @@ abbrev pub higher : List MetaDesc → Ty → Ty → Ty
 higher metas a b = if fits metas a b then b else a
 
 -- each of the types conforms to the one
-abbrev pub all_fit : List MetaDesc → Ty → List Ty → Outcome Ty
+abbrev pub all_fit : List MetaDesc → Ty → List Ty → RuleResult Ty
 all_fit metas top [] = Ok top
 all_fit metas top (ty ∷ types) = if fits metas ty top then all_fit metas top types else Err (wrong_type metas top ty)
 
 -- One of the types, to which all conform. Going from left to right, a type to which the one so far conforms takes its place, so
 -- that the last is the one sought, if there is one. The fault names it, and the first that doesn't conform to it.
-abbrev pub agreed : List MetaDesc → Ty → List Ty → Outcome Ty
+abbrev pub agreed : List MetaDesc → Ty → List Ty → RuleResult Ty
 agreed metas ty types = all_fit metas (fold (higher metas) ty types) (ty ∷ types)
 
 -- one of the types, to which all of them conform
@@ -109,12 +108,8 @@ pub record IsTop (metas : List MetaDesc) (types : List Ty) (top : Ty) : Type 0 w
   pub among : Contains types top
   pub above : IsTrue (list_all (λ ty. fits metas ty top) types)
 
--- no fault stands in the metamodels
-abbrev pub AreWell : List MetaDesc → Type 0
-AreWell metas = (m : ℕ) → m < length metas → WellMeta (meta_at metas m)
-
 -- of two types
-abbrev pub upper : List MetaDesc → Ty → Ty → Outcome Ty
+abbrev pub upper : List MetaDesc → Ty → Ty → RuleResult Ty
 upper metas a b = agreed metas a (b ∷ [])
 
 -- ---- models

@@ -12,6 +12,7 @@ use Rattle.ocl_types.specs.declared.classifier.Classifier.TheVariants.{Class, En
 use Rattle.ocl_types.specs.declared.classifier.Wanted.{Wanted}
 use Rattle.ocl_types.specs.declared.classifier.Wanted.TheVariants.{Types, Classes, Enums}
 use Rattle.ocl_types.specs.Environments.{Environment, meta_at}
+pub use Rattle.ocl_types.specs.Environments.{only}
 
 -- the class of this name in the metamodel of number m
 abbrev pub class_in : ℕ → MetaDesc → List ℕ → Option Classifier
@@ -53,12 +54,6 @@ path_classifiers wanted metas names [] = []
 path_classifiers wanted metas names (c ∷ []) = classifiers_from wanted 0 metas names None c
 path_classifiers wanted metas names (m ∷ c ∷ []) = classifiers_from wanted 0 metas names (Some m) c
 path_classifiers wanted metas names (a ∷ b ∷ c ∷ more) = []
-
--- the one item of a list that has one
-abbrev pub only : {X : Type 0} → List X → Option X
-only [] = None
-only (x ∷ []) = Some x
-only (x ∷ y ∷ xs) = None
 
 abbrev pub classifier_type : Classifier → Ty
 classifier_type (Class m c) = types.Class m c

@@ -1,14 +1,16 @@
 -- What the expressions of a script may name: metamodels, models, variables and queries (OCL 2.4, section 9.4).
-use Rattle.std.specs.Prelude.{◌≡◌, ◌≤◌, ℕ, Bool, true, false, ◌&&◌, ◌==◌, nat_lt, is_some, IsTrue, List, [], ◌∷◌, ◌++◌, Option, None, Some, map, length, position, slice_index_or}
-use Rattle.std.specs.List.{list_all}
-use Rattle.std.specs.Map.{lookup}
+use Rattle.std.specs.Prelude.{◌≡◌, ◌≤◌, ℕ, Bool, true, false, ◌&&◌, ◌==◌, nat_lt, is_some, IsTrue, List, [], ◌∷◌, ◌++◌, Option, None, Some, ◌+◌, if◌then◌else◌, map, length, slice_index_or}
+use Rattle.std.specs.List.{list_all, All, range_with_len}
 use Rattle.std.specs.Option.{option_map_or}
 use Rattle.mof_metamodel.specs.declared.desc.MetaDesc.{MetaDesc}
 use Rattle.mof_metamodel.specs.declared.desc.ClassId.{ClassId}
-use Rattle.mof_metamodel.specs.Metamodels.{same_name, class_count, enum_count}
+pub use Rattle.mof_metamodel.specs.NameTables.{NamesWith, number_of, value_of, with_value}
+use Rattle.mof_metamodel.specs.Metamodels.{class_count, enum_count}
+use Rattle.mof_metamodel.specs.MetaFaults.{WellMeta}
 use Rattle.qv_syntax.specs.declared.ty.Ty.{Ty, fold-Ty}
 use Rattle.qv_syntax.specs.declared.ty.Ty.TheOpen as of
 use Rattle.qv_syntax.specs.declared.query.ModelSlot.{ModelSlot}
+use Rattle.ocl_types.specs.declared.limits.TheConstants.{MAX_NUMBERED}
 use Rattle.ocl_types.specs.declared.variable.Variable.{Variable}
 use Rattle.ocl_types.specs.declared.variable.Signature.{Signature}
 
@@ -23,7 +25,16 @@ meta_at metas m = slice_index_or metas m no_meta
 
 -- the greatest number of metamodels, and of names of a kind
 abbrev pub most : ℕ
-most = 4294967295
+most = MAX_NUMBERED
+
+-- no fault stands in the metamodels
+abbrev pub AreWell : List MetaDesc → Type 0
+AreWell metas = All WellMeta metas
+
+-- what stands of the metamodels of a script
+pub record AreInOrder (metas : List MetaDesc) : Type 0 where
+  pub few : length metas ≤ most
+  pub well : AreWell metas
 
 -- Types
 
@@ -72,22 +83,6 @@ class_of = fold-Ty (Option (ℕ × ClassId)) class_step
 
 -- Names in reach
 
--- names with what they stand for, in the order in which they came
-abbrev pub Named : Type 0 → Type 0
-Named X = List (List ℕ × X)
-
--- the place of the first of this name
-abbrev pub number_of : {X : Type 0} → Named X → List ℕ → Option ℕ
-number_of entries name = position (same_name name) (map (λ e. e.0) entries)
-
--- what the first of this name stands for
-abbrev pub value_of : {X : Type 0} → Named X → List ℕ → Option X
-value_of entries name = lookup (same_name name) entries
-
--- the list with one more name
-abbrev pub with_name : {X : Type 0} → Named X → List ℕ → X → Named X
-with_name entries name x = entries ++ (name, x) ∷ []
-
 -- what contracts see as `Env`
 pub record Environment : Type 0 where
   pub metas : List MetaDesc
@@ -95,8 +90,8 @@ pub record Environment : Type 0 where
   pub names : List (List ℕ)
   pub models : List ModelSlot
   -- the variables; their numbers are their places
-  pub variables : Named Variable
-  pub queries : Named Signature
+  pub variables : NamesWith Variable
+  pub queries : NamesWith Signature
 
 -- a variable of this name is in reach
 abbrev pub is_bound : Environment → List ℕ → Bool
@@ -108,11 +103,11 @@ is_query_bound env name = is_some (value_of env.queries name)
 
 -- a variable more
 abbrev pub with_variable : Environment → List ℕ → Variable → Environment
-with_variable env name variable = record env { variables = with_name env.variables name variable }
+with_variable env name variable = record env { variables = with_value env.variables name variable }
 
 -- a query more
 abbrev pub with_query : Environment → List ℕ → Signature → Environment
-with_query env name signature = record env { queries = with_name env.queries name signature }
+with_query env name signature = record env { queries = with_value env.queries name signature }
 
 abbrev pub nothing_in_reach : Environment
 nothing_in_reach = record { metas = []; names = []; models = []; variables = []; queries = [] }
@@ -126,6 +121,25 @@ no_slot = record { name = []; meta = 0 }
 
 abbrev pub slot_at : List ModelSlot → ℕ → ModelSlot
 slot_at models i = slice_index_or models i no_slot
+
+-- the numbers of the models of this metamodel, from number i on
+abbrev pub models_of : ℕ → ℕ → List ModelSlot → List ℕ
+models_of meta i [] = []
+models_of meta i (slot ∷ slots) = (if slot.meta == meta then i ∷ [] else []) ++ models_of meta (i + 1) slots
+
+-- the one item of a list that has one
+abbrev pub only : {X : Type 0} → List X → Option X
+only [] = None
+only (x ∷ []) = Some x
+only (x ∷ y ∷ xs) = None
+
+-- the one model of this metamodel, if there is one alone
+unfoldable pub only_model : List ModelSlot → ℕ → Option ℕ
+only_model models meta = only (models_of meta 0 models)
+
+-- the same of each of so many metamodels
+abbrev pub only_models : List ModelSlot → ℕ → List (Option ℕ)
+only_models models count = map (only_model models) (range_with_len 0 count)
 
 -- a type of the objects of this model: a class of its metamodel
 abbrev pub is_object_type : Environment → Ty → ℕ → Bool
@@ -147,9 +161,14 @@ is_query env q = are_types env.metas q.1.params && is_type env.metas q.1.result
 -- what stands in each environment: numbers are in range, and types are such that a variable may have them
 pub record IsInOrder (env : Environment) : Type 0 where
   pub few : length env.metas ≤ most
+  pub well : AreWell env.metas
   pub named : length env.names ≡ length env.metas
   pub placed : IsTrue (have_metas env.models (length env.metas))
   pub typed : IsTrue (list_all (is_variable env) env.variables)
   pub queried : IsTrue (list_all (is_query env) env.queries)
   pub few_variables : length env.variables ≤ most
   pub few_queries : length env.queries ≤ most
+
+-- the one models of metamodels, as they are kept beside the models
+abbrev pub IsTabled : List ModelSlot → List (Option ℕ) → Type 0
+IsTabled models table = (length models ≤ most) × (table ≡ only_models models (length table))

@@ -1,3 +1,4 @@
+pub mod FaultWords
 pub mod Environments
 pub mod Naming
 pub mod Classifiers
@@ -16,3 +17,4 @@ pub mod TypingOperators
 pub mod TypingSteps
 pub mod TypingCollections
 pub mod Typing
+pub mod Forms

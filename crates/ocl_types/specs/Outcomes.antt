@@ -6,16 +6,16 @@ use Rattle.ocl_types.specs.declared.fault.TypeFault.{TypeFault}
 use Rattle.ocl_types.specs.declared.fault.TypeFault.TheVariants.{WrongType}
 use Rattle.ocl_types.specs.Naming.{type_text}
 
-abbrev pub Outcome : Type 0 → Type 0
-Outcome X = Result X TypeFault
+abbrev pub RuleResult : Type 0 → Type 0
+RuleResult X = Result X TypeFault
 
 -- what a rule makes of what a part gave; the fault of the part comes first
-abbrev pub and_then : {X Y : Type 0} → Outcome X → (X → Outcome Y) → Outcome Y
+abbrev pub and_then : {X Y : Type 0} → RuleResult X → (X → RuleResult Y) → RuleResult Y
 and_then (Ok x) rule = rule x
 and_then (Err f) rule = Err f
 
 -- what is asked, or else the fault
-abbrev pub asking : {X : Type 0} → Bool → TypeFault → Outcome X → Outcome X
+abbrev pub asking : {X : Type 0} → Bool → TypeFault → RuleResult X → RuleResult X
 asking true fault outcome = outcome
 asking false fault outcome = Err fault
 

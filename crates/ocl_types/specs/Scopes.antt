@@ -1,7 +1,7 @@
 -- The names in reach within an expression: those of an environment, and the variables that the expression itself brings in.
 use Rattle.std.specs.Prelude.{◌-◌, ℕ, List, take, length}
 use Rattle.ocl_types.specs.declared.variable.Variable.{Variable}
-use Rattle.ocl_types.specs.Environments.{Environment, Named, with_name}
+use Rattle.ocl_types.specs.Environments.{Environment, NamesWith, with_value}
 use Rattle.ocl_types.specs.Parts.{within}
 
 -- what contracts see as `Scope`
@@ -9,7 +9,7 @@ pub record Reach : Type 0 where
   -- what is in reach around the expression
   pub outer : Environment
   -- the lets and the iterator variables in force, the outermost first
-  pub locals : Named Variable
+  pub locals : NamesWith Variable
 
 -- the names in reach, as an environment
 abbrev pub in_reach : Reach → Environment
@@ -17,7 +17,7 @@ in_reach scope = within scope.outer scope.locals
 
 -- a variable more
 abbrev pub entered : Reach → List ℕ → Variable → Reach
-entered scope name variable = record scope { locals = with_name scope.locals name variable }
+entered scope name variable = record scope { locals = with_value scope.locals name variable }
 
 -- without the last variable
 abbrev pub left : Reach → Reach

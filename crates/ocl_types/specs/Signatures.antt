@@ -1,99 +1,61 @@
--- What the operations of OCL take and give (OCL 2.4, sections 11.3 to 11.9).
-use Rattle.std.specs.Prelude.{◌≡◌, ◌⊎◌, ℕ, Bool, true, false}
-use Rattle.qv_syntax.specs.declared.operation.Operation.{Operation}
-use Rattle.qv_syntax.specs.declared.operation.Operation.TheVariants as singles
-use Rattle.qv_syntax.specs.declared.operation.CollectionOperation.{CollectionOperation}
-use Rattle.qv_syntax.specs.declared.operation.CollectionOperation.TheVariants as collections
-use Rattle.qv_syntax.specs.declared.operation.IteratorKind.{IteratorKind}
-use Rattle.qv_syntax.specs.declared.operation.IteratorKind.TheVariants as iterators
+-- What the columns of the table of operations ask of types, and what they give (OCL 2.4, sections 11.3 to 11.9).
+use Rattle.std.specs.Prelude.{ℕ, Bool, true, false, ◌||◌}
 use Rattle.qv_syntax.specs.declared.type_tree.Kind.{Kind}
 use Rattle.qv_syntax.specs.declared.type_tree.Kind.TheVariants as kinds
 use Rattle.qv_syntax.specs.declared.ty.Ty.{Ty}
 use Rattle.qv_syntax.specs.declared.ty.Ty.TheVariants as types
-use Rattle.ocl_types.specs.declared.signatures.Argument.{Argument}
-use Rattle.ocl_types.specs.declared.signatures.Argument.TheVariants as arguments
+use Rattle.ocl_types.specs.declared.operations.Receivers.{Receivers}
+use Rattle.ocl_types.specs.declared.operations.Receivers.TheVariants as receivers
+use Rattle.ocl_types.specs.declared.operations.Parameters.{Parameters}
+use Rattle.ocl_types.specs.declared.operations.Parameters.TheVariants as parameters
+use Rattle.ocl_types.specs.declared.operations.OperationResult.{OperationResult}
+use Rattle.ocl_types.specs.declared.operations.OperationResult.TheVariants as gives
+use Rattle.ocl_types.specs.declared.collection_operations.Kinds.{Kinds}
+use Rattle.ocl_types.specs.declared.collection_operations.Kinds.TheVariants as behind
+use Rattle.ocl_types.specs.declared.collection_operations.Argument.{Argument}
+use Rattle.ocl_types.specs.declared.collection_operations.Argument.TheVariants as arguments
+use Rattle.ocl_types.specs.declared.collection_operations.CollectionResult.{CollectionResult}
+use Rattle.ocl_types.specs.declared.collection_operations.CollectionResult.TheVariants as comes
+use Rattle.ocl_types.specs.Agreement.{same_type}
 
 -- ---- operations on single values
 
--- how many arguments there are
-abbrev pub parameter_count : Operation → ℕ
-parameter_count singles.Absolute = 0
-parameter_count singles.Divide = 1
-parameter_count singles.Modulo = 1
-parameter_count singles.Maximum = 1
-parameter_count singles.Minimum = 1
-parameter_count singles.ToString = 0
-parameter_count singles.Length = 0
-parameter_count singles.Concatenate = 1
-parameter_count singles.ToInteger = 0
-parameter_count singles.Substring = 2
-parameter_count singles.IsUndefined = 0
-parameter_count singles.IsInvalid = 0
-parameter_count singles.AsSingletonSet = 0
+-- values of this type are among the receivers
+abbrev pub is_receiver : Receivers → Ty → Bool
+is_receiver receivers.Int ty = same_type ty types.Int
+is_receiver receivers.IntOrBool ty = same_type ty types.Int || same_type ty types.Bool
+is_receiver receivers.Str ty = same_type ty types.Str
+is_receiver receivers.Any ty = true
 
--- an operation on values of this type
-abbrev pub Receives : Operation → Ty → Type 0
-Receives singles.Absolute ty = ty ≡ types.Int
-Receives singles.Divide ty = ty ≡ types.Int
-Receives singles.Modulo ty = ty ≡ types.Int
-Receives singles.Maximum ty = ty ≡ types.Int
-Receives singles.Minimum ty = ty ≡ types.Int
-Receives singles.ToString ty = (ty ≡ types.Int) ⊎ (ty ≡ types.Bool)
-Receives singles.Length ty = ty ≡ types.Str
-Receives singles.Concatenate ty = ty ≡ types.Str
-Receives singles.ToInteger ty = ty ≡ types.Str
-Receives singles.Substring ty = ty ≡ types.Str
-Receives singles.IsUndefined ty = Unit {0}
-Receives singles.IsInvalid ty = Unit {0}
-Receives singles.AsSingletonSet ty = Unit {0}
+-- how many arguments there are
+abbrev pub parameter_count : Parameters → ℕ
+parameter_count parameters.Nothing = 0
+parameter_count parameters.Int = 1
+parameter_count parameters.TwoInts = 2
+parameter_count parameters.Str = 1
 
 -- the type of each argument, where there is one
-abbrev pub parameter_type : Operation → Ty
-parameter_type singles.Concatenate = types.Str
-parameter_type operation = types.Int
+abbrev pub parameter_type : Parameters → Ty
+parameter_type parameters.Nothing = types.Int
+parameter_type parameters.Int = types.Int
+parameter_type parameters.TwoInts = types.Int
+parameter_type parameters.Str = types.Str
 
 -- the type of the result, of that of the value
-abbrev pub result_type : Operation → Ty → Ty
-result_type singles.Absolute ty = types.Int
-result_type singles.Divide ty = types.Int
-result_type singles.Modulo ty = types.Int
-result_type singles.Maximum ty = types.Int
-result_type singles.Minimum ty = types.Int
-result_type singles.ToString ty = types.Str
-result_type singles.Length ty = types.Int
-result_type singles.Concatenate ty = types.Str
-result_type singles.ToInteger ty = types.Int
-result_type singles.Substring ty = types.Str
-result_type singles.IsUndefined ty = types.Bool
-result_type singles.IsInvalid ty = types.Bool
-result_type singles.AsSingletonSet ty = types.Coll kinds.Set ty
+abbrev pub result_type : OperationResult → Ty → Ty
+result_type gives.Int ty = types.Int
+result_type gives.Str ty = types.Str
+result_type gives.Bool ty = types.Bool
+result_type gives.SetOfIt ty = types.Coll kinds.Set ty
 
 -- ---- operations on collections
 
--- what the argument is
-abbrev pub argument_of : CollectionOperation → Argument
-argument_of collections.Size = arguments.Nothing
-argument_of collections.IsEmpty = arguments.Nothing
-argument_of collections.NotEmpty = arguments.Nothing
-argument_of collections.Includes = arguments.Element
-argument_of collections.Excludes = arguments.Element
-argument_of collections.IncludesAll = arguments.Collection
-argument_of collections.ExcludesAll = arguments.Collection
-argument_of collections.Count = arguments.Element
-argument_of collections.Sum = arguments.Nothing
-argument_of collections.Including = arguments.Element
-argument_of collections.Excluding = arguments.Element
-argument_of collections.Union = arguments.SameKind
-argument_of collections.Intersection = arguments.SameKind
-argument_of collections.AsSet = arguments.Nothing
-argument_of collections.AsBag = arguments.Nothing
-argument_of collections.AsSequence = arguments.Nothing
-argument_of collections.AsOrderedSet = arguments.Nothing
-argument_of collections.First = arguments.Nothing
-argument_of collections.Last = arguments.Nothing
-argument_of collections.At = arguments.Index
-argument_of collections.Append = arguments.Element
-argument_of collections.Prepend = arguments.Element
+abbrev pub argument_count : Argument → ℕ
+argument_count arguments.Nothing = 0
+argument_count arguments.Element = 1
+argument_count arguments.Collection = 1
+argument_count arguments.SameKind = 1
+argument_count arguments.Index = 1
 
 -- a kind whose elements stand in an order
 abbrev pub is_ordered : Kind → Bool
@@ -108,48 +70,25 @@ is_set kinds.Bag = false
 is_set kinds.Sequence = false
 is_set kinds.OrderedSet = false
 
--- an operation on collections of this kind
-abbrev pub is_of_kind : CollectionOperation → Kind → Bool
-is_of_kind collections.Intersection kind = is_set kind
-is_of_kind collections.First kind = is_ordered kind
-is_of_kind collections.Last kind = is_ordered kind
-is_of_kind collections.At kind = is_ordered kind
-is_of_kind collections.Append kind = is_ordered kind
-is_of_kind collections.Prepend kind = is_ordered kind
-is_of_kind operation kind = true
+-- collections of this kind are among the receivers
+abbrev pub is_of_kind : Kinds → Kind → Bool
+is_of_kind behind.Any kind = true
+is_of_kind behind.Set kind = is_set kind
+is_of_kind behind.Ordered kind = is_ordered kind
 
 -- the type of the result: of the kind and the type of the elements, and of the type to which these and what is given conform
-abbrev pub collection_result : CollectionOperation → Kind → Ty → Ty → Ty
-collection_result collections.Size kind of upper = types.Int
-collection_result collections.IsEmpty kind of upper = types.Bool
-collection_result collections.NotEmpty kind of upper = types.Bool
-collection_result collections.Includes kind of upper = types.Bool
-collection_result collections.Excludes kind of upper = types.Bool
-collection_result collections.IncludesAll kind of upper = types.Bool
-collection_result collections.ExcludesAll kind of upper = types.Bool
-collection_result collections.Count kind of upper = types.Int
-collection_result collections.Sum kind of upper = types.Int
-collection_result collections.Including kind of upper = types.Coll kind upper
-collection_result collections.Excluding kind of upper = types.Coll kind of
-collection_result collections.Union kind of upper = types.Coll kind upper
-collection_result collections.Intersection kind of upper = types.Coll kind upper
-collection_result collections.AsSet kind of upper = types.Coll kinds.Set of
-collection_result collections.AsBag kind of upper = types.Coll kinds.Bag of
-collection_result collections.AsSequence kind of upper = types.Coll kinds.Sequence of
-collection_result collections.AsOrderedSet kind of upper = types.Coll kinds.OrderedSet of
-collection_result collections.First kind of upper = of
-collection_result collections.Last kind of upper = of
-collection_result collections.At kind of upper = of
-collection_result collections.Append kind of upper = types.Coll kind upper
-collection_result collections.Prepend kind of upper = types.Coll kind upper
+abbrev pub collection_result : CollectionResult → Kind → Ty → Ty → Ty
+collection_result comes.Int kind of upper = types.Int
+collection_result comes.Bool kind of upper = types.Bool
+collection_result comes.Element kind of upper = of
+collection_result comes.Same kind of upper = types.Coll kind of
+collection_result comes.Wider kind of upper = types.Coll kind upper
+collection_result comes.Set kind of upper = types.Coll kinds.Set of
+collection_result comes.Bag kind of upper = types.Coll kinds.Bag of
+collection_result comes.Sequence kind of upper = types.Coll kinds.Sequence of
+collection_result comes.OrderedSet kind of upper = types.Coll kinds.OrderedSet of
 
 -- ---- iterators
-
--- the body is a condition
-abbrev pub has_condition : IteratorKind → Bool
-has_condition iterators.Collect = false
-has_condition iterators.IsUnique = false
-has_condition iterator = true
 
 -- the kind of what `collect` gives
 abbrev pub collected_kind : Kind → Kind

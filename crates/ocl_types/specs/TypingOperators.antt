@@ -7,22 +7,22 @@ use Rattle.qv_syntax.specs.declared.ty.Ty.{Ty}
 use Rattle.qv_syntax.specs.declared.ty.Ty.TheVariants as types
 use Rattle.qv_syntax.specs.declared.type_tree.Kind.{Kind}
 use Rattle.qv_syntax.specs.declared.typed.Node.TheVariants as nodes
-use Rattle.ocl_types.specs.declared.part.Part.{Part}
+use Rattle.ocl_types.specs.declared.part.TypedPart.{TypedPart}
 use Rattle.ocl_types.specs.declared.part.Chained.{Chained}
 use Rattle.ocl_types.specs.Naming.{kind_text}
-use Rattle.ocl_types.specs.Outcomes.{Outcome, and_then, asking, wrong_type}
+use Rattle.ocl_types.specs.Outcomes.{RuleResult, and_then, asking, wrong_type}
 use Rattle.ocl_types.specs.Agreement.{same_kind, same_type, is_null, collection_parts, model_for, are_related, agreed, upper, joined_models}
 use Rattle.ocl_types.specs.Parts.{tree_of, trees_of, types_of, plain_part, with_models, one_model}
 use Rattle.ocl_types.specs.TypingScopes.{element}
 
 -- this very type is asked for
-abbrev pub exactly : List MetaDesc → Ty → Ty → Outcome (Unit {0})
+abbrev pub exactly : List MetaDesc → Ty → Ty → RuleResult (Unit {0})
 exactly metas wanted found = asking (same_type found wanted) (wrong_type metas wanted found) (Ok tt)
 
 -- ---- operators between two parts
 
 -- both have the one type, and what comes has the other
-abbrev pub both : List MetaDesc → Ty → Ty → Ty → Ty → Outcome Ty
+abbrev pub both : List MetaDesc → Ty → Ty → Ty → Ty → RuleResult Ty
 both metas wanted left right gives = and_then (exactly metas wanted left) (λ u. and_then (exactly metas wanted right) (λ v. Ok gives))
 
 -- collections of one kind, and elements that may stand in one collection
@@ -34,15 +34,15 @@ comparable_elements metas a b = false
 abbrev pub are_comparable : List MetaDesc → Ty → Ty → Bool
 are_comparable metas a b = is_null a || is_null b || are_related metas a b || comparable_elements metas (collection_parts a) (collection_parts b)
 
-abbrev pub compared : List MetaDesc → Ty → Ty → Outcome Ty
+abbrev pub compared : List MetaDesc → Ty → Ty → RuleResult Ty
 compared metas a b = asking (are_comparable metas a b) (wrong_type metas a b) (Ok types.Bool)
 
 -- two Strings or two Integers, as the first one is
-abbrev pub added : List MetaDesc → Ty → Ty → Outcome Ty
+abbrev pub added : List MetaDesc → Ty → Ty → RuleResult Ty
 added metas a b = if same_type a types.Str then both metas types.Str a b types.Str else both metas types.Int a b types.Int
 
 -- the type of the result
-abbrev pub operated : List MetaDesc → Operator → Ty → Ty → Outcome Ty
+abbrev pub operated : List MetaDesc → Operator → Ty → Ty → RuleResult Ty
 operated metas operators.Implies a b = both metas types.Bool a b types.Bool
 operated metas operators.Xor a b = both metas types.Bool a b types.Bool
 operated metas operators.Or a b = both metas types.Bool a b types.Bool
@@ -60,52 +60,52 @@ operated metas operators.Times a b = both metas types.Int a b types.Int
 -- ---- chains, from left to right
 
 -- nothing is joined to the first part yet
-abbrev pub unchained : Part → Chained
+abbrev pub unchained : TypedPart → Chained
 unchained first = record { links = []; ty = first.ty }
 
 -- one more operator and the part behind it
-abbrev pub and_linked : Chained → Operator → Part → Ty → Chained
+abbrev pub and_linked : Chained → Operator → TypedPart → Ty → Chained
 and_linked c operator right ty = record { links = c.links ++ (record { operator = operator; right = tree_of right; ty = ty }) ∷ []; ty = ty }
 
-unfoldable pub link_rule : List MetaDesc → Chained → Operator → Part → Outcome Chained
+unfoldable pub link_rule : List MetaDesc → Chained → Operator → TypedPart → RuleResult Chained
 link_rule metas c operator right = and_then (operated metas operator c.ty right.ty) (λ ty. Ok (and_linked c operator right ty))
 
-unfoldable pub chain_part : Part → Chained → Part
+unfoldable pub chain_part : TypedPart → Chained → TypedPart
 chain_part first c = record { ty = c.ty; model = model_for c.ty first.model; node = nodes.Chain (tree_of first) c.links }
 
 -- ---- operators before a part
 
-unfoldable pub not_rule : List MetaDesc → Part → Outcome Part
+unfoldable pub not_rule : List MetaDesc → TypedPart → RuleResult TypedPart
 not_rule metas operand = and_then (exactly metas types.Bool operand.ty) (λ u. Ok (plain_part types.Bool (nodes.Not (tree_of operand))))
 
-unfoldable pub negated_rule : List MetaDesc → Part → Outcome Part
+unfoldable pub negated_rule : List MetaDesc → TypedPart → RuleResult TypedPart
 negated_rule metas operand = and_then (exactly metas types.Int operand.ty) (λ u. Ok (plain_part types.Int (nodes.Negated (tree_of operand))))
 
 -- ---- if
 
 -- the branches have one type or related classes; one that is null takes the other's type
-abbrev pub branches : List MetaDesc → Ty → Ty → Outcome Ty
+abbrev pub branches : List MetaDesc → Ty → Ty → RuleResult Ty
 branches metas one other = if is_null one then Ok other else if is_null other then Ok one else upper metas one other
 
 -- the type and the model of the branches, if the parts go together
-abbrev pub if_branches : List MetaDesc → Ty → Part → Part → Outcome (Ty × Option ℕ)
+abbrev pub if_branches : List MetaDesc → Ty → TypedPart → TypedPart → RuleResult (Ty × Option ℕ)
 if_branches metas condition one other =
     and_then (exactly metas types.Bool condition) (λ u.
     and_then (branches metas one.ty other.ty) (λ ty.
     and_then (one_model (codes "if") (joined_models one.model other.model)) (λ model. Ok (ty, model))))
 
-unfoldable pub if_rule : List MetaDesc → Part → Part → Part → Outcome Part
+unfoldable pub if_rule : List MetaDesc → TypedPart → TypedPart → TypedPart → RuleResult TypedPart
 if_rule metas condition one other =
     and_then (if_branches metas condition.ty one other) (λ b. Ok (record { ty = b.0; model = b.1; node = nodes.If (tree_of condition) (tree_of one) (tree_of other) }))
 
 -- ---- collection literals
 
 -- the type of the elements: that of null, where there are none
-abbrev pub literal_type : List MetaDesc → List Ty → Outcome Ty
+abbrev pub literal_type : List MetaDesc → List Ty → RuleResult Ty
 literal_type metas [] = Ok types.Null
 literal_type metas (ty ∷ more) = and_then (agreed metas ty more) (element metas)
 
-unfoldable pub literal_rule : List MetaDesc → Kind → List Part → Outcome Part
+unfoldable pub literal_rule : List MetaDesc → Kind → List TypedPart → RuleResult TypedPart
 literal_rule metas kind elements =
     and_then (literal_type metas (types_of elements)) (λ ty.
     and_then (one_model (kind_text kind) (with_models None elements)) (λ model.

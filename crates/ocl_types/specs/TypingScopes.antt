@@ -9,77 +9,77 @@ use Rattle.qv_syntax.specs.declared.type_tree.Kind.{Kind}
 use Rattle.qv_syntax.specs.declared.type_tree.TypeTree.{TypeTree}
 use Rattle.qv_syntax.specs.declared.typed.Node.TheVariants as nodes
 use Rattle.ocl_types.specs.declared.fault.TypeFault.TheVariants.{UnknownName, DuplicateName}
-use Rattle.ocl_types.specs.declared.part.Part.{Part}
+use Rattle.ocl_types.specs.declared.part.TypedPart.{TypedPart}
 use Rattle.ocl_types.specs.declared.variable.Variable.{Variable}
 use Rattle.ocl_types.specs.Environments.{Environment, is_bound, number_of, value_of}
 use Rattle.ocl_types.specs.Naming.{names_of, joined_names}
 use Rattle.ocl_types.specs.Classifiers.{named_literal}
 use Rattle.ocl_types.specs.Written.{written}
-use Rattle.ocl_types.specs.Outcomes.{Outcome, and_then, asking, wrong_type}
+use Rattle.ocl_types.specs.Outcomes.{RuleResult, and_then, asking, wrong_type}
 use Rattle.ocl_types.specs.Agreement.{collection_parts, fits}
 use Rattle.ocl_types.specs.Parts.{tree_of, plain_part}
 
 -- ---- variables and literals
 
 -- the variable, of its number and of what it stands for, if there are these
-abbrev pub variable_by : List ℕ → Option ℕ → Option Variable → Outcome Part
+abbrev pub variable_by : List ℕ → Option ℕ → Option Variable → RuleResult TypedPart
 variable_by name (Some number) (Some v) = Ok (record { ty = v.ty; model = v.model; node = nodes.Variable number })
 variable_by name (Some number) None = Err (UnknownName name)
 variable_by name None v = Err (UnknownName name)
 
 -- a variable that is in reach
-abbrev pub variable_part : Environment → List ℕ → Outcome Part
+abbrev pub variable_part : Environment → List ℕ → RuleResult TypedPart
 variable_part env name = variable_by name (number_of env.variables name) (value_of env.variables name)
 
-abbrev pub literal_by : List (List ℕ) → Option (ℕ × EnumId × ℕ) → Outcome Part
+abbrev pub literal_by : List (List ℕ) → Option (ℕ × EnumId × ℕ) → RuleResult TypedPart
 literal_by names (Some l) = Ok (plain_part (types.Enum l.0 l.1) (nodes.EnumLiteral l.0 l.1 l.2))
 literal_by names None = Err (UnknownName (joined_names names))
 
 -- a name alone is a variable, and a longer path is a literal of an enumeration
-abbrev pub names_part : Environment → List (List ℕ) → Outcome Part
+abbrev pub names_part : Environment → List (List ℕ) → RuleResult TypedPart
 names_part env (name ∷ []) = variable_part env name
 names_part env names = literal_by names (named_literal env names)
 
-unfoldable pub path_part : Environment → Path → Outcome Part
+unfoldable pub path_part : Environment → Path → RuleResult TypedPart
 path_part env path = names_part env (names_of path)
 
 -- ---- the types of variables
 
 -- of these parts of a collection type
-abbrev pub no_collection : List MetaDesc → Ty → Option (Kind × Ty) → Outcome Ty
+abbrev pub no_collection : List MetaDesc → Ty → Option (Kind × Ty) → RuleResult Ty
 no_collection metas ty None = Ok ty
 no_collection metas ty (Some (kind, inner)) = Err (wrong_type metas inner ty)
 
 -- the type of an element: no collection
-abbrev pub element : List MetaDesc → Ty → Outcome Ty
+abbrev pub element : List MetaDesc → Ty → RuleResult Ty
 element metas ty = no_collection metas ty (collection_parts ty)
 
-abbrev pub flat_by : List MetaDesc → Ty → Option (Kind × Ty) → Outcome Ty
+abbrev pub flat_by : List MetaDesc → Ty → Option (Kind × Ty) → RuleResult Ty
 flat_by metas ty None = Ok ty
 flat_by metas ty (Some (kind, inner)) = and_then (element metas inner) (λ of. Ok ty)
 
 -- a type that isn't a collection of collections
-abbrev pub flat : List MetaDesc → Ty → Outcome Ty
+abbrev pub flat : List MetaDesc → Ty → RuleResult Ty
 flat metas ty = flat_by metas ty (collection_parts ty)
 
 -- the type that is written for a variable
-abbrev pub declared_type : Environment → TypeTree → Outcome Ty
+abbrev pub declared_type : Environment → TypeTree → RuleResult Ty
 declared_type env tree = and_then (written env tree) (flat env.metas)
 
 -- a name that is free: variables hide nothing
-abbrev pub free_name : Environment → List ℕ → Outcome (Unit {0})
+abbrev pub free_name : Environment → List ℕ → RuleResult (Unit {0})
 free_name env name = asking (not (is_bound env name)) (DuplicateName name) (Ok tt)
 
 -- ---- let
 
 -- what `let name : type` says, before the value
-abbrev pub let_type : Environment → List ℕ → TypeTree → Outcome Ty
+abbrev pub let_type : Environment → List ℕ → TypeTree → RuleResult Ty
 let_type env name tree = and_then (free_name env name) (λ u. declared_type env tree)
 
 -- the variable: the value's type conforms to the written one, and its model is the value's
-unfoldable pub let_variable : List MetaDesc → Ty → Part → Outcome Variable
+unfoldable pub let_variable : List MetaDesc → Ty → TypedPart → RuleResult Variable
 let_variable metas ty value = asking (fits metas value.ty ty) (wrong_type metas ty value.ty) (Ok (record { ty = ty; model = value.model }))
 
 -- the whole, of the number of its variable
-unfoldable pub let_part : ℕ → Part → Part → Part
+unfoldable pub let_part : ℕ → TypedPart → TypedPart → TypedPart
 let_part number value body = record { ty = body.ty; model = body.model; node = nodes.Let number (tree_of value) (tree_of body) }

@@ -1,14 +1,14 @@
 use mof_metamodel::{ClassId, EnumId};
 
 /// A class or an enumeration, with the number of its metamodel.
-#[derive(Clone, Copy, Debug, PartialEq, Eq)]
-pub enum Classifier {
+#[derive(Clone, Copy)]
+pub(crate) enum Classifier {
     Class(u32, ClassId),
     Enum(u32, EnumId),
 }
 
 /// What was found so far of what a name may name.
-#[derive(Clone, Copy, Debug, PartialEq, Eq)]
+#[derive(Clone, Copy)]
 pub(crate) enum Found {
     Nothing,
     One(Classifier),
@@ -16,7 +16,7 @@ pub(crate) enum Found {
 }
 
 /// Which classifiers a name may name.
-#[derive(Clone, Copy, Debug, PartialEq, Eq)]
+#[derive(Clone, Copy)]
 pub(crate) enum Wanted {
     Types,
     Classes,

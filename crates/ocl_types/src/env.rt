@@ -1,20 +1,18 @@
-ghost use Rattle.std.specs.Prelude.{◌≡◌, ◌<◌, ◌≤◌, [], length, false, IfSome, IsTrue, None, Some, OnOk, OnErr};
+ghost use Rattle.std.specs.Prelude.{◌≡◌, ◌<◌, ◌≤◌, [], length, false, IfSome, IsTrue, None, Some, IfOk, OnOk, OnErr};
 ghost use Rattle.std.specs.Option.{option_map};
 
 use crate::classifier::{Classifier, Wanted};
+use crate::extents::{only_model, only_models};
+use crate::limits::MAX_NUMBERED;
 use crate::literals::find_literal;
 use crate::look_up::{find_path, type_of};
 use crate::metas::Metas;
-use crate::name_map::NameMap;
 use crate::of_types::{are_types, class_of, is_type};
 use crate::variable::{Signature, Variable};
-use mof_metamodel::{ClassId, EnumId, MetaModel, NoMemory, Seq, Text};
+use mof_metamodel::{ClassId, EnumId, MetaModel, NameTable, NoMemory, Seq, Text};
 use qv_syntax::{ModelSlot, Path, Ty};
 use std::alloc::Global;
 use std::marker::Model;
-
-/// How many variables there may be, and how many queries.
-const MOST: usize = 4294967295;
 
 /// The names in reach of an expression with their types (OCL 2.4, section 9.4): metamodels, models, variables and
 /// queries. Names are found by hashing. Variables are numbered in the order of binding, from 0, and so are queries.
@@ -23,14 +21,16 @@ pub struct Env<'a> {
     metas: &'a [MetaModel],
     names: Seq<Text>,
     models: Seq<ModelSlot>,
-    variables: NameMap<Variable>,
-    queries: NameMap<Signature>,
+    variables: NameTable<Variable>,
+    queries: NameTable<Signature>,
+    /// The one model of each metamodel that has one alone.
+    only_models: Seq<Option<u32>>,
 }
 
 impl<'a> Model for Env<'a> {
     ghost use Rattle.std.specs.Coded.{codes};
     ghost use Rattle.qv_syntax.specs.contracts.ty.Ty as ty;
-    ghost use Rattle.ocl_types.specs.Environments.{Environment, IsInOrder};
+    ghost use Rattle.ocl_types.specs.Environments.{Environment, IsInOrder, IsTabled};
 
     ghost Value = { Environment };
 
@@ -38,13 +38,13 @@ impl<'a> Model for Env<'a> {
 
     ghost view = { λ e. record { metas = e.metas.now; names = e.names; models = e.models; variables = e.variables; queries = e.queries } };
 
-    ghost invariant = { λ e. IsInOrder (record { metas = e.metas.now; names = e.names; models = e.models; variables = e.variables; queries = e.queries }) };
+    ghost invariant = { λ e. IsInOrder (record { metas = e.metas.now; names = e.names; models = e.models; variables = e.variables; queries = e.queries }) × IsTabled e.models e.only_models };
 }
 
 impl<'a> Env<'a> {
     ghost use Rattle.ocl_types.specs.Naming.{names_of};
     ghost use Rattle.ocl_types.specs.Classifiers.{named_type as type_named, named_class as class_named, named_literal as literal_named};
-    ghost use Rattle.ocl_types.specs.Environments.{nothing_in_reach, have_metas, is_type as typed, is_object_type as object_typed, are_types as all_typed, is_variable, is_bound as bound, is_query_bound as query_bound, with_variable, with_query, number_of, value_of, most};
+    ghost use Rattle.ocl_types.specs.Environments.{nothing_in_reach, AreWell, have_metas, is_type as typed, is_object_type as object_typed, are_types as all_typed, is_variable, is_bound as bound, is_query_bound as query_bound, with_variable, with_query, number_of, value_of, most, only_model as model_alone};
 
     /// Nothing in reach, and no metamodels.
     pub fn new(alloc: Global) -> Env<'a>
@@ -54,29 +54,40 @@ impl<'a> Env<'a> {
             metas: &[],
             names: Seq::new(alloc),
             models: Seq::new(alloc),
-            variables: NameMap::new(alloc),
-            queries: NameMap::new(alloc),
+            variables: NameTable::new(alloc),
+            queries: NameTable::new(alloc),
+            only_models: Seq::new(alloc),
         }
     }
 
     /// The metamodels and the models of a script, and nothing else in reach. `names` are the names of the metamodels.
+    ///
+    /// # Errors
+    ///
+    /// `NoMemory` where memory runs out, or where there are more than `MAX_NUMBERED` models.
+    #[tactic(auto, using(crate::proofs::ModelLaws::kept_table))]
     pub fn over(
         alloc: Global,
         metas: &'a Metas,
         names: Seq<Text>,
         models: Seq<ModelSlot>,
-    ) -> Env<'a>
+    ) -> Result<Env<'a>, NoMemory>
         requires named { length names ≡ length metas.now }
         requires placed { IsTrue (have_metas models (length names)) }
-        ensures { result ≡ record { metas = metas.now; names = names; models = models; variables = []; queries = [] } }
+        ensures { IfOk result (λ e. e ≡ record { metas = metas.now; names = names; models = models; variables = []; queries = [] }) }
     {
-        Env {
+        if models.len() > MAX_NUMBERED {
+            return Err(NoMemory);
+        }
+        let only_models = only_models(alloc, models.as_slice(), metas.len())?;
+        Ok(Env {
             metas: metas.as_slice(),
             names,
             models,
-            variables: NameMap::new(alloc),
-            queries: NameMap::new(alloc),
-        }
+            variables: NameTable::new(alloc),
+            queries: NameTable::new(alloc),
+            only_models,
+        })
     }
 
     /// Whether a variable of this name is bound.
@@ -94,7 +105,7 @@ impl<'a> Env<'a> {
     }
 
     /// The number of a variable, and its type.
-    pub fn variable(&self, name: &Text) -> Option<(u32, &Variable)>
+    pub(crate) fn variable(&self, name: &Text) -> Option<(u32, &Variable)>
         ensures number { option_map (λ v. v.0) result ≡ number_of self.now.variables name.now }
         ensures value { option_map (λ v. v.1.now) result ≡ value_of self.now.variables name.now }
     {
@@ -103,29 +114,37 @@ impl<'a> Env<'a> {
     }
 
     /// How many variables are bound.
-    pub fn variable_count(&self) -> u32
+    pub(crate) fn variable_count(&self) -> u32
         ensures count { result ≡ length self.now.variables }
         ensures few { length self.now.variables ≤ most }
     {
         self.variables.len() as u32
     }
 
-    /// The metamodels in their order.
-    pub(crate) fn metas(&self) -> &[MetaModel]
-        ensures { result.now ≡ self.now.metas }
+    /// The metamodels in their order. No fault stands in any.
+    pub fn metas(&self) -> &[MetaModel]
+        ensures value { result.now ≡ self.now.metas }
+        ensures well { AreWell self.now.metas }
     {
         self.metas
     }
 
-    /// The models in their order.
-    pub(crate) fn models(&self) -> &[ModelSlot]
-        ensures { result.now ≡ self.now.models }
+    /// The one model of a metamodel, if there is one alone.
+    #[tactic(auto, using(crate::proofs::ModelLaws::only_at))]
+    pub(crate) fn only_model(&self, meta: u32) -> Option<u32>
+        ensures { result ≡ model_alone self.now.models meta }
     {
-        self.models.as_slice()
+        let table = self.only_models.as_slice();
+        let i = meta as usize;
+        if i < table.len() {
+            table[i]
+        } else {
+            only_model(self.models.as_slice(), meta)
+        }
     }
 
     /// The number of a query, and its types.
-    pub fn query(&self, name: &Text) -> Option<(u32, &Signature)>
+    pub(crate) fn query(&self, name: &Text) -> Option<(u32, &Signature)>
         ensures number { option_map (λ q. q.0) result ≡ number_of self.now.queries name.now }
         ensures value { option_map (λ q. q.1.now) result ≡ value_of self.now.queries name.now }
     {
@@ -135,7 +154,7 @@ impl<'a> Env<'a> {
 
     /// The type that a path names: the class or the enumeration, if it names one alone.
     #[tactic(auto, using(crate::proofs::FindLaws::one_found))]
-    pub fn named_type(&self, path: &Path) -> Option<Ty>
+    pub(crate) fn named_type(&self, path: &Path) -> Option<Ty>
         ensures { result ≡ type_named self.now (names_of path.now) }
     {
         let found = find_path(
@@ -152,7 +171,7 @@ impl<'a> Env<'a> {
 
     /// The class that a path names, with the number of its metamodel, if it names one class alone.
     #[tactic(auto, using(crate::proofs::FindLaws::one_found))]
-    pub fn named_class(&self, path: &Path) -> Option<(u32, ClassId)>
+    pub(crate) fn named_class(&self, path: &Path) -> Option<(u32, ClassId)>
         ensures { result ≡ class_named self.now (names_of path.now) }
     {
         let found = find_path(
@@ -168,8 +187,8 @@ impl<'a> Env<'a> {
         }
     }
 
-    /// The literal that a path names, with the number of its metamodel, its enumeration and its place.
-    pub fn named_literal(&self, path: &Path) -> Option<(u32, EnumId, u32)>
+    /// The literal that a path names, with the number of its metamodel, its enumeration and its number there.
+    pub(crate) fn named_literal(&self, path: &Path) -> Option<(u32, EnumId, u32)>
         ensures { result ≡ literal_named self.now (names_of path.now) }
     {
         find_literal(self.metas, self.names.as_slice(), path.names.as_slice())
@@ -211,7 +230,7 @@ impl<'a> Env<'a> {
         ensures ok { OnOk result (self.new ≡ with_variable self.old name variable) }
         ensures err { OnErr result (self.new ≡ self.old) }
     {
-        if self.variables.len() >= MOST {
+        if self.variables.len() >= MAX_NUMBERED {
             return Err(NoMemory);
         }
         self.variables.put(name, variable)
@@ -221,7 +240,7 @@ impl<'a> Env<'a> {
     ///
     /// # Errors
     ///
-    /// `NoMemory` where memory runs out, or where 4,294,967,295 variables are bound. Nothing is bound then.
+    /// `NoMemory` where memory runs out, or where `MAX_NUMBERED` variables are bound. Nothing is bound then.
     pub fn bind(&mut self, name: Text, ty: Ty) -> Result<(), NoMemory>
         requires unbound { bound self.old name ≡ false }
         requires typed { IsTrue (typed self.old.metas ty) }
@@ -255,7 +274,7 @@ impl<'a> Env<'a> {
     ///
     /// # Errors
     ///
-    /// `NoMemory` where memory runs out, or where 4,294,967,295 queries are bound. Nothing is bound then.
+    /// `NoMemory` where memory runs out, or where `MAX_NUMBERED` queries are bound. Nothing is bound then.
     pub fn bind_query(
         &mut self,
         name: Text,
@@ -268,7 +287,7 @@ impl<'a> Env<'a> {
         ensures ok { OnOk result (self.new ≡ with_query self.old name (record { params = params; result = result_type })) }
         ensures err { OnErr result (self.new ≡ self.old) }
     {
-        if self.queries.len() >= MOST {
+        if self.queries.len() >= MAX_NUMBERED {
             return Err(NoMemory);
         }
         self.queries.put(

@@ -1,10 +1,11 @@
 ghost use Rattle.std.specs.Prelude.{◌≡◌};
+ghost use Rattle.ocl_types.specs.FaultWords.{fault_word};
 
 use mof_metamodel::{NoMemory, Text};
 use thiserror::Error;
 
 /// A fault of a script that its types show.
-#[derive(Debug, Drop, PartialEq, Eq)]
+#[derive(Debug, Drop)]
 pub enum TypeFault {
     /// A name that names nothing of the kind that its place asks for.
     UnknownName(Text),
@@ -30,8 +31,29 @@ pub enum TypeFault {
     UnknownModel(Text),
 }
 
+impl TypeFault {
+    /// The word that a fault is printed with.
+    pub fn word(&self) -> &'static str
+        ensures { result.now ≡ fault_word self.now }
+    {
+        match self {
+            TypeFault::UnknownName(_) => "UnknownName",
+            TypeFault::WrongType { .. } => "WrongType",
+            TypeFault::WrongCount(_) => "WrongCount",
+            TypeFault::ModelMix(_) => "ModelMix",
+            TypeFault::QueryCycle(_) => "QueryCycle",
+            TypeFault::DuplicateName(_) => "DuplicateName",
+            TypeFault::Unbound(_) => "Unbound",
+            TypeFault::WhenCycle(_) => "WhenCycle",
+            TypeFault::CallShape(_) => "CallShape",
+            TypeFault::KeyShape(_) => "KeyShape",
+            TypeFault::UnknownModel(_) => "UnknownModel",
+        }
+    }
+}
+
 /// Why a script, or an expression, has no types.
-#[derive(Debug, Drop, PartialEq, Eq, Error)]
+#[derive(Debug, Drop, Error)]
 pub enum TypeError {
     #[error("the script has a fault of types")]
     Fault(TypeFault),

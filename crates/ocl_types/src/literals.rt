@@ -1,6 +1,5 @@
-ghost use Rattle.std.specs.Prelude.{◌≡◌, ◌<◌, ◌≤◌, length, position, option_copied, IfSome};
+ghost use Rattle.std.specs.Prelude.{◌≡◌, ◌≤◌, length, option_copied};
 ghost use Rattle.std.specs.Option.{option_and_then};
-ghost use Rattle.mof_metamodel.specs.Metamodels.{same_name, enum_count, enum_at};
 ghost use Rattle.ocl_types.specs.Classifiers.{literal_in as literal_meant, path_literal, only, classifiers_from};
 ghost use Rattle.ocl_types.specs.Environments.{most};
 ghost use Rattle.ocl_types.specs.Naming.{texts_of};
@@ -9,35 +8,6 @@ use crate::classifier::{Classifier, Wanted};
 use crate::look_up::find;
 use mof_metamodel::{EnumId, MetaModel, Text};
 use qv_syntax::Name;
-
-/// Whether two names have the same characters.
-pub(crate) fn is_named(a: &Text, b: &Text) -> bool
-    ensures { result ≡ same_name a.now b.now }
-{
-    *a == *b
-}
-
-/// The place of a name.
-fn place_of(names: &[Text], name: &Text) -> Option<usize>
-    ensures place { result ≡ position (same_name name.now) names.now }
-    ensures within { IfSome result (λ i. i < length names.now) }
-{
-    names.iter().position(|n| is_named(name, n))
-}
-
-/// The place of a literal among those of an enumeration.
-#[tactic(auto, using(crate::proofs::LiteralLaws::literals_few))]
-fn literal_place(meta: &MetaModel, e: EnumId, literal: &Text) -> Option<u32>
-    requires { e.0 < enum_count meta.now }
-    ensures { result ≡ position (same_name literal.now) (enum_at meta.now e.0).literals }
-{
-    // No fault stands in a metamodel, so its literals are few.
-    let _classes = meta.class_count();
-    match place_of(meta.literals(e), literal) {
-        Some(place) => Some(place as u32),
-        None => None,
-    }
-}
 
 /// The literal of this name, if this is an enumeration that has it.
 fn literal_in(
@@ -53,8 +23,8 @@ fn literal_in(
             if i >= metas.len() || e.0 >= metas[i].enum_count() {
                 return None;
             }
-            match literal_place(&metas[i], e, literal) {
-                Some(place) => Some((m, e, place)),
+            match metas[i].literal_named(e, literal.as_str()) {
+                Some(number) => Some((m, e, number)),
                 None => None,
             }
         }

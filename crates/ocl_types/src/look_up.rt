@@ -93,19 +93,19 @@ fn wanted_enum(wanted: Wanted, m: u32, meta: &MetaModel, name: &str) -> Option<C
     }
 }
 
-/// What is found with those of a name in a metamodel, if that is meant.
+/// What is found with those of a name in a metamodel, given with its number, if that is meant.
 fn find_in(
     found: Found,
     wanted: Wanted,
     names: &[Text],
     qualifier: Option<&Text>,
     name: &str,
-    m: u32,
-    meta: &MetaModel,
+    numbered: (u32, &MetaModel),
 ) -> Found
-    requires { m < length names.now }
-    ensures { result ≡ with_found found (classifiers_in wanted names.now (option_copied qualifier.entry) (chars name.now) m meta.now) }
+    requires { numbered.0 < length names.now }
+    ensures { result ≡ with_found found (classifiers_in wanted names.now (option_copied qualifier.entry) (chars name.now) numbered.entry.0 numbered.entry.1.now) }
 {
+    let (m, meta) = numbered;
     if !is_meant(names, qualifier, m as usize) {
         return found;
     }
@@ -127,7 +127,7 @@ pub(crate) fn find(
 {
     let mut found = Found::Nothing;
     for (m, meta) in metas.iter().enumerate() {
-        found = find_in(found, wanted, names, qualifier, name, m as u32, meta);
+        found = find_in(found, wanted, names, qualifier, name, (m as u32, meta));
     }
     found
 }

@@ -1,40 +1,37 @@
-ghost use Rattle.std.specs.Prelude.{◌≡◌, ◌<◌, ◌≤◌, ◌↔◌, [], ◌∷◌, ◌++◌, length, Some, IsTrue, IfOk, MatchOption, OnOk, OnErr};
-ghost use Rattle.std.specs.Option.{option_map};
-ghost use Rattle.mof_metamodel.specs.Metamodels.{prop_count, prop_at, type_of};
+ghost use Rattle.std.specs.Prelude.{◌≡◌, ◌<◌, ◌≤◌, ◌↔◌, [], ◌∷◌, ◌++◌, length, IsTrue, IfOk, MatchOption, OnOk, OnErr};
+ghost use Rattle.mof_metamodel.specs.Metamodels.{prop_count, prop_at};
 ghost use Rattle.ocl_types.specs.Conformance.{TypeConforms, IsUpper, AreUnrelated};
-ghost use Rattle.ocl_types.specs.Navigation.{value_type as type_of_value, values_of};
+ghost use Rattle.ocl_types.specs.Navigation.{values_of};
 
 use crate::agreement::fits;
 use crate::conformance::upper_type;
-use crate::navigation::{prop_type, values};
-use crate::of_types::is_over;
+use crate::limits::MAX_NUMBERED;
+use crate::navigation::values;
 use mof_metamodel::{MetaModel, NoMemory, PropId, Seq};
 use qv_syntax::{Ty, Values};
 use std::alloc::Global;
 use std::marker::Model;
 
-/// How many metamodels there may be.
-const MOST: usize = 4294967295;
-
 /// The metamodels of a script by their numbers, from 0. Contracts see them as the list of their descriptions.
-#[derive(Debug, Drop)]
+#[derive(Drop)]
 pub struct Metas {
     metas: Seq<MetaModel>,
 }
 
 impl Model for Metas {
-    ghost use Rattle.std.specs.Prelude.{List, length, ◌≤◌};
+    ghost use Rattle.std.specs.Prelude.{List};
     ghost use Rattle.mof_metamodel.specs.declared.desc.MetaDesc.{MetaDesc};
+    ghost use Rattle.ocl_types.specs.Environments.{AreInOrder};
 
     ghost Value = { List MetaDesc };
 
     ghost view = { λ m. m.metas };
 
-    ghost invariant = { λ m. length m.metas ≤ 4294967295 };
+    ghost invariant = { λ m. AreInOrder m.metas };
 }
 
 impl Metas {
-    ghost use Rattle.ocl_types.specs.Environments.{meta_at, most, is_over as over};
+    ghost use Rattle.ocl_types.specs.Environments.{meta_at, most, AreWell};
 
     /// No metamodels.
     pub fn new(alloc: Global) -> Metas
@@ -45,9 +42,10 @@ impl Metas {
         }
     }
 
-    /// How many metamodels there are.
+    /// How many metamodels there are. No fault stands in any.
     pub fn len(&self) -> u32
-        ensures { result ≡ length self.now }
+        ensures count { result ≡ length self.now }
+        ensures well { AreWell self.now }
     {
         self.metas.len() as u32
     }
@@ -56,14 +54,16 @@ impl Metas {
     ///
     /// # Errors
     ///
-    /// `NoMemory` where memory runs out, or where there are 4,294,967,295 already. The metamodels are then as they were.
+    /// `NoMemory` where memory runs out, or where there are `MAX_NUMBERED` already. The metamodels are then as they were.
     pub fn push(&mut self, meta: MetaModel) -> Result<(), NoMemory>
         ensures ok { OnOk result (self.new ≡ self.old ++ meta ∷ []) }
         ensures err { OnErr result (self.new ≡ self.old) }
     {
-        if self.metas.len() >= MOST {
+        if self.metas.len() >= MAX_NUMBERED {
             return Err(NoMemory);
         }
+        // No fault stands in the new one.
+        let _classes = meta.class_count();
         self.metas.push(meta)
     }
 
@@ -73,13 +73,6 @@ impl Metas {
         ensures { result.now ≡ meta_at self.now i }
     {
         &self.metas.as_slice()[i as usize]
-    }
-
-    /// Whether each class and each enumeration of the type is one of these metamodels.
-    pub fn holds(&self, ty: &Ty) -> bool
-        ensures { result ≡ over self.now ty.now }
-    {
-        is_over(self.metas.as_slice(), ty)
     }
 
     /// Whether a type conforms to another: they are one, or classes of one metamodel of which the first conforms to the second.
@@ -105,19 +98,11 @@ impl Metas {
         values(self.get(m), p)
     }
 
-    /// The type of one value of a property of a metamodel.
-    pub fn value_type(&self, m: u32, p: PropId) -> Ty
-        requires within { m < length self.now }
-        requires prop { p.0 < prop_count (meta_at self.now m) }
-        ensures { option_map (type_of_value m) (type_of (meta_at self.now m) p.0) ≡ Some result }
-    {
-        prop_type(m, self.get(m), p)
-    }
-
     /// The metamodels in their order.
     pub(crate) fn as_slice(&self) -> &[MetaModel]
         ensures value { result.now ≡ self.now }
         ensures few { length self.now ≤ most }
+        ensures well { AreWell self.now }
     {
         self.metas.as_slice()
     }

@@ -46,7 +46,7 @@ pub(crate) fn values(meta: &MetaModel, p: PropId) -> Values
 }
 
 /// The type of what navigation gives, of the type of one value.
-pub fn navigated(alloc: Global, values: Values, ty: Ty) -> Result<Ty, NoMemory>
+pub(crate) fn navigated(alloc: Global, values: Values, ty: Ty) -> Result<Ty, NoMemory>
     ensures { IfOk result (λ t. t ≡ navigated_type values ty) }
 {
     match values {

@@ -5,12 +5,12 @@ ghost use Rattle.ocl_types.specs.Parts.{tree_of, trees_of as all_trees, with_mod
 use crate::agreement::joined_models;
 use crate::fault::TypeError;
 use crate::outcomes::model_mix;
-use crate::part::{Called, Part};
+use crate::part::{CallsSoFar, TypedPart};
 use mof_metamodel::{NoMemory, Seq};
-use qv_syntax::{StepCall, Ty, Typed, TypedStep};
+use qv_syntax::{Call, Ty, Typed, TypedPostfix};
 use std::alloc::Global;
 
-impl Part {
+impl TypedPart {
     /// The tree.
     pub(crate) fn into_tree(self) -> Typed
         ensures { result ≡ tree_of self }
@@ -23,7 +23,7 @@ impl Part {
 }
 
 /// The trees of parts.
-pub(crate) fn trees_of(alloc: Global, parts: Seq<Part>) -> Result<Seq<Typed>, NoMemory>
+pub(crate) fn trees_of(alloc: Global, parts: Seq<TypedPart>) -> Result<Seq<Typed>, NoMemory>
     ensures { IfOk result (λ trees. trees ≡ all_trees parts) }
 {
     let mut trees = Seq::new(alloc);
@@ -34,7 +34,7 @@ pub(crate) fn trees_of(alloc: Global, parts: Seq<Part>) -> Result<Seq<Typed>, No
 }
 
 /// The model of objects from these places as well, if there are not two.
-pub(crate) fn with_models(model: Option<u32>, parts: &[Part]) -> Option<Option<u32>>
+pub(crate) fn with_models(model: Option<u32>, parts: &[TypedPart]) -> Option<Option<u32>>
     ensures { result ≡ joined_with model parts.now }
 {
     let mut joined = model;
@@ -58,22 +58,22 @@ pub(crate) fn one_model(
     }
 }
 
-impl Called {
-    /// What was called on a part, with one more step.
+impl CallsSoFar {
+    /// What was called on a part, with one more call.
     pub(crate) fn and_called(
         self,
         alloc: Global,
-        call: StepCall,
+        call: Call,
         ty: Ty,
         model: Option<u32>,
-    ) -> Result<Called, NoMemory>
+    ) -> Result<CallsSoFar, NoMemory>
         ensures { IfOk result (λ c. c ≡ stepped self call ty model) }
     {
-        let mut steps = self.steps;
+        let mut calls = self.calls;
         let reached = ty.duplicate(alloc)?;
-        steps.push(TypedStep { call, ty })?;
-        Ok(Called {
-            steps,
+        calls.push(TypedPostfix { call, ty })?;
+        Ok(CallsSoFar {
+            calls,
             ty: reached,
             model,
         })

@@ -5,14 +5,11 @@ ghost use Rattle.ocl_types.specs.Environments.{number_of, value_of, is_bound as 
 ghost use Rattle.ocl_types.specs.Scopes.{in_reach, entered, left};
 
 use crate::env::Env;
-use crate::literals::is_named;
+use crate::limits::MAX_NUMBERED;
 use crate::variable::Variable;
 use mof_metamodel::{NoMemory, Seq, Text};
 use std::alloc::Global;
 use std::marker::Model;
-
-/// How many variables there may be in reach.
-const MOST: usize = 4294967295;
 
 /// The names in reach while an expression is typed: those of an environment, and the lets and iterator variables in
 /// force. Contracts see both.
@@ -38,9 +35,16 @@ impl<'e> Model for Scope<'e> {
     ghost invariant = { λ s. length s.env.now.variables + length s.locals ≤ most };
 }
 
-/// The place of a name.
-fn place_of(locals: &[(Text, Variable)], name: &Text) -> Option<usize>
-    ensures place { result ≡ position (λ local. same_name name.now local.0) locals.now }
+/// Whether two names have the same characters.
+fn is_named(a: &Text, b: &Text) -> bool
+    ensures { result ≡ same_name a.now b.now }
+{
+    *a == *b
+}
+
+/// Where a name stands among the variables, from 0.
+fn index_of(locals: &[(Text, Variable)], name: &Text) -> Option<usize>
+    ensures index { result ≡ position (λ local. same_name name.now local.0) locals.now }
     ensures within { IfSome result (λ i. i < length locals.now) }
 {
     locals.iter().position(|local| is_named(name, &local.0))
@@ -96,7 +100,7 @@ impl<'e> Scope<'e> {
         ensures value { option_map (λ v. v.1.now) result ≡ value_of self.now.locals name.now }
     {
         let locals = self.locals.as_slice();
-        match place_of(locals, name) {
+        match index_of(locals, name) {
             Some(i) => {
                 let number = self.env.variable_count() as usize + i;
                 Some((number as u32, &locals[i].1))
@@ -109,13 +113,13 @@ impl<'e> Scope<'e> {
     ///
     /// # Errors
     ///
-    /// `NoMemory` where memory runs out, or where 4,294,967,295 variables are in reach. The scope is then as it was.
+    /// `NoMemory` where memory runs out, or where `MAX_NUMBERED` variables are in reach. The scope is then as it was.
     pub(crate) fn enter(&mut self, name: Text, variable: Variable) -> Result<(), NoMemory>
         requires { bound (in_reach self.old) name ≡ false }
         ensures ok { OnOk result (self.new ≡ entered self.old name variable) }
         ensures err { OnErr result (self.new ≡ self.old) }
     {
-        if self.env.variable_count() as usize + self.locals.len() >= MOST {
+        if self.env.variable_count() as usize + self.locals.len() >= MAX_NUMBERED {
             return Err(NoMemory);
         }
         self.locals.push((name, variable))

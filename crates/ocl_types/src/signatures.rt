@@ -1,118 +1,73 @@
-ghost use Rattle.std.specs.Prelude.{◌≡◌, ◌↔◌, IsTrue, IfOk};
-ghost use Rattle.ocl_types.specs.Signatures.{parameter_count as counted, Receives, parameter_type as parameter, result_type as gives, argument_of as argument, is_ordered as ordered, is_of_kind as of_kind, collection_result as collection_gives, has_condition as conditional, collected_kind as collected};
+ghost use Rattle.std.specs.Prelude.{◌≡◌, IfOk};
+ghost use Rattle.ocl_types.specs.Signatures.{is_receiver as receives, parameter_count as counted, parameter_type as parameter, result_type as type_given, argument_count as arguments_of, is_ordered as ordered, is_of_kind as of_kind, collection_result as collection_gives, collected_kind as collected};
 
+use crate::agreement::same_type;
+use crate::collection_operations::{Argument, CollectionResult, Kinds};
+use crate::operations::{OperationResult, Parameters, Receivers};
 use mof_metamodel::{Boxed, NoMemory};
-use qv_syntax::{CollectionOperation, IteratorKind, Kind, Operation, Ty};
+use qv_syntax::{Kind, Ty};
 use std::alloc::Global;
 
-/// What an operation on a collection is given.
-#[derive(Clone, Copy, Debug, PartialEq, Eq)]
-pub enum Argument {
-    Nothing,
-    /// What may stand among the elements.
-    Element,
-    /// A collection of any kind.
-    Collection,
-    /// A collection of the same kind.
-    SameKind,
-    /// An Integer.
-    Index,
+/// Whether values of this type are among the receivers of an operation.
+pub(crate) fn is_receiver(receivers: Receivers, ty: &Ty) -> bool
+    ensures { result ≡ receives receivers ty.now }
+{
+    match receivers {
+        Receivers::Int => same_type(ty, &Ty::Int),
+        Receivers::IntOrBool => same_type(ty, &Ty::Int) || same_type(ty, &Ty::Bool),
+        Receivers::Str => same_type(ty, &Ty::Str),
+        Receivers::Any => true,
+    }
 }
 
 /// How many arguments an operation on single values has.
-pub fn parameter_count(operation: Operation) -> usize
-    ensures { result ≡ counted operation }
+pub(crate) fn parameter_count(parameters: Parameters) -> usize
+    ensures { result ≡ counted parameters }
 {
-    match operation {
-        Operation::Absolute
-        | Operation::ToString
-        | Operation::Length
-        | Operation::ToInteger
-        | Operation::IsUndefined
-        | Operation::IsInvalid
-        | Operation::AsSingletonSet => 0,
-        Operation::Divide
-        | Operation::Modulo
-        | Operation::Maximum
-        | Operation::Minimum
-        | Operation::Concatenate => 1,
-        Operation::Substring => 2,
+    match parameters {
+        Parameters::Nothing => 0,
+        Parameters::Int | Parameters::Str => 1,
+        Parameters::TwoInts => 2,
     }
 }
 
-/// Whether an operation is one on values of this type.
-pub fn receives(operation: Operation, ty: &Ty) -> bool
-    ensures { IsTrue result ↔ Receives operation ty.now }
+/// The type of each of its arguments, where there is one.
+pub(crate) fn parameter_type(parameters: Parameters) -> Ty
+    ensures { result ≡ parameter parameters }
 {
-    match operation {
-        Operation::Absolute
-        | Operation::Divide
-        | Operation::Modulo
-        | Operation::Maximum
-        | Operation::Minimum => ty.same(&Ty::Int),
-        Operation::ToString => ty.same(&Ty::Int) || ty.same(&Ty::Bool),
-        Operation::Length | Operation::Concatenate | Operation::ToInteger | Operation::Substring =>
-            ty.same(&Ty::Str),
-        Operation::IsUndefined | Operation::IsInvalid | Operation::AsSingletonSet => true,
+    match parameters {
+        Parameters::Nothing | Parameters::Int | Parameters::TwoInts => Ty::Int,
+        Parameters::Str => Ty::Str,
     }
 }
 
-/// The type of each argument of an operation on single values.
-pub fn parameter_type(operation: Operation) -> Ty
-    ensures { result ≡ parameter operation }
+/// A collection type.
+pub(crate) fn collection(alloc: Global, kind: Kind, of: &Ty) -> Result<Ty, NoMemory>
+    ensures { IfOk result (λ t. t ≡ Ty.Coll kind of.now) }
 {
-    match operation {
-        Operation::Concatenate => Ty::Str,
-        _ => Ty::Int,
+    let of = of.duplicate(alloc)?;
+    Ok(Ty::Coll(kind, Boxed::new(alloc, of)?))
+}
+
+/// The type of its result, of that of the value.
+pub(crate) fn result_type(alloc: Global, gives: OperationResult, ty: &Ty) -> Result<Ty, NoMemory>
+    ensures { IfOk result (λ t. t ≡ type_given gives ty.now) }
+{
+    match gives {
+        OperationResult::Int => Ok(Ty::Int),
+        OperationResult::Str => Ok(Ty::Str),
+        OperationResult::Bool => Ok(Ty::Bool),
+        OperationResult::SetOfIt => collection(alloc, Kind::Set, ty),
     }
 }
 
-/// The type of the result of an operation on single values.
-pub fn result_type(alloc: Global, operation: Operation, ty: &Ty) -> Result<Ty, NoMemory>
-    ensures { IfOk result (λ t. t ≡ gives operation ty.now) }
+/// How many arguments an operation on a collection has.
+pub(crate) fn argument_count(argument: Argument) -> usize
+    ensures { result ≡ arguments_of argument }
 {
-    match operation {
-        Operation::Absolute
-        | Operation::Divide
-        | Operation::Modulo
-        | Operation::Maximum
-        | Operation::Minimum
-        | Operation::Length
-        | Operation::ToInteger => Ok(Ty::Int),
-        Operation::ToString | Operation::Concatenate | Operation::Substring => Ok(Ty::Str),
-        Operation::IsUndefined | Operation::IsInvalid => Ok(Ty::Bool),
-        Operation::AsSingletonSet => {
-            let of = ty.duplicate(alloc)?;
-            Ok(Ty::Coll(Kind::Set, Boxed::new(alloc, of)?))
-        }
-    }
-}
-
-/// What an operation on a collection is given.
-pub fn argument_of(operation: CollectionOperation) -> Argument
-    ensures { result ≡ argument operation }
-{
-    match operation {
-        CollectionOperation::Includes
-        | CollectionOperation::Excludes
-        | CollectionOperation::Count
-        | CollectionOperation::Including
-        | CollectionOperation::Excluding
-        | CollectionOperation::Append
-        | CollectionOperation::Prepend => Argument::Element,
-        CollectionOperation::IncludesAll | CollectionOperation::ExcludesAll => Argument::Collection,
-        CollectionOperation::Union | CollectionOperation::Intersection => Argument::SameKind,
-        CollectionOperation::At => Argument::Index,
-        CollectionOperation::Size
-        | CollectionOperation::IsEmpty
-        | CollectionOperation::NotEmpty
-        | CollectionOperation::Sum
-        | CollectionOperation::AsSet
-        | CollectionOperation::AsBag
-        | CollectionOperation::AsSequence
-        | CollectionOperation::AsOrderedSet
-        | CollectionOperation::First
-        | CollectionOperation::Last => Argument::Nothing,
+    match argument {
+        Argument::Nothing => 0,
+        Argument::Element | Argument::Collection | Argument::SameKind | Argument::Index => 1,
     }
 }
 
@@ -126,80 +81,46 @@ fn is_ordered(kind: Kind) -> bool
     }
 }
 
-/// Whether an operation is one on collections of this kind.
-pub fn is_of_kind(operation: CollectionOperation, kind: Kind) -> bool
-    ensures { result ≡ of_kind operation kind }
+/// Whether collections of this kind are among the receivers of an operation.
+pub(crate) fn is_of_kind(kinds: Kinds, kind: Kind) -> bool
+    ensures { result ≡ of_kind kinds kind }
 {
-    match operation {
-        CollectionOperation::Intersection => match kind {
+    match kinds {
+        Kinds::Any => true,
+        Kinds::Set => match kind {
             Kind::Set => true,
             Kind::Bag | Kind::Sequence | Kind::OrderedSet => false,
         },
-        CollectionOperation::First
-        | CollectionOperation::Last
-        | CollectionOperation::At
-        | CollectionOperation::Append
-        | CollectionOperation::Prepend => is_ordered(kind),
-        _ => true,
+        Kinds::Ordered => is_ordered(kind),
     }
-}
-
-/// A collection type.
-fn collection(alloc: Global, kind: Kind, of: &Ty) -> Result<Ty, NoMemory>
-    ensures { IfOk result (λ t. t ≡ Ty.Coll kind of.now) }
-{
-    let of = of.duplicate(alloc)?;
-    Ok(Ty::Coll(kind, Boxed::new(alloc, of)?))
 }
 
 /// The type of the result of an operation on a collection, of the type of its elements, and of that to which these and
 /// what is given conform.
-pub fn collection_result(
+pub(crate) fn collection_result(
     alloc: Global,
-    operation: CollectionOperation,
+    gives: CollectionResult,
     kind: Kind,
     of: &Ty,
     upper: &Ty,
 ) -> Result<Ty, NoMemory>
-    ensures { IfOk result (λ t. t ≡ collection_gives operation kind of.now upper.now) }
+    ensures { IfOk result (λ t. t ≡ collection_gives gives kind of.now upper.now) }
 {
-    match operation {
-        CollectionOperation::Size | CollectionOperation::Count | CollectionOperation::Sum => Ok(
-            Ty::Int,
-        ),
-        CollectionOperation::IsEmpty
-        | CollectionOperation::NotEmpty
-        | CollectionOperation::Includes
-        | CollectionOperation::Excludes
-        | CollectionOperation::IncludesAll
-        | CollectionOperation::ExcludesAll => Ok(Ty::Bool),
-        CollectionOperation::Including
-        | CollectionOperation::Union
-        | CollectionOperation::Intersection
-        | CollectionOperation::Append
-        | CollectionOperation::Prepend => collection(alloc, kind, upper),
-        CollectionOperation::Excluding => collection(alloc, kind, of),
-        CollectionOperation::AsSet => collection(alloc, Kind::Set, of),
-        CollectionOperation::AsBag => collection(alloc, Kind::Bag, of),
-        CollectionOperation::AsSequence => collection(alloc, Kind::Sequence, of),
-        CollectionOperation::AsOrderedSet => collection(alloc, Kind::OrderedSet, of),
-        CollectionOperation::First | CollectionOperation::Last | CollectionOperation::At =>
-            of.duplicate(alloc),
-    }
-}
-
-/// Whether the body of an iterator is a condition.
-pub fn has_condition(iterator: IteratorKind) -> bool
-    ensures { result ≡ conditional iterator }
-{
-    match iterator {
-        IteratorKind::Collect | IteratorKind::IsUnique => false,
-        _ => true,
+    match gives {
+        CollectionResult::Int => Ok(Ty::Int),
+        CollectionResult::Bool => Ok(Ty::Bool),
+        CollectionResult::Element => of.duplicate(alloc),
+        CollectionResult::Same => collection(alloc, kind, of),
+        CollectionResult::Wider => collection(alloc, kind, upper),
+        CollectionResult::Set => collection(alloc, Kind::Set, of),
+        CollectionResult::Bag => collection(alloc, Kind::Bag, of),
+        CollectionResult::Sequence => collection(alloc, Kind::Sequence, of),
+        CollectionResult::OrderedSet => collection(alloc, Kind::OrderedSet, of),
     }
 }
 
 /// The kind of collection that `collect` gives.
-pub fn collected_kind(kind: Kind) -> Kind
+pub(crate) fn collected_kind(kind: Kind) -> Kind
     ensures { result ≡ collected kind }
 {
     match kind {

@@ -1,15 +1,15 @@
 ghost use Rattle.std.specs.Prelude.{◌≡◌, IfOk};
 ghost use Rattle.ocl_types.specs.Parts.{tree_of};
 
-use crate::part::Part;
+use crate::part::TypedPart;
 use mof_metamodel::{Boxed, NoMemory};
 use qv_syntax::Typed;
 use std::alloc::Global;
 
 /// The tree of a part, as a part of another.
-pub(crate) fn boxed_tree(alloc: Global, part: Part) -> Result<Boxed<Typed>, NoMemory>
+pub(crate) fn boxed_tree(alloc: Global, part: TypedPart) -> Result<Boxed<Typed>, NoMemory>
     ensures { IfOk result (λ tree. tree ≡ tree_of part) }
 {
-    let Part { ty, node, .. } = part;
+    let TypedPart { ty, node, .. } = part;
     Boxed::new(alloc, Typed { ty, node })
 }

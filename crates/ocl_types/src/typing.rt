@@ -1,13 +1,14 @@
-ghost use Rattle.std.specs.Prelude.{◌≡◌, [], map, IfOk, OnOk, option_copied};
+ghost use Rattle.std.specs.Prelude.{◌≡◌, [], map, IfOk, IsTrue, OnOk, option_copied};
 ghost use Rattle.ocl_types.specs.Written.{Gives};
 ghost use Rattle.ocl_types.specs.Scopes.{in_reach};
 ghost use Rattle.ocl_types.specs.Parts.{plain_part, uncalled as started};
-ghost use Rattle.ocl_types.specs.Typing.{meaning, operated_by, calling, given, parts_from, chained_from, called_from, query_typing, linked_part as part_linked, called_part as part_called, called_whole, has_no_values, is_all_instances as names_extent, path_of_extent, dot_typing, arrow_typing, iterator_typing, typed};
+ghost use Rattle.ocl_types.specs.Forms.{is_let, is_if, is_calls, is_iterator};
+ghost use Rattle.ocl_types.specs.Typing.{meaning, operated_by, calling, given, parts_from, chained_from, called_from, query_typing, linked_part as part_linked, called_part as part_called, called_whole, has_no_values, is_all_instances as names_extent, path_of_extent, dot_typing, arrow_typing, typed};
 
 use crate::env::Env;
 use crate::fault::TypeError;
 use crate::outcomes::unknown_name;
-use crate::part::{Called, Chained, Part};
+use crate::part::{CallsSoFar, Chained, TypedPart};
 use crate::scope::Scope;
 use crate::typing_collections::{collection_operation_rule, iterator_rule, iterator_variable};
 use crate::typing_literals::literal_rule;
@@ -17,14 +18,14 @@ use crate::typing_steps::{
     class_operation_rule, extent_rule, operation_rule, property_rule, query_rule,
 };
 use mof_metamodel::{Boxed, NoMemory, Seq, Text};
-use qv_syntax::{Args, Expr, Link, Name, Node, Path, Step, Ty, TypeTree, Typed};
+use qv_syntax::{Args, Expr, Infix, Name, Node, Path, Postfix, Ty, Typed};
 use std::alloc::Global;
 
 /// A part that is no object.
-fn plain(ty: Ty, node: Node) -> Part
+fn plain(ty: Ty, node: Node) -> TypedPart
     ensures { result ≡ plain_part ty node }
 {
-    Part {
+    TypedPart {
         ty,
         model: None,
         node,
@@ -34,7 +35,8 @@ fn plain(ty: Ty, node: Node) -> Part
 /// `let name : type = value in body`
 #[cycle(typing)]
 #[tactic(auto, using(crate::proofs::TypingLaws::let_done, crate::proofs::TypingLaws::let_failed))]
-fn type_let(alloc: Global, scope: &mut Scope<'_>, expr: &Expr) -> Result<Part, TypeError>
+fn type_let(alloc: Global, scope: &mut Scope<'_>, expr: &Expr) -> Result<TypedPart, TypeError>
+    requires { IsTrue (is_let expr.now) }
     ensures value { Gives result ((meaning expr.now).typing (in_reach scope.old)) }
     ensures scope { OnOk result (scope.new ≡ scope.old) }
 {
@@ -56,18 +58,19 @@ fn type_let(alloc: Global, scope: &mut Scope<'_>, expr: &Expr) -> Result<Part, T
             scope.leave();
             Ok(let_part(alloc, number, value, body)?)
         }
-        _ => Err(TypeError::NoMemory),
+        _ => unreachable!(),
     }
 }
 
 /// A part and what is called on it. One or two names with `.allInstances()` behind them are an extent.
 #[cycle(typing)]
-fn type_calls(alloc: Global, scope: &mut Scope<'_>, expr: &Expr) -> Result<Part, TypeError>
+fn type_calls(alloc: Global, scope: &mut Scope<'_>, expr: &Expr) -> Result<TypedPart, TypeError>
+    requires { IsTrue (is_calls expr.now) }
     ensures value { Gives result ((meaning expr.now).typing (in_reach scope.old)) }
     ensures scope { OnOk result (scope.new ≡ scope.old) }
 {
     match expr {
-        Expr::Calls { of, steps, .. } => match steps.as_slice() {
+        Expr::Calls { of, calls, .. } => match calls.as_slice() {
             [] => type_part(alloc, scope, of.get()),
             [first, rest @ ..] => match extent_path(of.get(), first) {
                 Some(path) => {
@@ -76,18 +79,19 @@ fn type_calls(alloc: Global, scope: &mut Scope<'_>, expr: &Expr) -> Result<Part,
                 }
                 None => {
                     let part = type_part(alloc, scope, of.get())?;
-                    type_called(alloc, scope, part, steps.as_slice())
+                    type_called(alloc, scope, part, calls.as_slice())
                 }
             },
         }
-        _ => Err(TypeError::NoMemory),
+        _ => unreachable!(),
     }
 }
 
 /// `if condition then one else other endif`
 #[cycle(typing)]
 #[tactic(auto, using(crate::proofs::TypingLaws::if_given))]
-fn type_if(alloc: Global, scope: &mut Scope<'_>, expr: &Expr) -> Result<Part, TypeError>
+fn type_if(alloc: Global, scope: &mut Scope<'_>, expr: &Expr) -> Result<TypedPart, TypeError>
+    requires { IsTrue (is_if expr.now) }
     ensures value { Gives result ((meaning expr.now).typing (in_reach scope.old)) }
     ensures scope { OnOk result (scope.new ≡ scope.old) }
 {
@@ -103,14 +107,14 @@ fn type_if(alloc: Global, scope: &mut Scope<'_>, expr: &Expr) -> Result<Part, Ty
             let other = type_part(alloc, scope, other.get())?;
             if_rule(alloc, scope.env().metas(), condition, one, other)
         }
-        _ => Err(TypeError::NoMemory),
+        _ => unreachable!(),
     }
 }
 
 /// The part that an expression is, with these names in reach.
 #[cycle(typing)]
 #[tactic(auto, using(crate::proofs::TypingLaws::not_given, crate::proofs::TypingLaws::negated_given))]
-fn type_part(alloc: Global, scope: &mut Scope<'_>, expr: &Expr) -> Result<Part, TypeError>
+fn type_part(alloc: Global, scope: &mut Scope<'_>, expr: &Expr) -> Result<TypedPart, TypeError>
     ensures value { Gives result ((meaning expr.now).typing (in_reach scope.old)) }
     ensures scope { OnOk result (scope.new ≡ scope.old) }
 {
@@ -151,7 +155,11 @@ fn type_part(alloc: Global, scope: &mut Scope<'_>, expr: &Expr) -> Result<Part, 
 /// The parts of a list of expressions.
 #[cycle(typing)]
 #[tactic(auto, unfolding(crate::specs::Typing::parts_from))]
-fn type_parts(alloc: Global, scope: &mut Scope<'_>, exprs: &[Expr]) -> Result<Seq<Part>, TypeError>
+fn type_parts(
+    alloc: Global,
+    scope: &mut Scope<'_>,
+    exprs: &[Expr],
+) -> Result<Seq<TypedPart>, TypeError>
     ensures value { Gives result (parts_from (in_reach scope.old) [] (map (λ e. e.typing) (map meaning exprs.now))) }
     ensures scope { OnOk result (scope.new ≡ scope.old) }
 {
@@ -170,7 +178,7 @@ fn type_links(
     alloc: Global,
     scope: &mut Scope<'_>,
     chain: Chained,
-    links: &[Link],
+    links: &[Infix],
 ) -> Result<Chained, TypeError>
     ensures value { Gives result (chained_from (in_reach scope.old) chain (map operated_by links.now)) }
     ensures scope { OnOk result (scope.new ≡ scope.old) }
@@ -189,9 +197,9 @@ fn type_links(
 fn type_linked(
     alloc: Global,
     scope: &mut Scope<'_>,
-    part: Part,
-    links: &[Link],
-) -> Result<Part, TypeError>
+    part: TypedPart,
+    links: &[Infix],
+) -> Result<TypedPart, TypeError>
     ensures value { Gives result (part_linked (in_reach scope.old) part (map operated_by links.now)) }
     ensures scope { OnOk result (scope.new ≡ scope.old) }
 {
@@ -207,7 +215,7 @@ fn type_query(
     scope: &mut Scope<'_>,
     name: &Name,
     args: &Args,
-) -> Result<Part, TypeError>
+) -> Result<TypedPart, TypeError>
     ensures value { Gives result (query_typing (in_reach scope.old) name.now.text (given args.now)) }
     ensures scope { OnOk result (scope.new ≡ scope.old) }
 {
@@ -227,8 +235,8 @@ fn type_dot(
     scope: &mut Scope<'_>,
     name: &Name,
     args: &Args,
-    called: Called,
-) -> Result<Called, TypeError>
+    called: CallsSoFar,
+) -> Result<CallsSoFar, TypeError>
     ensures value { Gives result (dot_typing name.now.text (given args.now) (in_reach scope.old) called) }
     ensures scope { OnOk result (scope.new ≡ scope.old) }
 {
@@ -248,8 +256,8 @@ fn type_arrow(
     scope: &mut Scope<'_>,
     name: &Name,
     args: &Args,
-    called: Called,
-) -> Result<Called, TypeError>
+    called: CallsSoFar,
+) -> Result<CallsSoFar, TypeError>
     ensures value { Gives result (arrow_typing name.now.text (given args.now) (in_reach scope.old) called) }
     ensures scope { OnOk result (scope.new ≡ scope.old) }
 {
@@ -267,91 +275,94 @@ fn type_arrow(
 fn type_iterator(
     alloc: Global,
     scope: &mut Scope<'_>,
-    name: &Name,
-    variable: &Name,
-    ty: &Option<TypeTree>,
-    body: &Expr,
-    called: Called,
-) -> Result<Called, TypeError>
-    ensures value { Gives result (iterator_typing name.now.text variable.now.text ty.now (meaning body.now).typing (in_reach scope.old) called) }
+    called: CallsSoFar,
+    call: &Postfix,
+) -> Result<CallsSoFar, TypeError>
+    requires { IsTrue (is_iterator call.now) }
+    ensures value { Gives result ((calling call.now).after (in_reach scope.old) called) }
     ensures scope { OnOk result (scope.new ≡ scope.old) }
 {
-    let number = scope.size();
-    let element = iterator_variable(alloc, scope, &variable.text, ty, &called)?;
-    let text = variable.text.duplicate(alloc)?;
-    scope.enter(text, element)?;
-    let body = type_part(alloc, scope, body)?;
-    scope.leave();
-    iterator_rule(alloc, scope.env().metas(), &name.text, number, called, body)
-}
-
-/// What is called on a part, on what was called before.
-#[cycle(typing)]
-fn type_step(
-    alloc: Global,
-    scope: &mut Scope<'_>,
-    called: Called,
-    step: &Step,
-) -> Result<Called, TypeError>
-    ensures value { Gives result ((calling step.now).after (in_reach scope.old) called) }
-    ensures scope { OnOk result (scope.new ≡ scope.old) }
-{
-    match step {
-        Step::Property { name } => property_rule(alloc, scope.env().metas(), &name.text, called),
-        Step::Dot { name, args, .. } => type_dot(alloc, scope, name, args, called),
-        Step::Arrow { name, args, .. } => type_arrow(alloc, scope, name, args, called),
-        Step::Iterator {
+    match call {
+        Postfix::Iterator {
             name,
             variable,
             ty,
             body,
             ..
-        } => type_iterator(alloc, scope, name, variable, ty, body.get(), called),
+        } => {
+            let number = scope.size();
+            let element = iterator_variable(alloc, scope, &variable.text, ty, &called)?;
+            let text = variable.text.duplicate(alloc)?;
+            scope.enter(text, element)?;
+            let body = type_part(alloc, scope, body.get())?;
+            scope.leave();
+            iterator_rule(alloc, scope.env().metas(), &name.text, number, called, body)
+        }
+        _ => unreachable!(),
+    }
+}
+
+/// What is called on a part, on what was called before.
+#[cycle(typing)]
+fn type_postfix(
+    alloc: Global,
+    scope: &mut Scope<'_>,
+    called: CallsSoFar,
+    call: &Postfix,
+) -> Result<CallsSoFar, TypeError>
+    ensures value { Gives result ((calling call.now).after (in_reach scope.old) called) }
+    ensures scope { OnOk result (scope.new ≡ scope.old) }
+{
+    match call {
+        Postfix::Property { name } => property_rule(alloc, scope.env().metas(), &name.text, called),
+        Postfix::Dot { name, args, .. } => type_dot(alloc, scope, name, args, called),
+        Postfix::Arrow { name, args, .. } => type_arrow(alloc, scope, name, args, called),
+        Postfix::Iterator { .. } => type_iterator(alloc, scope, called, call),
     }
 }
 
 /// The same of several.
 #[cycle(typing)]
 #[tactic(auto, unfolding(crate::specs::Typing::called_from))]
-fn type_steps(
+fn type_postfixes(
     alloc: Global,
     scope: &mut Scope<'_>,
-    called: Called,
-    steps: &[Step],
-) -> Result<Called, TypeError>
-    ensures value { Gives result (called_from (in_reach scope.old) called (map calling steps.now)) }
+    called: CallsSoFar,
+    calls: &[Postfix],
+) -> Result<CallsSoFar, TypeError>
+    ensures value { Gives result (called_from (in_reach scope.old) called (map calling calls.now)) }
     ensures scope { OnOk result (scope.new ≡ scope.old) }
 {
     let mut reached = called;
-    for step in steps {
-        reached = type_step(alloc, scope, reached, step)?;
+    for call in calls {
+        reached = type_postfix(alloc, scope, reached, call)?;
     }
     Ok(reached)
 }
 
 /// A part with what is called on it.
 #[tactic(auto, unfolding(crate::specs::Typing::called_whole))]
-fn calls_part(alloc: Global, part: Part, called: Called) -> Result<Part, NoMemory>
+fn calls_part(alloc: Global, part: TypedPart, called: CallsSoFar) -> Result<TypedPart, NoMemory>
     ensures { IfOk result (λ p. p ≡ called_whole part called) }
 {
     let of = Boxed::new(alloc, part.into_tree())?;
-    Ok(Part {
+    Ok(TypedPart {
         ty: called.ty,
         model: called.model,
         node: Node::Calls {
             of,
-            steps: called.steps,
+            calls: called.calls,
         },
     })
 }
 
 /// Nothing is called yet.
-fn uncalled(alloc: Global, part: &Part) -> Result<Called, NoMemory>
+fn uncalled(alloc: Global, part: &TypedPart) -> Result<CallsSoFar, NoMemory>
     ensures { IfOk result (λ c. c ≡ started part.now) }
 {
     let ty = part.ty.duplicate(alloc)?;
-    Ok(Called {
-        steps: Seq::new(alloc),
+    Ok(CallsSoFar {
+        calls: Seq::new(alloc),
         ty,
         model: part.model,
     })
@@ -363,17 +374,17 @@ fn uncalled(alloc: Global, part: &Part) -> Result<Called, NoMemory>
 fn type_called(
     alloc: Global,
     scope: &mut Scope<'_>,
-    part: Part,
-    steps: &[Step],
-) -> Result<Part, TypeError>
-    ensures value { Gives result (part_called (in_reach scope.old) part (map calling steps.now)) }
+    part: TypedPart,
+    calls: &[Postfix],
+) -> Result<TypedPart, TypeError>
+    ensures value { Gives result (part_called (in_reach scope.old) part (map calling calls.now)) }
     ensures scope { OnOk result (scope.new ≡ scope.old) }
 {
-    if steps.is_empty() {
+    if calls.is_empty() {
         return Ok(part);
     }
     let called = uncalled(alloc, &part)?;
-    let called = type_steps(alloc, scope, called, steps)?;
+    let called = type_postfixes(alloc, scope, called, calls)?;
     Ok(calls_part(alloc, part, called)?)
 }
 
@@ -398,13 +409,13 @@ fn is_all_instances(name: &Text) -> bool
     name.as_str() == "allInstances"
 }
 
-/// Whether a step is `.allInstances()`.
-fn is_extent(step: &Step) -> bool
-    ensures { result ≡ (calling step.now).is_extent }
+/// Whether a call is `.allInstances()`.
+fn is_extent(call: &Postfix) -> bool
+    ensures { result ≡ (calling call.now).is_extent }
 {
-    match step {
-        Step::Dot { name, args, .. } => is_all_instances(&name.text) && is_empty(args),
-        Step::Property { .. } | Step::Arrow { .. } | Step::Iterator { .. } => false,
+    match call {
+        Postfix::Dot { name, args, .. } => is_all_instances(&name.text) && is_empty(args),
+        Postfix::Property { .. } | Postfix::Arrow { .. } | Postfix::Iterator { .. } => false,
     }
 }
 
@@ -422,10 +433,10 @@ fn short_path(expr: &Expr) -> Option<&Path>
 }
 
 /// The path of an extent: of one or two names with `.allInstances()` behind them.
-fn extent_path<'e>(of: &'e Expr, step: &Step) -> Option<&'e Path>
-    ensures { option_copied result ≡ path_of_extent (meaning of.now).path (calling step.now).is_extent }
+fn extent_path<'e>(of: &'e Expr, call: &Postfix) -> Option<&'e Path>
+    ensures { option_copied result ≡ path_of_extent (meaning of.now).path (calling call.now).is_extent }
 {
-    if is_extent(step) {
+    if is_extent(call) {
         short_path(of)
     } else {
         None

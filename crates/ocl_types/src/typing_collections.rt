@@ -3,24 +3,25 @@ ghost use Rattle.ocl_types.specs.Environments.{is_bound};
 ghost use Rattle.ocl_types.specs.Scopes.{in_reach};
 ghost use Rattle.ocl_types.specs.Written.{Gives};
 ghost use Rattle.ocl_types.specs.Agreement.{collection_parts as parts_meant};
-ghost use Rattle.ocl_types.specs.TypingCollections.{kind_of as kind_meant, element_of as element_meant, gathered as gathered_from, argument_count as arguments_of, given_elements as elements_given, given_type as type_given, given_types as types_given, summed as sum_asks, result_model as model_left, operated_on as operated, collection_operation_by, collection_operation_rule as operation_meaning, variable_type as type_of_variable, iterator_variable as variable_of_iterator, iterated_type as iteration_gives, iterated_model as model_iterated, iterated as iteration, condition as asks_condition, iterator_by, iterator_rule as iterator_meaning};
+ghost use Rattle.ocl_types.specs.TypingCollections.{kind_of as kind_meant, element_of as element_meant, gathered as gathered_from, given_elements as elements_given, given_type as type_given, given_types as types_given, summed as sum_asks, result_model as model_left, called_on as collection_called, operated_on as operated, collection_operation_by, collection_operation_rule as operation_meaning, variable_type as type_of_variable, iterator_variable as variable_of_iterator, iterated_type as iteration_gives, iterated_model as model_iterated, iterated as iteration, condition as asks_condition, iterator_by, iterator_rule as iterator_meaning};
 
 use crate::agreement::{collection_parts, fits, model_for, same_kind, same_type, upper};
+use crate::collection_operations::{Argument, collection_operation_named, collection_row};
 use crate::env::Env;
 use crate::fault::TypeError;
-use crate::operation_names::{collection_operation_named, iterator_named};
+use crate::operations::{IteratorResult, iterator_named, iterator_row};
 use crate::outcomes::{exactly, unknown_name, wrong_type};
-use crate::part::{Called, Part};
+use crate::part::{CallsSoFar, TypedPart};
 use crate::parts::{one_model, trees_of, with_models};
 use crate::scope::Scope;
 use crate::signatures::{
-    Argument, argument_of, collected_kind, collection_result, has_condition, is_of_kind,
+    argument_count, collected_kind, collection, collection_result, is_of_kind,
 };
 use crate::typing_scopes::{declared_type, free_name};
 use crate::typing_steps::counted;
 use crate::variable::Variable;
 use mof_metamodel::{Boxed, MetaModel, NoMemory, Seq, Text};
-use qv_syntax::{CollectionOperation, IteratorKind, Kind, Operation, StepCall, Ty, TypeTree};
+use qv_syntax::{Call, CollectionOperation, IteratorKind, Kind, Operation, Ty, TypeTree};
 use std::alloc::Global;
 
 /// The kind of a collection; a single value is taken as a Set.
@@ -50,16 +51,8 @@ fn is_collection(ty: &Ty) -> bool
     collection_parts(ty).is_some()
 }
 
-/// A collection type.
-fn collection(alloc: Global, kind: Kind, of: &Ty) -> Result<Ty, NoMemory>
-    ensures { IfOk result (λ t. t ≡ Ty.Coll kind of.now) }
-{
-    let of = of.duplicate(alloc)?;
-    Ok(Ty::Coll(kind, Boxed::new(alloc, of)?))
-}
-
 /// The value as a collection.
-fn gathered(alloc: Global, called: Called) -> Result<Called, NoMemory>
+fn gathered(alloc: Global, called: CallsSoFar) -> Result<CallsSoFar, NoMemory>
     ensures { IfOk result (λ c. c ≡ gathered_from called) }
 {
     if is_collection(&called.ty) {
@@ -67,21 +60,25 @@ fn gathered(alloc: Global, called: Called) -> Result<Called, NoMemory>
     }
     let ty = collection(alloc, Kind::Set, &called.ty)?;
     let model = called.model;
-    let call = StepCall::Operation {
+    let call = Call::Operation {
         operation: Operation::AsSingletonSet,
         args: Seq::new(alloc),
     };
     called.and_called(alloc, call, ty, model)
 }
 
-/// How many arguments there are.
-fn argument_count(argument: Argument) -> usize
-    ensures { result ≡ arguments_of argument }
+/// Called on the collection, with a result of this type, whose objects are of this model.
+fn called_on(
+    alloc: Global,
+    called: CallsSoFar,
+    call: Call,
+    ty: Ty,
+    model: Option<u32>,
+) -> Result<CallsSoFar, NoMemory>
+    ensures { IfOk result (λ c. c ≡ collection_called called call ty model) }
 {
-    match argument {
-        Argument::Nothing => 0,
-        Argument::Element | Argument::Collection | Argument::SameKind | Argument::Index => 1,
-    }
+    let model = model_for(&ty, model);
+    gathered(alloc, called)?.and_called(alloc, call, ty, model)
 }
 
 /// The type to which the elements and those of a given collection conform.
@@ -140,7 +137,7 @@ fn given_types(
     argument: Argument,
     kind: Kind,
     of: &Ty,
-    args: &[Part],
+    args: &[TypedPart],
 ) -> Result<Ty, TypeError>
     ensures { Gives result (types_given metas.now argument kind of.now args.now) }
 {
@@ -179,23 +176,24 @@ fn result_model(
     }
 }
 
-/// The step of an operation on a collection, of the type to which its elements and what is given conform.
+/// An operation on a collection, of the type to which its elements and what is given conform.
 fn operated_on(
     alloc: Global,
-    called: Called,
+    called: CallsSoFar,
     operation: CollectionOperation,
-    args: Seq<Part>,
+    args: Seq<TypedPart>,
     upper: &Ty,
     joined: Option<u32>,
-) -> Result<Called, NoMemory>
+) -> Result<CallsSoFar, NoMemory>
     ensures { IfOk result (λ c. c ≡ operated called operation args (kind_meant called.ty) (element_meant called.ty) upper.now joined) }
 {
     let of = element_of(alloc, &called.ty)?;
-    let ty = collection_result(alloc, operation, kind_of(&called.ty), &of, upper)?;
-    let model = model_for(&ty, result_model(operation, called.model, joined));
+    let gives = collection_row(operation).result;
+    let ty = collection_result(alloc, gives, kind_of(&called.ty), &of, upper)?;
+    let model = result_model(operation, called.model, joined);
     let args = trees_of(alloc, args)?;
-    let call = StepCall::Collection { operation, args };
-    gathered(alloc, called)?.and_called(alloc, call, ty, model)
+    let call = Call::Collection { operation, args };
+    called_on(alloc, called, call, ty, model)
 }
 
 /// An operation on a collection.
@@ -203,21 +201,21 @@ fn operate(
     alloc: Global,
     metas: &[MetaModel],
     name: &Text,
-    called: Called,
-    args: Seq<Part>,
+    called: CallsSoFar,
+    args: Seq<TypedPart>,
     operation: CollectionOperation,
-) -> Result<Called, TypeError>
+) -> Result<CallsSoFar, TypeError>
     ensures { Gives result (collection_operation_by metas.now name.now called args (Some operation)) }
 {
+    let row = collection_row(operation);
     let kind = kind_of(&called.ty);
-    if !is_of_kind(operation, kind) {
+    if !is_of_kind(row.kinds, kind) {
         return Err(TypeError::Fault(unknown_name(alloc, name.as_str())?));
     }
-    let argument = argument_of(operation);
-    counted(alloc, name, argument_count(argument), args.as_slice())?;
+    counted(alloc, name, argument_count(row.argument), args.as_slice())?;
     let of = element_of(alloc, &called.ty)?;
     summed(alloc, metas, operation, &of)?;
-    let upper = given_types(alloc, metas, argument, kind, &of, args.as_slice())?;
+    let upper = given_types(alloc, metas, row.argument, kind, &of, args.as_slice())?;
     let joined = one_model(
         alloc,
         name.as_str(),
@@ -232,9 +230,9 @@ pub(crate) fn collection_operation_rule(
     alloc: Global,
     metas: &[MetaModel],
     name: &Text,
-    called: Called,
-    args: Seq<Part>,
-) -> Result<Called, TypeError>
+    called: CallsSoFar,
+    args: Seq<TypedPart>,
+) -> Result<CallsSoFar, TypeError>
     ensures { Gives result (operation_meaning metas.now name.now called args) }
 {
     match collection_operation_named(name.as_str()) {
@@ -283,7 +281,7 @@ pub(crate) fn iterator_variable(
     scope: &Scope<'_>,
     name: &Text,
     tree: &Option<TypeTree>,
-    called: &Called,
+    called: &CallsSoFar,
 ) -> Result<Variable, TypeError>
     ensures given { Gives result (variable_of_iterator (in_reach scope.now) name.now tree.now called.now) }
     ensures unbound { OnOk result (is_bound (in_reach scope.now) name.now ≡ false) }
@@ -300,66 +298,66 @@ pub(crate) fn iterator_variable(
 /// The type of an iterator's result, of that of its body.
 fn iterated_type(
     alloc: Global,
-    iterator: IteratorKind,
+    gives: IteratorResult,
     kind: Kind,
     of: &Ty,
     body: &Ty,
 ) -> Result<Ty, NoMemory>
-    ensures { IfOk result (λ t. t ≡ iteration_gives iterator kind of.now body.now) }
+    ensures { IfOk result (λ t. t ≡ iteration_gives gives kind of.now body.now) }
 {
-    match iterator {
-        IteratorKind::Select | IteratorKind::Reject => collection(alloc, kind, of),
-        IteratorKind::Collect => {
+    match gives {
+        IteratorResult::Same => collection(alloc, kind, of),
+        IteratorResult::Collected => {
             let element = element_of(alloc, body)?;
             collection(alloc, collected_kind(kind), &element)
         }
-        IteratorKind::Exists | IteratorKind::ForAll | IteratorKind::One | IteratorKind::IsUnique =>
-            Ok(Ty::Bool),
+        IteratorResult::Bool => Ok(Ty::Bool),
     }
 }
 
 /// The model of its objects, which are the collection's or the body's.
-fn iterated_model(iterator: IteratorKind, model: Option<u32>, body: Option<u32>) -> Option<u32>
-    ensures { result ≡ model_iterated iterator model body }
+fn iterated_model(gives: IteratorResult, model: Option<u32>, body: Option<u32>) -> Option<u32>
+    ensures { result ≡ model_iterated gives model body }
 {
-    match iterator {
-        IteratorKind::Collect => body,
-        _ => model,
+    match gives {
+        IteratorResult::Collected => body,
+        IteratorResult::Same | IteratorResult::Bool => model,
     }
 }
 
-/// The step of an iterator.
+/// An iterator over what was called so far.
 fn iterated(
     alloc: Global,
-    called: Called,
+    called: CallsSoFar,
     iterator: IteratorKind,
     variable: u32,
-    body: Part,
-) -> Result<Called, NoMemory>
+    body: TypedPart,
+) -> Result<CallsSoFar, NoMemory>
     ensures { IfOk result (λ c. c ≡ iteration called iterator variable body) }
 {
     let of = element_of(alloc, &called.ty)?;
-    let ty = iterated_type(alloc, iterator, kind_of(&called.ty), &of, &body.ty)?;
-    let model = model_for(&ty, iterated_model(iterator, called.model, body.model));
+    let gives = iterator_row(iterator).result;
+    let ty = iterated_type(alloc, gives, kind_of(&called.ty), &of, &body.ty)?;
+    let model = iterated_model(gives, called.model, body.model);
     let body = Boxed::new(alloc, body.into_tree())?;
-    let call = StepCall::Iterator {
+    let call = Call::Iterator {
         iterator,
         variable,
         body,
     };
-    gathered(alloc, called)?.and_called(alloc, call, ty, model)
+    called_on(alloc, called, call, ty, model)
 }
 
 /// A body that is a condition is a Boolean.
 fn condition(
     alloc: Global,
     metas: &[MetaModel],
-    iterator: IteratorKind,
+    conditional: bool,
     ty: &Ty,
 ) -> Result<(), TypeError>
-    ensures { Gives result (asks_condition metas.now iterator ty.now) }
+    ensures { Gives result (asks_condition metas.now conditional ty.now) }
 {
-    if has_condition(iterator) && !same_type(ty, &Ty::Bool) {
+    if conditional && !same_type(ty, &Ty::Bool) {
         return Err(TypeError::Fault(wrong_type(alloc, metas, &Ty::Bool, ty)?));
     }
     Ok(())
@@ -372,14 +370,14 @@ pub(crate) fn iterator_rule(
     metas: &[MetaModel],
     name: &Text,
     variable: u32,
-    called: Called,
-    body: Part,
-) -> Result<Called, TypeError>
+    called: CallsSoFar,
+    body: TypedPart,
+) -> Result<CallsSoFar, TypeError>
     ensures { Gives result (iterator_meaning metas.now name.now variable called body) }
 {
     match iterator_named(name.as_str()) {
         Some(iterator) => {
-            condition(alloc, metas, iterator, &body.ty)?;
+            condition(alloc, metas, iterator_row(iterator).conditional, &body.ty)?;
             Ok(iterated(alloc, called, iterator, variable, body)?)
         }
         None => Err(TypeError::Fault(unknown_name(alloc, name.as_str())?)),

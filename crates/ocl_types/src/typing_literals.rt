@@ -8,7 +8,7 @@ use crate::agreement::{fits, higher};
 use crate::fault::TypeError;
 use crate::naming::kind_name;
 use crate::outcomes::wrong_type;
-use crate::part::Part;
+use crate::part::TypedPart;
 use crate::parts::{one_model, trees_of, with_models};
 use crate::typing_scopes::element;
 use mof_metamodel::{Boxed, MetaModel, Seq};
@@ -16,7 +16,7 @@ use qv_syntax::{Kind, Node, Ty};
 use std::alloc::Global;
 
 /// The highest of the types of parts: the one to which all conform, if there is one.
-fn highest<'p>(metas: &[MetaModel], first: &'p Ty, rest: &'p [Part]) -> &'p Ty
+fn highest<'p>(metas: &[MetaModel], first: &'p Ty, rest: &'p [TypedPart]) -> &'p Ty
     ensures { result.now ≡ fold (higher_of metas.now) first.now (types_of rest.now) }
 {
     let mut top = first;
@@ -27,7 +27,12 @@ fn highest<'p>(metas: &[MetaModel], first: &'p Ty, rest: &'p [Part]) -> &'p Ty
 }
 
 /// Whether the type of each part conforms to the one.
-fn all_fit(alloc: Global, metas: &[MetaModel], top: &Ty, parts: &[Part]) -> Result<Ty, TypeError>
+fn all_fit(
+    alloc: Global,
+    metas: &[MetaModel],
+    top: &Ty,
+    parts: &[TypedPart],
+) -> Result<Ty, TypeError>
     ensures { Gives result (all_fitting metas.now top.now (types_of parts.now)) }
 {
     for part in parts {
@@ -39,7 +44,7 @@ fn all_fit(alloc: Global, metas: &[MetaModel], top: &Ty, parts: &[Part]) -> Resu
 }
 
 /// The type of the elements of a collection literal: that of null, where there are none.
-fn literal_type(alloc: Global, metas: &[MetaModel], parts: &[Part]) -> Result<Ty, TypeError>
+fn literal_type(alloc: Global, metas: &[MetaModel], parts: &[TypedPart]) -> Result<Ty, TypeError>
     ensures { Gives result (type_of_literal metas.now (types_of parts.now)) }
 {
     match parts {
@@ -58,8 +63,8 @@ pub(crate) fn literal_rule(
     alloc: Global,
     metas: &[MetaModel],
     kind: Kind,
-    elements: Seq<Part>,
-) -> Result<Part, TypeError>
+    elements: Seq<TypedPart>,
+) -> Result<TypedPart, TypeError>
     ensures { Gives result (literal_of metas.now kind elements) }
 {
     let of = literal_type(alloc, metas, elements.as_slice())?;
@@ -67,7 +72,7 @@ pub(crate) fn literal_rule(
     let model = one_model(alloc, kind_name(kind), joined)?;
     let elements = trees_of(alloc, elements)?;
     let of = Boxed::new(alloc, of)?;
-    Ok(Part {
+    Ok(TypedPart {
         ty: Ty::Coll(kind, of),
         model,
         node: Node::Coll { kind, elements },

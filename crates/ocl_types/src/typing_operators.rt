@@ -10,11 +10,11 @@ use crate::agreement::{
 };
 use crate::fault::TypeError;
 use crate::outcomes::{exactly, wrong_type};
-use crate::part::{Chained, Part};
+use crate::part::{Chained, TypedPart};
 use crate::parts::one_model;
 use crate::trees::boxed_tree;
 use mof_metamodel::{MetaModel, NoMemory, Seq};
-use qv_syntax::{Node, Operator, Ty, Typed, TypedLink};
+use qv_syntax::{Node, Operator, Ty, Typed, TypedInfix};
 use std::alloc::Global;
 
 /// Whether both types are the wanted one, and what comes then.
@@ -118,7 +118,7 @@ fn branches(alloc: Global, metas: &[MetaModel], one: &Ty, other: &Ty) -> Result<
 }
 
 /// Nothing is joined to the first part yet.
-pub(crate) fn unchained(alloc: Global, first: &Part) -> Result<Chained, NoMemory>
+pub(crate) fn unchained(alloc: Global, first: &TypedPart) -> Result<Chained, NoMemory>
     ensures { IfOk result (λ c. c ≡ started first.now) }
 {
     let ty = first.ty.duplicate(alloc)?;
@@ -133,20 +133,20 @@ fn and_linked(
     alloc: Global,
     chain: Chained,
     operator: Operator,
-    right: Part,
+    right: TypedPart,
     ty: Ty,
 ) -> Result<Chained, NoMemory>
     ensures { IfOk result (λ c. c ≡ linked chain operator right ty) }
 {
     let mut links = chain.links;
     let reached = ty.duplicate(alloc)?;
-    let Part {
+    let TypedPart {
         ty: of_right,
         node,
         ..
     } = right;
     let right = Typed { ty: of_right, node };
-    links.push(TypedLink {
+    links.push(TypedInfix {
         operator,
         right,
         ty: reached,
@@ -161,7 +161,7 @@ pub(crate) fn link_rule(
     metas: &[MetaModel],
     chain: Chained,
     operator: Operator,
-    right: Part,
+    right: TypedPart,
 ) -> Result<Chained, TypeError>
     ensures { Gives result (linked_by metas.now chain operator right) }
 {
@@ -171,13 +171,17 @@ pub(crate) fn link_rule(
 
 /// The whole chain.
 #[tactic(auto, unfolding(crate::specs::TypingOperators::chain_part))]
-pub(crate) fn chain_part(alloc: Global, first: Part, chain: Chained) -> Result<Part, NoMemory>
+pub(crate) fn chain_part(
+    alloc: Global,
+    first: TypedPart,
+    chain: Chained,
+) -> Result<TypedPart, NoMemory>
     ensures { IfOk result (λ p. p ≡ chained first chain) }
 {
     let Chained { links, ty } = chain;
     let model = model_for(&ty, first.model);
     let first = boxed_tree(alloc, first)?;
-    Ok(Part {
+    Ok(TypedPart {
         ty,
         model,
         node: Node::Chain { first, rest: links },
@@ -186,12 +190,16 @@ pub(crate) fn chain_part(alloc: Global, first: Part, chain: Chained) -> Result<P
 
 /// `not` of a part.
 #[tactic(auto, unfolding(crate::specs::TypingOperators::not_rule))]
-pub(crate) fn not_rule(alloc: Global, metas: &[MetaModel], operand: Part) -> Result<Part, TypeError>
+pub(crate) fn not_rule(
+    alloc: Global,
+    metas: &[MetaModel],
+    operand: TypedPart,
+) -> Result<TypedPart, TypeError>
     ensures { Gives result (not_of metas.now operand) }
 {
     exactly(alloc, metas, &Ty::Bool, &operand.ty)?;
     let operand = boxed_tree(alloc, operand)?;
-    Ok(Part {
+    Ok(TypedPart {
         ty: Ty::Bool,
         model: None,
         node: Node::Not { operand },
@@ -203,13 +211,13 @@ pub(crate) fn not_rule(alloc: Global, metas: &[MetaModel], operand: Part) -> Res
 pub(crate) fn negated_rule(
     alloc: Global,
     metas: &[MetaModel],
-    operand: Part,
-) -> Result<Part, TypeError>
+    operand: TypedPart,
+) -> Result<TypedPart, TypeError>
     ensures { Gives result (negated_of metas.now operand) }
 {
     exactly(alloc, metas, &Ty::Int, &operand.ty)?;
     let operand = boxed_tree(alloc, operand)?;
-    Ok(Part {
+    Ok(TypedPart {
         ty: Ty::Int,
         model: None,
         node: Node::Negated { operand },
@@ -219,18 +227,18 @@ pub(crate) fn negated_rule(
 /// An `if` of this type and model.
 fn if_part(
     alloc: Global,
-    condition: Part,
-    one: Part,
-    other: Part,
+    condition: TypedPart,
+    one: TypedPart,
+    other: TypedPart,
     ty: Ty,
     model: Option<u32>,
-) -> Result<Part, NoMemory>
+) -> Result<TypedPart, NoMemory>
     ensures { IfOk result (λ p. p ≡ record { ty = ty; model = model; node = nodes.If (tree_of condition) (tree_of one) (tree_of other) }) }
 {
     let condition = boxed_tree(alloc, condition)?;
     let one = boxed_tree(alloc, one)?;
     let other = boxed_tree(alloc, other)?;
-    Ok(Part {
+    Ok(TypedPart {
         ty,
         model,
         node: Node::If {
@@ -247,8 +255,8 @@ fn if_branches(
     alloc: Global,
     metas: &[MetaModel],
     condition: &Ty,
-    one: &Part,
-    other: &Part,
+    one: &TypedPart,
+    other: &TypedPart,
 ) -> Result<(Ty, Option<u32>), TypeError>
     ensures { Gives result (branches_of_if metas.now condition.now one.now other.now) }
 {
@@ -263,10 +271,10 @@ fn if_branches(
 pub(crate) fn if_rule(
     alloc: Global,
     metas: &[MetaModel],
-    condition: Part,
-    one: Part,
-    other: Part,
-) -> Result<Part, TypeError>
+    condition: TypedPart,
+    one: TypedPart,
+    other: TypedPart,
+) -> Result<TypedPart, TypeError>
     ensures { Gives result (if_of metas.now condition one other) }
 {
     match if_branches(alloc, metas, &condition.ty, &one, &other) {

@@ -10,7 +10,7 @@ use crate::agreement::{collection_parts, fits};
 use crate::env::Env;
 use crate::fault::TypeError;
 use crate::outcomes::{duplicate_name, unknown_name, unknown_path, wrong_type};
-use crate::part::Part;
+use crate::part::TypedPart;
 use crate::scope::Scope;
 use crate::trees::boxed_tree;
 use crate::variable::Variable;
@@ -20,13 +20,13 @@ use qv_syntax::{Node, Path, Ty, TypeTree};
 use std::alloc::Global;
 
 /// A variable that is in reach.
-fn variable_part(alloc: Global, scope: &Scope<'_>, name: &Text) -> Result<Part, TypeError>
+fn variable_part(alloc: Global, scope: &Scope<'_>, name: &Text) -> Result<TypedPart, TypeError>
     ensures { Gives result (variable_of (in_reach scope.now) name.now) }
 {
     match scope.variable(name) {
         Some((number, variable)) => {
             let ty = variable.ty.duplicate(alloc)?;
-            Ok(Part {
+            Ok(TypedPart {
                 ty,
                 model: variable.model,
                 node: Node::Variable { number },
@@ -37,11 +37,11 @@ fn variable_part(alloc: Global, scope: &Scope<'_>, name: &Text) -> Result<Part, 
 }
 
 /// A literal of an enumeration.
-fn literal_part(alloc: Global, env: &Env<'_>, path: &Path) -> Result<Part, TypeError>
+fn literal_part(alloc: Global, env: &Env<'_>, path: &Path) -> Result<TypedPart, TypeError>
     ensures { Gives result (literal_by (names_of path.now) (named_literal env.now (names_of path.now))) }
 {
     match env.named_literal(path) {
-        Some((meta, enumeration, literal)) => Ok(Part {
+        Some((meta, enumeration, literal)) => Ok(TypedPart {
             ty: Ty::Enum(meta, enumeration),
             model: None,
             node: Node::EnumLiteral {
@@ -56,7 +56,11 @@ fn literal_part(alloc: Global, env: &Env<'_>, path: &Path) -> Result<Part, TypeE
 
 /// What a path is: a name alone is a variable, and a longer one is a literal of an enumeration.
 #[tactic(auto, unfolding(crate::specs::TypingScopes::path_part))]
-pub(crate) fn path_part(alloc: Global, scope: &Scope<'_>, path: &Path) -> Result<Part, TypeError>
+pub(crate) fn path_part(
+    alloc: Global,
+    scope: &Scope<'_>,
+    path: &Path,
+) -> Result<TypedPart, TypeError>
     ensures { Gives result (path_of (in_reach scope.now) path.now) }
 {
     match path.names.as_slice() {
@@ -128,7 +132,7 @@ pub(crate) fn let_variable(
     alloc: Global,
     metas: &[MetaModel],
     ty: Ty,
-    value: &Part,
+    value: &TypedPart,
 ) -> Result<Variable, TypeError>
     ensures { Gives result (variable_of_let metas.now ty value.now) }
 {
@@ -146,16 +150,16 @@ pub(crate) fn let_variable(
 pub(crate) fn let_part(
     alloc: Global,
     number: u32,
-    value: Part,
-    body: Part,
-) -> Result<Part, NoMemory>
+    value: TypedPart,
+    body: TypedPart,
+) -> Result<TypedPart, NoMemory>
     ensures { IfOk result (λ p. p ≡ part_of_let number value body) }
 {
     let ty = body.ty.duplicate(alloc)?;
     let model = body.model;
     let value = boxed_tree(alloc, value)?;
     let body = boxed_tree(alloc, body)?;
-    Ok(Part {
+    Ok(TypedPart {
         ty,
         model,
         node: Node::Let {

@@ -1,31 +1,31 @@
-ghost use Rattle.std.specs.Prelude.{◌≡◌, ◌<◌, ◌≤◌, ◌+◌, ◌==◌, ◌∷◌, length, Some};
-ghost use Rattle.std.specs.List.{list_any};
-ghost use Rattle.mof_metamodel.specs.Metamodels.{prop_count};
-ghost use Rattle.ocl_types.specs.Environments.{most, class_of as class_meant};
-ghost use Rattle.ocl_types.specs.Classifiers.{only};
+ghost use Rattle.std.specs.Prelude.{◌≡◌, ◌<◌, Some, IfSome, IfOk};
+ghost use Rattle.std.specs.Option.{option_map, option_and_then};
+ghost use Rattle.mof_metamodel.specs.Metamodels.{prop_count, prop_number, class_count};
+ghost use Rattle.ocl_types.specs.Environments.{class_of as class_meant};
 ghost use Rattle.ocl_types.specs.Scopes.{in_reach};
 ghost use Rattle.ocl_types.specs.Written.{Gives};
-ghost use Rattle.ocl_types.specs.TypingSteps.{described as described_prop, class_property as property_of_class, property_of as property_meant, navigated_to, collected_from, property_rule as property_meaning, is_received as received, each_exactly as all_exactly, counted as has_count, operation_by, operation_rule as operation_meaning, class_or, class_at_path as path_class, is_of_meta as meta_is, tested as test_gives, tested_with as test_meaning, class_operation_rule as class_operation_meaning, models_of, model_or, extent_part as extent_of, extent_rule as extent_meaning, each_fits as all_fits, query_by, query_rule as query_meaning};
+ghost use Rattle.ocl_types.specs.TypingSteps.{described as described_prop, class_property as property_of_class, property_of as property_meant, navigated_to, collected_from, property_rule as property_meaning, each_exactly as all_exactly, counted as has_count, called_with as value_called_with, operation_by, operation_rule as operation_meaning, class_or, class_at_path as path_class, is_of_meta as meta_is, tested as test_gives, tested_with as test_meaning, class_operation_rule as class_operation_meaning, model_or, extent_part as extent_of, extent_rule as extent_meaning, each_fits as all_fits, query_by, query_rule as query_meaning};
 
-use crate::agreement::{collection_parts, fits, model_for, same_type};
+use crate::agreement::{collection_parts, fits, model_for};
 use crate::env::Env;
 use crate::fault::{TypeError, TypeFault};
 use crate::naming::path_text;
 use crate::navigation::{navigated, prop_type, values};
 use crate::of_types::class_of;
-use crate::operation_names::{class_operation_named, operation_named};
+use crate::operations::{
+    ClassResult, class_operation_named, class_row, operation_named, operation_row,
+};
 use crate::outcomes::{exactly, unknown_name, wrong_count, wrong_type};
-use crate::part::{Called, Part};
+use crate::part::{CallsSoFar, TypedPart};
 use crate::parts::trees_of;
 use crate::scope::Scope;
-use crate::signatures::{collected_kind, parameter_count, parameter_type, result_type};
+use crate::signatures::{
+    collected_kind, is_receiver, parameter_count, parameter_type, result_type,
+};
 use crate::variable::Signature;
-use mof_metamodel::{Boxed, ClassId, MetaModel, PropId, Seq, Text};
-use qv_syntax::{ClassOperation, Kind, ModelSlot, Node, Operation, Path, StepCall, Ty, Values};
+use mof_metamodel::{Boxed, ClassId, MetaModel, NoMemory, PropId, Seq, Text};
+use qv_syntax::{Call, ClassOperation, Kind, Node, Operation, Path, Ty, Values};
 use std::alloc::Global;
-
-/// How many models there may be.
-const MOST: usize = 4294967295;
 
 /// What navigation to a property gives, and the type of one value.
 fn described(m: u32, meta: &MetaModel, p: PropId) -> (PropId, Values, Ty)
@@ -33,6 +33,26 @@ fn described(m: u32, meta: &MetaModel, p: PropId) -> (PropId, Values, Ty)
     ensures { described_prop m meta.now p.0 ≡ Some result }
 {
     (p, values(meta, p), prop_type(m, meta, p))
+}
+
+/// The property of this name of a class of a metamodel.
+fn prop_named(meta: &MetaModel, c: ClassId, name: &Text) -> Option<PropId>
+    requires { c.0 < class_count meta.now }
+    ensures number { option_map (λ p. p.0) result ≡ prop_number meta.now c.0 name.now }
+    ensures within { IfSome result (λ p. p.0 < prop_count meta.now) }
+{
+    meta.prop_of(c, name.as_str())
+}
+
+/// What navigation to the property of this name gives.
+fn described_in(m: u32, meta: &MetaModel, c: ClassId, name: &Text) -> Option<(PropId, Values, Ty)>
+    requires { c.0 < class_count meta.now }
+    ensures { result ≡ option_and_then (described_prop m meta.now) (prop_number meta.now c.0 name.now) }
+{
+    match prop_named(meta, c, name) {
+        Some(p) => Some(described(m, meta, p)),
+        None => None,
+    }
 }
 
 /// The property of this name of a class.
@@ -46,10 +66,7 @@ fn class_property(
 {
     let i = m as usize;
     if i < metas.len() && c.0 < metas[i].class_count() {
-        match metas[i].prop_of(c, name.as_str()) {
-            Some(p) => Some(described(m, &metas[i], p)),
-            None => None,
-        }
+        described_in(m, &metas[i], c, name)
     } else {
         None
     }
@@ -69,16 +86,16 @@ fn property_of(metas: &[MetaModel], ty: &Ty, name: &Text) -> Option<(PropId, Val
 fn navigate(
     alloc: Global,
     name: &Text,
-    called: Called,
+    called: CallsSoFar,
     property: Option<(PropId, Values, Ty)>,
-) -> Result<Called, TypeError>
+) -> Result<CallsSoFar, TypeError>
     ensures { Gives result (navigated_to name.now called property) }
 {
     match property {
         Some((prop, values, ty)) => {
             let model = model_for(&ty, called.model);
             let reached = navigated(alloc, values, ty)?;
-            let call = StepCall::Property { prop, values };
+            let call = Call::Property { prop, values };
             Ok(called.and_called(alloc, call, reached, model)?)
         }
         None => Err(TypeError::Fault(unknown_name(alloc, name.as_str())?)),
@@ -89,17 +106,17 @@ fn navigate(
 fn collect(
     alloc: Global,
     name: &Text,
-    called: Called,
+    called: CallsSoFar,
     kind: Kind,
     property: Option<(PropId, Values, Ty)>,
-) -> Result<Called, TypeError>
+) -> Result<CallsSoFar, TypeError>
     ensures { Gives result (collected_from name.now called kind property) }
 {
     match property {
         Some((prop, values, ty)) => {
             let model = model_for(&ty, called.model);
             let reached = Ty::Coll(collected_kind(kind), Boxed::new(alloc, ty)?);
-            let call = StepCall::CollectProperty { prop, values };
+            let call = Call::CollectProperty { prop, values };
             Ok(called.and_called(alloc, call, reached, model)?)
         }
         None => Err(TypeError::Fault(unknown_name(alloc, name.as_str())?)),
@@ -112,8 +129,8 @@ pub(crate) fn property_rule(
     alloc: Global,
     metas: &[MetaModel],
     name: &Text,
-    called: Called,
-) -> Result<Called, TypeError>
+    called: CallsSoFar,
+) -> Result<CallsSoFar, TypeError>
     ensures { Gives result (property_meaning metas.now name.now called) }
 {
     match collection_parts(&called.ty) {
@@ -128,21 +145,17 @@ pub(crate) fn property_rule(
     }
 }
 
-/// Whether an operation is one on values of this type.
-fn is_received(operation: Operation, ty: &Ty) -> bool
-    ensures { result ≡ received operation ty.now }
+/// Called on the value, with a result of this type, whose objects are of the value's model.
+fn called_with(
+    alloc: Global,
+    called: CallsSoFar,
+    call: Call,
+    ty: Ty,
+) -> Result<CallsSoFar, NoMemory>
+    ensures { IfOk result (λ c. c ≡ value_called_with called call ty) }
 {
-    match operation {
-        Operation::Absolute
-        | Operation::Divide
-        | Operation::Modulo
-        | Operation::Maximum
-        | Operation::Minimum => same_type(ty, &Ty::Int),
-        Operation::ToString => same_type(ty, &Ty::Int) || same_type(ty, &Ty::Bool),
-        Operation::Length | Operation::Concatenate | Operation::ToInteger | Operation::Substring =>
-            same_type(ty, &Ty::Str),
-        Operation::IsUndefined | Operation::IsInvalid | Operation::AsSingletonSet => true,
-    }
+    let model = model_for(&ty, called.model);
+    called.and_called(alloc, call, ty, model)
 }
 
 /// Each argument has this very type.
@@ -150,7 +163,7 @@ fn each_exactly(
     alloc: Global,
     metas: &[MetaModel],
     wanted: &Ty,
-    args: &[Part],
+    args: &[TypedPart],
 ) -> Result<(), TypeError>
     ensures { Gives result (all_exactly metas.now wanted.now args.now) }
 {
@@ -165,7 +178,7 @@ pub(crate) fn counted(
     alloc: Global,
     name: &Text,
     count: usize,
-    args: &[Part],
+    args: &[TypedPart],
 ) -> Result<(), TypeError>
     ensures { Gives result (has_count name.now count args.now) }
 {
@@ -181,22 +194,32 @@ fn operate(
     alloc: Global,
     metas: &[MetaModel],
     name: &Text,
-    called: Called,
-    args: Seq<Part>,
+    called: CallsSoFar,
+    args: Seq<TypedPart>,
     operation: Operation,
-) -> Result<Called, TypeError>
+) -> Result<CallsSoFar, TypeError>
     ensures { Gives result (operation_by metas.now name.now called args (Some operation)) }
 {
-    if !is_received(operation, &called.ty) {
+    let row = operation_row(operation);
+    if !is_receiver(row.receivers, &called.ty) {
         return Err(TypeError::Fault(unknown_name(alloc, name.as_str())?));
     }
-    counted(alloc, name, parameter_count(operation), args.as_slice())?;
-    each_exactly(alloc, metas, &parameter_type(operation), args.as_slice())?;
-    let ty = result_type(alloc, operation, &called.ty)?;
-    let model = model_for(&ty, called.model);
+    counted(
+        alloc,
+        name,
+        parameter_count(row.parameters),
+        args.as_slice(),
+    )?;
+    each_exactly(
+        alloc,
+        metas,
+        &parameter_type(row.parameters),
+        args.as_slice(),
+    )?;
+    let ty = result_type(alloc, row.result, &called.ty)?;
     let args = trees_of(alloc, args)?;
-    let call = StepCall::Operation { operation, args };
-    Ok(called.and_called(alloc, call, ty, model)?)
+    let call = Call::Operation { operation, args };
+    Ok(called_with(alloc, called, call, ty)?)
 }
 
 /// `.name(args)`: an operation on the value.
@@ -205,9 +228,9 @@ pub(crate) fn operation_rule(
     alloc: Global,
     metas: &[MetaModel],
     name: &Text,
-    called: Called,
-    args: Seq<Part>,
-) -> Result<Called, TypeError>
+    called: CallsSoFar,
+    args: Seq<TypedPart>,
+) -> Result<CallsSoFar, TypeError>
     ensures { Gives result (operation_meaning metas.now name.now called args) }
 {
     match operation_named(name.as_str()) {
@@ -237,12 +260,12 @@ fn is_of_meta(m: u32, ty: &Ty) -> bool
 }
 
 /// The type of a test's result, or of a cast's.
-fn tested(operation: ClassOperation, class: (u32, ClassId)) -> Ty
-    ensures { result ≡ test_gives operation class }
+fn tested(gives: ClassResult, class: (u32, ClassId)) -> Ty
+    ensures { result ≡ test_gives gives class }
 {
-    match operation {
-        ClassOperation::IsTypeOf | ClassOperation::IsKindOf => Ty::Bool,
-        ClassOperation::AsType => Ty::Class(class.0, class.1),
+    match gives {
+        ClassResult::Bool => Ty::Bool,
+        ClassResult::Object => Ty::Class(class.0, class.1),
     }
 }
 
@@ -250,23 +273,22 @@ fn tested(operation: ClassOperation, class: (u32, ClassId)) -> Ty
 fn tested_with(
     alloc: Global,
     metas: &[MetaModel],
-    called: Called,
+    called: CallsSoFar,
     operation: ClassOperation,
     class: (u32, ClassId),
-) -> Result<Called, TypeError>
+) -> Result<CallsSoFar, TypeError>
     ensures { Gives result (test_meaning metas.now called operation class) }
 {
     if !is_of_meta(class.0, &called.ty) {
         let wanted = Ty::Class(class.0, class.1);
         return Err(TypeError::Fault(wrong_type(alloc, metas, &wanted, &called.ty)?));
     }
-    let ty = tested(operation, class);
-    let model = model_for(&ty, called.model);
-    let call = StepCall::Class {
+    let ty = tested(class_row(operation).result, class);
+    let call = Call::Class {
         operation,
         class: class.1,
     };
-    Ok(called.and_called(alloc, call, ty, model)?)
+    Ok(called_with(alloc, called, call, ty)?)
 }
 
 /// `.name(C)`: a type test or a cast.
@@ -276,8 +298,8 @@ pub(crate) fn class_operation_rule(
     scope: &Scope<'_>,
     name: &Text,
     path: &Path,
-    called: Called,
-) -> Result<Called, TypeError>
+    called: CallsSoFar,
+) -> Result<CallsSoFar, TypeError>
     ensures { Gives result (class_operation_meaning (in_reach scope.now) name.now path.now called) }
 {
     match class_operation_named(name.as_str()) {
@@ -294,7 +316,7 @@ fn each_fits(
     alloc: Global,
     metas: &[MetaModel],
     params: &[Ty],
-    args: &[Part],
+    args: &[TypedPart],
 ) -> Result<(), TypeError>
     ensures { Gives result (all_fits metas.now params.now args.now) }
 {
@@ -317,10 +339,10 @@ fn call_query(
     alloc: Global,
     metas: &[MetaModel],
     name: &Text,
-    args: Seq<Part>,
+    args: Seq<TypedPart>,
     number: u32,
     signature: &Signature,
-) -> Result<Part, TypeError>
+) -> Result<TypedPart, TypeError>
     ensures { Gives result (query_by metas.now name.now args (Some number) (Some signature.now)) }
 {
     let params = signature.params.as_slice();
@@ -328,7 +350,7 @@ fn call_query(
     each_fits(alloc, metas, params, args.as_slice())?;
     let ty = signature.result.duplicate(alloc)?;
     let args = trees_of(alloc, args)?;
-    Ok(Part {
+    Ok(TypedPart {
         ty,
         model: None,
         node: Node::Query {
@@ -344,8 +366,8 @@ pub(crate) fn query_rule(
     alloc: Global,
     scope: &Scope<'_>,
     name: &Text,
-    args: Seq<Part>,
-) -> Result<Part, TypeError>
+    args: Seq<TypedPart>,
+) -> Result<TypedPart, TypeError>
     ensures { Gives result (query_meaning (in_reach scope.now) name.now args) }
 {
     match scope.env().query(name) {
@@ -361,40 +383,6 @@ pub(crate) fn query_rule(
     }
 }
 
-/// Whether a model has this metamodel.
-fn has_model(models: &[ModelSlot], meta: u32) -> bool
-    ensures { result ≡ list_any (λ slot. slot.meta == meta) models.now }
-{
-    models.iter().any(|slot| slot.meta == meta)
-}
-
-/// The number of a model that has a metamodel, if none of those behind it has it.
-#[tactic(auto, using(crate::proofs::ModelLaws::first_only))]
-fn alone(models: &[ModelSlot], meta: u32, i: u32) -> Option<u32>
-    ensures { result ≡ only (i ∷ models_of meta (i + 1) models.now) }
-{
-    if has_model(models, meta) {
-        None
-    } else {
-        Some(i)
-    }
-}
-
-/// The number of the one model that has this metamodel, of models from number `i` on.
-fn only_model(models: &[ModelSlot], meta: u32, i: u32) -> Option<u32>
-    requires { i + length models.now ≤ most }
-    ensures { result ≡ only (models_of meta i models.now) }
-{
-    match models {
-        [] => None,
-        [slot, rest @ ..] => if slot.meta == meta {
-            alone(rest, meta, i)
-        } else {
-            only_model(rest, meta, i + 1)
-        },
-    }
-}
-
 /// The model, or the fault that there is none, or more than one.
 fn model_found(alloc: Global, path: &Path, model: Option<u32>) -> Result<u32, TypeError>
     ensures { Gives result (model_or path.now model) }
@@ -407,17 +395,17 @@ fn model_found(alloc: Global, path: &Path, model: Option<u32>) -> Result<u32, Ty
 
 /// `C.allInstances()`: the objects of the one model that has the metamodel of the class.
 #[tactic(auto, unfolding(crate::specs::TypingSteps::extent_rule))]
-pub(crate) fn extent_rule(alloc: Global, scope: &Scope<'_>, path: &Path) -> Result<Part, TypeError>
+pub(crate) fn extent_rule(
+    alloc: Global,
+    scope: &Scope<'_>,
+    path: &Path,
+) -> Result<TypedPart, TypeError>
     ensures { Gives result (extent_meaning (in_reach scope.now) path.now) }
 {
     let (meta, class) = class_at_path(alloc, scope.env(), path)?;
-    let models = scope.env().models();
-    if models.len() > MOST {
-        return Err(TypeError::NoMemory);
-    }
-    let model = model_found(alloc, path, only_model(models, meta, 0))?;
+    let model = model_found(alloc, path, scope.env().only_model(meta))?;
     let of = Boxed::new(alloc, Ty::Class(meta, class))?;
-    Ok(Part {
+    Ok(TypedPart {
         ty: Ty::Coll(Kind::Set, of),
         model: Some(model),
         node: Node::Extent { model, class },

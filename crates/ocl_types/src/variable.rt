@@ -2,15 +2,15 @@ use mof_metamodel::Seq;
 use qv_syntax::Ty;
 
 /// A variable in reach: its type, and the model of its objects where it is an object variable.
-#[derive(Debug, Drop)]
-pub struct Variable {
+#[derive(Drop)]
+pub(crate) struct Variable {
     pub ty: Ty,
     pub model: Option<u32>,
 }
 
 /// The types of a query's parameters and of its result.
-#[derive(Debug, Drop)]
-pub struct Signature {
+#[derive(Drop)]
+pub(crate) struct Signature {
     pub params: Seq<Ty>,
     pub result: Ty,
 }

@@ -7,7 +7,7 @@ use mof_metamodel::{Boxed, Seq, Span};
 /// An expression as it is written (OCL 2.4, chapter 9): one variant for each form of the grammar, with the bytes at
 /// which it stands. Parentheses are a form of their own. What is written as a chain, as `a + b - c` or `a.b->c()`, is
 /// one node with a list, so that a tree is no deeper than what nests.
-#[derive(Debug, Drop, PartialEq, Eq, PartialOrd, Ord, Hash)]
+#[derive(Drop)]
 #[cycle(expr)]
 pub enum Expr {
     /// `let name : type = value in body`
@@ -21,7 +21,7 @@ pub enum Expr {
     /// Parts with operators of one level between them, at least one.
     Chain {
         first: Boxed<Expr>,
-        rest: Seq<Link>,
+        rest: Seq<Infix>,
         span: Span,
     },
     /// `not operand`
@@ -37,7 +37,7 @@ pub enum Expr {
     /// A part and what is called on it, at least one call.
     Calls {
         of: Boxed<Expr>,
-        steps: Seq<Step>,
+        calls: Seq<Postfix>,
         span: Span,
     },
     /// Decimal digits.
@@ -93,18 +93,18 @@ pub enum Expr {
     },
 }
 
-/// An operator and the part behind it.
-#[derive(Debug, Drop, PartialEq, Eq, PartialOrd, Ord, Hash)]
+/// An infix operator with the operand behind it (OCL 2.4, section 7.4.8).
+#[derive(Drop)]
 #[cycle(expr)]
-pub struct Link {
+pub struct Infix {
     pub operator: Operator,
     pub right: Expr,
 }
 
-/// What is called on the part before it.
-#[derive(Debug, Drop, PartialEq, Eq, PartialOrd, Ord, Hash)]
+/// A call behind `.` or `->`, on what stands before it (OCL 2.4, section 8.3, CallExp).
+#[derive(Drop)]
 #[cycle(expr)]
-pub enum Step {
+pub enum Postfix {
     /// `.name`
     Property {
         name: Name,
@@ -132,7 +132,7 @@ pub enum Step {
 }
 
 /// What stands between the parentheses of a call.
-#[derive(Debug, Drop, PartialEq, Eq, PartialOrd, Ord, Hash)]
+#[derive(Drop)]
 #[cycle(expr)]
 pub enum Args {
     /// Expressions.

@@ -1,4 +1,4 @@
-//! The trees of scripts: expressions as they are written (`Expr`) and with their types (`Typed`).
+//! The trees of scripts: expressions as they are written (`Expr`) and with their types (`Typed`), and resolved programs (`Program`).
 #![tactic(auto)]
 
 mod expr;
@@ -6,17 +6,19 @@ mod literal;
 mod name;
 mod operation;
 mod operator;
+mod program;
 mod query;
 mod ty;
 mod type_tree;
 mod typed;
 
-pub use expr::{Args, Expr, Link, Step};
+pub use expr::{Args, Expr, Infix, Postfix};
 pub use literal::Literal;
 pub use name::{Name, Path};
 pub use operation::{ClassOperation, CollectionOperation, IteratorKind, Operation};
 pub use operator::Operator;
+pub use program::{Conj, Dom, Item, ItemValue, Key, Marker, Program, Rel, Tmpl, Var};
 pub use query::{ModelSlot, ParamTree, Query, QueryTree};
 pub use ty::Ty;
 pub use type_tree::{Kind, TypeTree};
-pub use typed::{Node, StepCall, Typed, TypedLink, TypedStep, Values};
+pub use typed::{Call, Node, Typed, TypedInfix, TypedPostfix, Values};

@@ -1,5 +1,5 @@
 /// An operation on single values (OCL 2.4, sections 11.5.1 to 11.5.4).
-#[derive(Clone, Copy, Debug, PartialEq, Eq, PartialOrd, Ord, Hash)]
+#[derive(Clone, Copy, Debug)]
 pub enum Operation {
     /// `abs()`
     Absolute,
@@ -30,7 +30,7 @@ pub enum Operation {
 }
 
 /// An operation on a collection (OCL 2.4, section 11.7).
-#[derive(Clone, Copy, Debug, PartialEq, Eq, PartialOrd, Ord, Hash)]
+#[derive(Clone, Copy, Debug)]
 pub enum CollectionOperation {
     /// `size()`
     Size,
@@ -79,7 +79,7 @@ pub enum CollectionOperation {
 }
 
 /// An iterator over a collection (OCL 2.4, section 11.9).
-#[derive(Clone, Copy, Debug, PartialEq, Eq, PartialOrd, Ord, Hash)]
+#[derive(Clone, Copy, Debug)]
 pub enum IteratorKind {
     /// `select(x | e)`
     Select,
@@ -98,7 +98,7 @@ pub enum IteratorKind {
 }
 
 /// What is asked of an object and a class (OCL 2.4, section 11.3.1).
-#[derive(Clone, Copy, Debug, PartialEq, Eq, PartialOrd, Ord, Hash)]
+#[derive(Clone, Copy, Debug)]
 pub enum ClassOperation {
     /// `oclIsTypeOf(C)`
     IsTypeOf,

@@ -2,7 +2,7 @@ ghost use Rattle.std.specs.Prelude.{◌≡◌};
 ghost use Rattle.qv_syntax.specs.Operators.{level_of};
 
 /// An operator between two parts of an expression (OCL 2.4, section 7.4.7).
-#[derive(Clone, Copy, Debug, PartialEq, Eq, PartialOrd, Ord, Hash)]
+#[derive(Clone, Copy)]
 pub enum Operator {
     /// `implies`
     Implies,

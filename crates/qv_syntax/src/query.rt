@@ -6,7 +6,7 @@ use crate::typed::Typed;
 use mof_metamodel::{Seq, Text};
 
 /// A query as it is written (QVT 1.3, section 7.11.1.4).
-#[derive(Debug, Drop, PartialEq, Eq, PartialOrd, Ord, Hash)]
+#[derive(Drop)]
 pub struct QueryTree {
     pub name: Name,
     pub params: Seq<ParamTree>,
@@ -15,14 +15,14 @@ pub struct QueryTree {
 }
 
 /// A parameter of a query as it is written.
-#[derive(Debug, Drop, PartialEq, Eq, PartialOrd, Ord, Hash)]
+#[derive(Drop)]
 pub struct ParamTree {
     pub name: Name,
     pub ty: TypeTree,
 }
 
 /// A query with its types. In its body the parameters are the first variables.
-#[derive(Debug, Drop, PartialEq, Eq, PartialOrd, Ord, Hash)]
+#[derive(Drop)]
 pub struct Query {
     pub name: Text,
     pub params: Seq<Ty>,
@@ -31,7 +31,7 @@ pub struct Query {
 }
 
 /// A model of a transformation (QVT 1.3, section 7.11.1.2), and the number of its metamodel.
-#[derive(Debug, Drop, PartialEq, Eq, PartialOrd, Ord, Hash)]
+#[derive(Drop)]
 pub struct ModelSlot {
     pub name: Text,
     pub meta: u32,

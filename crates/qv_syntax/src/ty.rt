@@ -5,7 +5,7 @@ use mof_metamodel::{Boxed, ClassId, EnumId, NoMemory};
 use std::alloc::Global;
 
 /// A type (OCL 2.4, section 11). Enumerations and classes go by the number of their metamodel and their own.
-#[derive(Debug, Drop, PartialEq, Eq, PartialOrd, Ord, Hash)]
+#[derive(Drop)]
 pub enum Ty {
     /// `String`
     Str,
@@ -77,32 +77,5 @@ impl Ty {
             (Ty::Null, Ty::Null) => true,
             _ => false,
         }
-    }
-}
-
-#[cfg(test)]
-mod tests {
-    use super::*;
-    use std::test::Fail;
-
-    fn set(alloc: Global, of: Ty) -> Result<Ty, NoMemory> {
-        Ok(Ty::Coll(Kind::Set, Boxed::new(alloc, of)?))
-    }
-
-    #[test]
-    fn types_are_told_apart(rt: HostRuntime) -> Result<(), Fail> {
-        let a = set(rt.alloc(), Ty::Class(0, ClassId(1)))?;
-        let b = set(rt.alloc(), Ty::Class(1, ClassId(1)))?;
-        let bag = Ty::Coll(Kind::Bag, Boxed::new(rt.alloc(), Ty::Class(0, ClassId(1)))?);
-        assert!(rt; a.same(&a.duplicate(rt.alloc())?));
-        assert!(rt; !a.same(&b));
-        assert!(rt; !a.same(&bag));
-        assert!(rt; Ty::Enum(0, EnumId(2)).same(&Ty::Enum(0, EnumId(2))));
-        assert!(rt; !Ty::Enum(0, EnumId(2)).same(&Ty::Class(0, ClassId(2))));
-        for ty in [Ty::Str, Ty::Int, Ty::Bool, Ty::Null] {
-            assert!(rt; ty.same(&ty.duplicate(rt.alloc())?));
-            assert!(rt; !ty.same(&a));
-        }
-        Ok(())
     }
 }

@@ -2,7 +2,7 @@ use crate::name::Path;
 use mof_metamodel::{Boxed, Span};
 
 /// A kind of collection (OCL 2.4, section 11.6).
-#[derive(Clone, Copy, Debug, PartialEq, Eq, PartialOrd, Ord, Hash)]
+#[derive(Clone, Copy, PartialEq, Eq)]
 pub enum Kind {
     Set,
     Bag,
@@ -11,7 +11,7 @@ pub enum Kind {
 }
 
 /// A type as it is written.
-#[derive(Debug, Drop, PartialEq, Eq, PartialOrd, Ord, Hash)]
+#[derive(Drop)]
 pub enum TypeTree {
     /// `String`
     Str {

@@ -8,7 +8,7 @@ use mof_metamodel::{Boxed, ClassId, EnumId, PropId, Seq};
 /// An expression with its type. Each part has its own, and names are numbers: variables by the order in which they came
 /// into reach, models, metamodels and queries by their places. What is written as a chain is one node with a list, as in
 /// `Expr`. Parentheses are gone.
-#[derive(Debug, Drop, PartialEq, Eq, PartialOrd, Ord, Hash)]
+#[derive(Drop)]
 #[cycle(typed)]
 pub struct Typed {
     pub ty: Ty,
@@ -16,7 +16,7 @@ pub struct Typed {
 }
 
 /// What an expression is made of.
-#[derive(Debug, Drop, PartialEq, Eq, PartialOrd, Ord, Hash)]
+#[derive(Drop)]
 #[cycle(typed)]
 pub enum Node {
     /// An Integer.
@@ -54,7 +54,7 @@ pub enum Node {
     /// A part and the operators behind it, of one level, at least one.
     Chain {
         first: Boxed<Typed>,
-        rest: Seq<TypedLink>,
+        rest: Seq<TypedInfix>,
     },
     /// `not operand`
     Not {
@@ -67,7 +67,7 @@ pub enum Node {
     /// A part and what is called on it, at least one call.
     Calls {
         of: Boxed<Typed>,
-        steps: Seq<TypedStep>,
+        calls: Seq<TypedPostfix>,
     },
     /// `if condition then one else other endif`
     If {
@@ -92,27 +92,27 @@ pub enum Node {
     },
 }
 
-/// An operator, the part behind it, and the type of the chain up to there.
-#[derive(Debug, Drop, PartialEq, Eq, PartialOrd, Ord, Hash)]
+/// An infix operator with the operand behind it, and the type of the chain up to there.
+#[derive(Drop)]
 #[cycle(typed)]
-pub struct TypedLink {
+pub struct TypedInfix {
     pub operator: Operator,
     pub right: Typed,
     pub ty: Ty,
 }
 
-/// What is called on the part before it, and the type of the result.
-#[derive(Debug, Drop, PartialEq, Eq, PartialOrd, Ord, Hash)]
+/// A call behind `.` or `->`, on what stands before it, and the type of the result.
+#[derive(Drop)]
 #[cycle(typed)]
-pub struct TypedStep {
-    pub call: StepCall,
+pub struct TypedPostfix {
+    pub call: Call,
     pub ty: Ty,
 }
 
-/// What is called on a value.
-#[derive(Debug, Drop, PartialEq, Eq, PartialOrd, Ord, Hash)]
+/// What is called: a property, an operation or an iterator.
+#[derive(Drop)]
 #[cycle(typed)]
-pub enum StepCall {
+pub enum Call {
     /// A property of an object.
     Property {
         prop: PropId,
@@ -147,7 +147,7 @@ pub enum StepCall {
 }
 
 /// What navigation to a property gives (OCL 2.4, section 7.5.3).
-#[derive(Clone, Copy, Debug, PartialEq, Eq, PartialOrd, Ord, Hash)]
+#[derive(Clone, Copy, Debug, PartialEq, Eq)]
 pub enum Values {
     /// One value, or null.
     Single,

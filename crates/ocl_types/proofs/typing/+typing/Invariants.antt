@@ -14,6 +14,6 @@ invariant-type_links-loop-link l = (l.scope ≡ l.fn.scope)
     × (chained_from (in_reach l.fn.scope) l.reached (map operated_by (drop l.link-index l.links))
     ≡ chained_from (in_reach l.fn.scope) l.fn.chain (map operated_by l.links))
 
-abbrev pub invariant-type_steps-loop-step : goal.invariant-type_steps-loop-step
-invariant-type_steps-loop-step l = (l.scope ≡ l.fn.scope)
-    × (called_from (in_reach l.fn.scope) l.reached (map calling (drop l.step-index l.steps)) ≡ called_from (in_reach l.fn.scope) l.fn.called (map calling l.steps))
+abbrev pub invariant-type_postfixes-loop-call : goal.invariant-type_postfixes-loop-call
+invariant-type_postfixes-loop-call l = (l.scope ≡ l.fn.scope)
+    × (called_from (in_reach l.fn.scope) l.reached (map calling (drop l.call-index l.calls)) ≡ called_from (in_reach l.fn.scope) l.fn.called (map calling l.calls))

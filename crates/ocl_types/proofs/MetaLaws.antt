@@ -1,0 +1,16 @@
+-- Metamodels one more.
+use Rattle.std.proofs.Common.{◌≡◌, ◌<◌, List, [], ◌∷◌, ◌++◌, Result, Ok, Err, length, length-append, sym, subst, arith}
+use Rattle.std.specs.Prelude.{OnOk, OnErr}
+use Rattle.std.proofs.lemmas.List.Elements.{All-push}
+use Rattle.mof_metamodel.specs.declared.desc.MetaDesc.{MetaDesc}
+use Rattle.mof_metamodel.specs.MetaFaults.{WellMeta}
+use Rattle.ocl_types.specs.Environments.{AreInOrder, most}
+
+-- with one in which no fault stands, or as they were, they stand in order
+pub pushed : {X E : Type 0} (r : Result X E) (metas after : List MetaDesc) (meta : MetaDesc) → AreInOrder metas → length metas < most → WellMeta meta
+    → OnOk r (after ≡ metas ++ meta ∷ []) → OnErr r (after ≡ metas) → AreInOrder after
+pushed (Ok x) metas after meta order few one ok err = subst AreInOrder (sym ok) (record {
+  few = omega (arith, few, length-append metas (meta ∷ []));
+  well = All-push WellMeta metas meta order.well one;
+})
+pushed (Err e) metas after meta order few one ok err = subst AreInOrder (sym err) order

@@ -1,0 +1,10 @@
+use Rattle.std.proofs.Common.{◌∙◌, sym, arith}
+use Rattle.std.specs.Str.{bytes_eq}
+use Rattle.ocl_types.specs.Operations.{collection_row}
+use Rattle.ocl_types.proofs.FirstLaws.{found_behind}
+use Rattle.ocl_types.proofs.collection_operations.+first_operation.Goals as goal
+
+pub returns-else-is_operation : goal.returns-else-is_operation
+returns-else-is_operation t c =
+    found_behind c.first_operation.result (λ o. bytes_eq c.args.name.now (collection_row o).name) c.args.operations.now _ (omega arith)
+    (sym c.is_operation.ensures ∙ c.if-is_operation.false) c.first_operation.ensures
