@@ -25,6 +25,18 @@ impl Pen {
         }
     }
 
+    /// Writes a piece on one line: a control character and `%` as `%` and two hexadecimal digits.
+    pub fn put_on_line(&mut self, alloc: Global, piece: &str) {
+        for c in piece.chars() {
+            if c < ' ' || c == '%' || c == '\u{7f}' {
+                let code = u32::from(c);
+                self.put_string(&format!(in alloc; "%{code:02x}"));
+            } else if self.text.push(c).is_err() {
+                self.is_whole = false;
+            }
+        }
+    }
+
     /// Writes what was made, if it was.
     pub fn put_text(&mut self, made: &Result<Text, NoMemory>) {
         match made {

@@ -29,28 +29,23 @@ pub fn kind_word(kind: Kind) -> &'static str {
     }
 }
 
-/// Whether a text has the words of a pattern, in which `*` stands for any word.
-fn fits(pattern: &str, text: &str) -> bool {
-    let mut words = text.split(' ');
-    for wanted in pattern.split(' ') {
-        match words.next() {
-            Some(word) => {
-                if wanted != "*" && wanted != word {
-                    return false;
-                }
-            }
-            None => return false,
-        }
+/// The kind of collection of a word.
+pub fn kind_named(word: &str) -> Option<Kind> {
+    match word {
+        "Set" => Some(Kind::Set),
+        "Bag" => Some(Kind::Bag),
+        "Sequence" => Some(Kind::Sequence),
+        "OrderedSet" => Some(Kind::OrderedSet),
+        _ => None,
     }
-    words.next().is_none()
 }
 
-/// Whether a text fits one of several patterns, which are parted by ` / `.
-pub fn answers(patterns: &str, text: &str) -> bool {
-    for pattern in patterns.split(" / ") {
-        if fits(pattern, text) {
-            return true;
-        }
-    }
-    false
+/// A Boolean as it is written.
+pub fn bool_word(value: bool) -> &'static str {
+    if value { "true" } else { "false" }
+}
+
+/// A yes or a no.
+pub fn yes_or_no(holds: bool) -> &'static str {
+    if holds { "yes" } else { "no" }
 }

@@ -1,0 +1,126 @@
+//! Answers on types by their names.
+use crate::faults::put_type_fault;
+use crate::pen::Pen;
+use crate::type_names::{Refused, meta_named, type_named};
+use crate::words::yes_or_no;
+use mof_metamodel::{NoMemory, Seq, Span, Text};
+use ocl_types::{Env, Metas, type_text, written_type};
+use qv_syntax::{Literal, Name, Path, Ty, TypeTree, Values};
+use std::alloc::Global;
+use std::str;
+
+/// A path of the names that `::` parts.
+fn path(alloc: Global, text: &str) -> Result<Path, NoMemory> {
+    let span = Span { start: 0, end: 0 };
+    let mut names = Seq::new(alloc);
+    for name in text.split("::") {
+        let text = Text::new(alloc, name)?;
+        names.push(Name { text, span })?;
+    }
+    Ok(Path { names, span })
+}
+
+/// The type that a path names as a written type.
+pub fn put_path(alloc: Global, pen: &mut Pen, metas: &Metas, env: &Env<'_>, text: &str) {
+    match path(alloc, text) {
+        Ok(path) => put_written(alloc, pen, metas, env, &TypeTree::Named { path }),
+        Err(_) => pen.put("no memory"),
+    }
+}
+
+fn put_written(alloc: Global, pen: &mut Pen, metas: &Metas, env: &Env<'_>, tree: &TypeTree) {
+    let ty = written_type(alloc, env, tree);
+    match &ty {
+        Ok(ty) => pen.put_text(&type_text(alloc, metas, ty)),
+        Err(error) => put_type_fault(pen, error),
+    }
+}
+
+/// A type as it is printed.
+pub fn put_type_text(alloc: Global, pen: &mut Pen, metas: &Metas, text: &str) {
+    match type_named(alloc, metas, text) {
+        Ok(ty) => pen.put_text(&type_text(alloc, metas, &ty)),
+        Err(_) => pen.put("refused"),
+    }
+}
+
+/// The two types that a text names, with `, ` between them.
+fn two_types(alloc: Global, metas: &Metas, text: &str) -> Result<(Ty, Ty), Refused> {
+    let (one, other) = text.split_once(", ").ok_or(Refused)?;
+    Ok((
+        type_named(alloc, metas, one)?,
+        type_named(alloc, metas, other)?,
+    ))
+}
+
+/// Whether two types are one.
+pub fn put_same(alloc: Global, pen: &mut Pen, metas: &Metas, text: &str) {
+    match two_types(alloc, metas, text) {
+        Ok((a, b)) => pen.put(yes_or_no(a.same(&b))),
+        Err(_) => pen.put("refused"),
+    }
+}
+
+/// Whether a type conforms to another.
+pub fn put_conforms(alloc: Global, pen: &mut Pen, metas: &Metas, text: &str) {
+    match two_types(alloc, metas, text) {
+        Ok((a, b)) => pen.put(yes_or_no(metas.conforms(&a, &b))),
+        Err(_) => pen.put("refused"),
+    }
+}
+
+/// That of two types to which both conform.
+pub fn put_upper(alloc: Global, pen: &mut Pen, metas: &Metas, text: &str) {
+    match two_types(alloc, metas, text) {
+        Ok((a, b)) => put_upper_of(alloc, pen, metas, &a, &b),
+        Err(_) => pen.put("refused"),
+    }
+}
+
+fn put_upper_of(alloc: Global, pen: &mut Pen, metas: &Metas, a: &Ty, b: &Ty) {
+    match metas.upper_type(alloc, a, b) {
+        Ok(Some(ty)) => pen.put_text(&type_text(alloc, metas, &ty)),
+        Ok(None) => pen.put("none"),
+        Err(_) => pen.put("no memory"),
+    }
+}
+
+/// What navigation to the property of a text `M::C.name` gives.
+fn values_named(metas: &Metas, text: &str) -> Option<Values> {
+    let (class, name) = text.split_once('.')?;
+    let (meta, class) = class.split_once("::")?;
+    let number = meta_named(metas, meta)?;
+    if number >= metas.len() {
+        return None;
+    }
+    let meta = metas.get(number);
+    let class = meta.class_named(class)?;
+    let prop = meta.prop_of(class, name)?;
+    Some(metas.values(number, prop))
+}
+
+/// What navigation to a property gives.
+pub fn put_values(pen: &mut Pen, metas: &Metas, text: &str) {
+    match values_named(metas, text) {
+        Some(Values::Single) => pen.put("Single"),
+        Some(Values::Set) => pen.put("Set"),
+        Some(Values::OrderedSet) => pen.put("OrderedSet"),
+        None => pen.put("none"),
+    }
+}
+
+/// Whether a text may be the value of a String.
+pub fn put_storable(alloc: Global, pen: &mut Pen, bytes: &[u8]) {
+    match str::from_utf8(bytes) {
+        Ok(text) => pen.put(yes_or_no(is_literal(alloc, text))),
+        Err(_) => pen.put("no text"),
+    }
+}
+
+/// Whether a literal can be made of a text, and is copied with it.
+fn is_literal(alloc: Global, text: &str) -> bool {
+    match Text::new(alloc, text) {
+        Ok(text) => Literal::new(text).is_some(),
+        Err(_) => false,
+    }
+}
