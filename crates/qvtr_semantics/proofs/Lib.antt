@@ -1,0 +1,4 @@
+pub mod Examples
+pub mod TemplateLaws
+pub mod ExpressionLaws
+pub mod Rows

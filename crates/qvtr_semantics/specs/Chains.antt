@@ -1,0 +1,77 @@
+-- Which relations a check comes to, and the chains of calls in where clauses (QVT 1.3, section 7.10.2; that chains which come back to
+-- a call or grow too long are refused is this engine's own).
+use Rattle.std.specs.Prelude.{◌≡◌, ◌≢◌, ◌⊎◌, ℕ, suc, List, [], ◌∷◌, ◌++◌, length, Option, None, Some, slice_get, Contains, AllPairs}
+use Rattle.mof_metamodel.specs.declared.limits.TheConstants.{MAX_CALLS}
+use Rattle.object_tables.specs.Models.{ModelData}
+use Rattle.qv_syntax.specs.declared.program.Program.{Program}
+use Rattle.qv_syntax.specs.declared.program.Rel.{Rel}
+use Rattle.qvtr_semantics.specs.Templates.{Values}
+use Rattle.qvtr_semantics.specs.Bindings.{Source, Target}
+use Rattle.qvtr_semantics.specs.Calls.{RelationCall, SourceMatches, Match, calls_of, free}
+use Rattle.qvtr_semantics.specs.Satisfaction.{IsTop}
+
+-- a binding that meets the source of a relation with these roots makes the call in its when clause
+pub record AsksWhen (program : Program) (models : List ModelData) (from to : RelationCall) : Type 0 where
+  pub rel : Rel
+  pub is : slice_get program.rels from.rel ≡ Some rel
+  pub binding : Values
+  pub source : Source program models rel from.roots binding
+  pub asks : Contains (calls_of program models binding rel.whens) (Some to)
+
+-- a binding that meets the source, whose calls match, and a partner that meets the target make the call in their where clause
+pub record CallsWhere (program : Program) (models : List ModelData) (from to : RelationCall) : Type 0 where
+  pub rel : Rel
+  pub is : slice_get program.rels from.rel ≡ Some rel
+  pub binding : Values
+  pub source : SourceMatches (Match program models) program models rel from.roots binding
+  pub partner : Values
+  pub target : Target program models rel binding partner
+  pub calls : Contains (calls_of program models partner rel.wheres) (Some to)
+
+-- how a relation is come to: as a top relation with free roots, as a match, or by a call in a where clause
+pub data Role : Type 0 where
+  as_top : Role
+  as_match : Role
+  as_called : Role
+
+pub data Reached (program : Program) (models : List ModelData) : Role → RelationCall → Type 0 where
+  top : (number : ℕ) (rel : Rel) → IsTop program number rel → Reached program models as_top (record { rel = number; roots = free rel })
+  by_when : (role : Role) (from to : RelationCall) → Reached program models role from → AsksWhen program models from to → Reached program models as_match to
+  by_where : (role : Role) (from to : RelationCall) → Reached program models role from → CallsWhere program models from to → Reached program models as_called to
+
+-- a call at the begin of a chain: by a top relation, or by one that was asked for a match
+pub record Begins (program : Program) (models : List ModelData) (to : RelationCall) : Type 0 where
+  pub from : RelationCall
+  pub begins : Reached program models as_top from ⊎ Reached program models as_match from
+  pub calls : CallsWhere program models from to
+
+-- each call is made by the one before it
+abbrev pub GoesOn : Program → List ModelData → RelationCall → List RelationCall → Type 0
+GoesOn program models from [] = Unit {0}
+GoesOn program models from (to ∷ more) = CallsWhere program models from to × GoesOn program models to more
+
+-- a list of calls in where clauses
+abbrev pub Chain : Program → List ModelData → List RelationCall → Type 0
+Chain program models [] = ⊥
+Chain program models (first ∷ more) = Begins program models first × GoesOn program models first more
+
+-- the last call is one of the earlier ones, which are distinct
+pub record IsCyclic (chain : List RelationCall) : Type 0 where
+  pub before : List RelationCall
+  pub last : RelationCall
+  pub is : chain ≡ before ++ last ∷ []
+  pub distinct : AllPairs (λ c d. c ≢ d) before
+  pub repeat : Contains before last
+
+-- there is one call more than a chain may have, without a repeat
+pub record IsDeep (chain : List RelationCall) : Type 0 where
+  pub calls : length chain ≡ suc MAX_CALLS
+  pub distinct : AllPairs (λ c d. c ≢ d) chain
+
+pub record CyclicChain (program : Program) (models : List ModelData) (chain : List RelationCall) : Type 0 where
+  pub reached : Chain program models chain
+  pub cyclic : IsCyclic chain
+
+pub record DeepChain (program : Program) (models : List ModelData) (chain : List RelationCall) : Type 0 where
+  pub reached : Chain program models chain
+  pub deep : IsDeep chain

@@ -1,0 +1,15 @@
+pub mod Data
+pub mod Outs
+pub mod Integers
+pub mod Strings
+pub mod Truth
+pub mod Equality
+pub mod Collections
+pub mod Iterators
+pub mod Objects
+pub mod Expressions
+pub mod Templates
+pub mod Bindings
+pub mod Calls
+pub mod Satisfaction
+pub mod Chains

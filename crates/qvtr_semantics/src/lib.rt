@@ -1,0 +1,11 @@
+//! The meaning of scripts: the values of expressions (OCL 2.4, chapter 11), what a template asks, and when relations hold
+//! (QVT 1.3, chapter 7). The definitions stand in `specs/`, over models as lists and sets; here are the types of their values.
+#![tactic(auto)]
+
+mod binding;
+mod datum;
+mod out;
+
+pub use binding::Binding;
+pub use datum::Datum;
+pub use out::Out;
