@@ -2,18 +2,18 @@
 use Rattle.std.proofs.Common.{◌≡◌, ℕ, Bool, true, false, cond, List, [], ◌∷◌, ◌++◌, refl, sym, ◌∙◌, ap, subst, Some, None}
 use Rattle.std.specs.List.{list_all, AllByRecursion}
 use Rattle.std.specs.FinMap.{get}
-use Rattle.qvtr_engine.specs.declared.status.Status.{Status}
-use Rattle.qvtr_engine.specs.declared.status.Status.TheVariants.{Done, No, Usage, Fault, Refused, Conflict, Unmet, Chain, Invalid, Limit, NoMemory, NotEnforceable}
-use Rattle.qvtr_engine.specs.Names.{same, is_letter_or_digit}
+use Rattle.qvtr_engine.specs.declared.outcome.Refusal.TheVariants.{Thin}
+use Rattle.qvtr_engine.specs.Names.{is_letter_or_digit}
 use Rattle.qvtr_engine.specs.Command.{Words, IsCommand, IsUsage}
 use Rattle.qvtr_engine.specs.ThinScript.{Names, IsThinScript, FitsWords}
 use Rattle.qvtr_engine.specs.ThinModel.{ThinObject, IsThinModel}
 use Rattle.qvtr_engine.specs.Verdict.{failing}
+use Rattle.qvtr_engine.specs.Reply.{Reply, misused, unread, refused, holds, fails}
 use Rattle.qvtr_engine.specs.Reading.{◌>>=◌, when_true, command_of}
 use Rattle.qvtr_engine.specs.ReadScript.{script_of}
 use Rattle.qvtr_engine.specs.ReadModel.{model_of}
-use Rattle.qvtr_engine.specs.Answer.{Files, ModelFile, source_file, target_file, model_files, comes_first, HasFile, ReadsScript, ReadsModel, IsRead, Answer, usage, script_missing, script_refused, model_missing, model_refused, yes, no, fault_text, refused_text}
-use Rattle.qvtr_engine.specs.Judging.{least, Reply, reply_of, verdict_on, after_objects, after_file, after_model, after_script, fits, fitting, after_names, after_bytes, judged, after_words, expected}
+use Rattle.qvtr_engine.specs.Answer.{Files, ModelFile, source_file, target_file, model_files, comes_first, HasFile, ReadsScript, ReadsModel, IsRead, Answer, usage, script_missing, script_refused, model_missing, model_refused, yes, no}
+use Rattle.qvtr_engine.specs.Judging.{least, reply_of, verdict_on, after_objects, after_file, after_model, after_script, fits, fitting, after_names, after_bytes, judged, after_words, expected}
 use Rattle.qvtr_engine.proofs.ReadingLaws.{bind_some, when_some, when_holds, and_some, both_true, same_is, same_holds}
 use Rattle.qvtr_engine.proofs.CommandLaws.{command_found, command_again}
 use Rattle.qvtr_engine.proofs.ScriptLaws.{script_found, script_again, names_words}
@@ -48,27 +48,24 @@ record HasWords (f : ModelFile) : Type 0 where
   class : is_word f.class ≡ true
   property : is_word f.property ≡ true
 
-abbrev Owed : List (List ℕ) → Files → Reply → Type 0
-Owed words files r = Answer words files r.0 r.1
-
 module _ (words : List (List ℕ)) (files : Files) (w : Words) (command : IsCommand words w) (n : Names) (script : ReadsScript files w n) where
   -- a step to a model file, and then more
   step_found : (before behind : List ModelFile) (f : ModelFile) → model_files w n ≡ before ++ f ∷ behind → AllByRecursion (IsRead files) before → HasWords f
-      → (more : List ThinObject → Reply) → ((objects : List ThinObject) → ReadsModel files f objects → Owed words files (more objects)) → Owed words files (after_model files f more)
+      → (more : List ThinObject → Reply) → ((objects : List ThinObject) → ReadsModel files f objects → Answer words files (more objects)) → Answer words files (after_model files f more)
   step_found before behind f stands all_read are more go =
-      elim (get files f.path) as (λ o. get files f.path ≡ o → Owed words files (after_file f more o)) [
+      elim (get files f.path) as (λ o. get files f.path ≡ o → Answer words files (after_file f more o)) [
         | None ↦ λ e. model_missing w command n script before behind f stands all_read e
         | Some bytes ↦ λ e.
-            elim (model_of f.class f.property bytes) as (λ o. model_of f.class f.property bytes ≡ o → Owed words files (after_objects f more o)) [
+            elim (model_of f.class f.property bytes) as (λ o. model_of f.class f.property bytes ≡ o → Answer words files (after_objects f more o)) [
               | None ↦ λ m. model_refused w command n script before behind f stands all_read bytes e
                   (λ objects s. none_some objects (sym m ∙ model_again f.class f.property bytes objects are.class are.property s))
               | Some objects ↦ λ m. go objects (bytes, e, model_found f.class f.property bytes objects m)
             ] refl
       ] refl
 
-  verdict_found : (sources targets : List ThinObject) → ReadsModel files (source_file w n) sources → ReadsModel files (target_file w n) targets → Owed words files (verdict_on n sources targets)
+  verdict_found : (sources targets : List ThinObject) → ReadsModel files (source_file w n) sources → ReadsModel files (target_file w n) targets → Answer words files (verdict_on n sources targets)
   verdict_found sources targets s t =
-      elim (least (failing sources targets)) as (λ o. least (failing sources targets) ≡ o → Owed words files (reply_of n o)) [
+      elim (least (failing sources targets)) as (λ o. least (failing sources targets) ≡ o → Answer words files (reply_of n o)) [
         | None ↦ λ e. yes w command n script sources targets s t (least_none (failing sources targets) e)
         | Some o ↦ λ e. no w command n script sources targets s t o (least_some (failing sources targets) o e)
       ] refl
@@ -79,11 +76,11 @@ source_words files w n s = let a = names_words n s.2.thin in record { class = a.
 target_words : (files : Files) (w : Words) (n : Names) → ReadsScript files w n → HasWords (target_file w n)
 target_words files w n s = let a = names_words n s.2.thin in record { class = a.target_class; property = a.target_property }
 
-models_found : (words : List (List ℕ)) (files : Files) (w : Words) → IsCommand words w → (n : Names) → ReadsScript files w n → Owed words files (after_script files w n)
+models_found : (words : List (List ℕ)) (files : Files) (w : Words) → IsCommand words w → (n : Names) → ReadsScript files w n → Answer words files (after_script files w n)
 models_found words files w c n s =
     let source = source_file w n in let target = target_file w n in
     elim (comes_first w.files n.source_model n.target_model) as (λ b. comes_first w.files n.source_model n.target_model ≡ b
-    → Owed words files (cond b
+    → Answer words files (cond b
     (after_model files source (λ xs. after_model files target (λ ys. verdict_on n xs ys)))
     (after_model files target (λ ys. after_model files source (λ xs. verdict_on n xs ys))))) [
       | true ↦ λ e.
@@ -98,21 +95,21 @@ models_found words files w c n s =
           (λ xs rx. verdict_found words files w c n s xs ys rx ry))
     ] refl
 
-command_reply : (words : List (List ℕ)) (files : Files) (w : Words) → IsCommand words w → Owed words files (judged files w)
+command_reply : (words : List (List ℕ)) (files : Files) (w : Words) → IsCommand words w → Answer words files (judged files w)
 command_reply words files w c =
-    elim (get files w.script) as (λ o. get files w.script ≡ o → Owed words files (after_bytes files w o)) [
+    elim (get files w.script) as (λ o. get files w.script ≡ o → Answer words files (after_bytes files w o)) [
       | None ↦ λ e. script_missing w c e
       | Some bytes ↦ λ e.
-          elim (fitting w bytes) as (λ o. fitting w bytes ≡ o → Owed words files (after_names files w o)) [
+          elim (fitting w bytes) as (λ o. fitting w bytes ≡ o → Answer words files (after_names files w o)) [
             | None ↦ λ f. script_refused w c bytes e (λ n both. none_some n (sym f ∙ fitting_again w bytes n both.0 both.1))
             | Some n ↦ λ f. let both = fitting_found w bytes n f in models_found words files w c n (bytes, e, both.0, both.1)
           ] refl
     ] refl
 
 -- the reply is owed
-pub answer_found : (words : List (List ℕ)) (files : Files) → Answer words files (expected words files).0 (expected words files).1
+pub answer_found : (words : List (List ℕ)) (files : Files) → Answer words files (expected words files)
 answer_found words files =
-    elim (command_of words) as (λ o. command_of words ≡ o → Owed words files (after_words files o)) [
+    elim (command_of words) as (λ o. command_of words ≡ o → Answer words files (after_words files o)) [
       | None ↦ λ e. usage (λ w c. none_some w (sym e ∙ command_again words w c))
       | Some w ↦ λ e. command_reply words files w (command_found words w e)
     ] refl
@@ -124,7 +121,7 @@ script_reply files w n s = ap (after_bytes files w) s.1 ∙ ap (after_names file
 model_reply : (files : Files) (f : ModelFile) (objects : List ThinObject) (more : List ThinObject → Reply) → HasWords f → ReadsModel files f objects → after_model files f more ≡ more objects
 model_reply files f objects more are r = ap (after_file f more) r.1 ∙ ap (after_objects f more) (model_again f.class f.property r.0 objects are.class are.property r.2)
 
-missing_reply : (files : Files) (f : ModelFile) (more : List ThinObject → Reply) → get files f.path ≡ None → after_model files f more ≡ (Fault, fault_text f.path)
+missing_reply : (files : Files) (f : ModelFile) (more : List ThinObject → Reply) → get files f.path ≡ None → after_model files f more ≡ unread f.path
 missing_reply files f more e = ap (after_file f more) e
 
 -- a reading would be a thin model
@@ -136,7 +133,7 @@ no_model class property bytes never =
     ] refl
 
 refused_reply : (files : Files) (f : ModelFile) (bytes : List ℕ) (more : List ThinObject → Reply) → HasFile files f.path bytes
-    → ((objects : List ThinObject) → IsThinModel f.class f.property bytes objects → ⊥) → after_model files f more ≡ (Refused, refused_text f.path)
+    → ((objects : List ThinObject) → IsThinModel f.class f.property bytes objects → ⊥) → after_model files f more ≡ refused f.path Thin
 refused_reply files f bytes more e never = ap (after_file f more) e ∙ ap (after_objects f more) (no_model f.class f.property bytes never)
 
 no_script : (w : Words) (bytes : List ℕ) → ((n : Names) → IsThinScript bytes n × FitsWords w n → ⊥) → fitting w bytes ≡ None
@@ -218,23 +215,20 @@ pub of_command : (words : List (List ℕ)) (files : Files) (w : Words) → IsCom
 of_command words files w c = ap (after_words files) (command_again words w c)
 
 -- there is no other answer
-pub answer_only : (words : List (List ℕ)) (files : Files) (status : Status) (text : List ℕ) → Answer words files status text → expected words files ≡ (status, text)
-answer_only words files Usage text (usage never) = ap (after_words files) (no_command words never)
-answer_only words files Fault text (script_missing w c e) = of_command words files w c ∙ ap (after_bytes files w) e
-answer_only words files Refused text (script_refused w c bytes e never) =
+pub answer_only : (words : List (List ℕ)) (files : Files) (reply : Reply) → Answer words files reply → expected words files ≡ reply
+answer_only words files misused (usage never) = ap (after_words files) (no_command words never)
+answer_only words files (unread path) (script_missing w c e) = of_command words files w c ∙ ap (after_bytes files w) e
+answer_only words files (refused path refusal) (script_refused w c bytes e never) =
     of_command words files w c ∙ ap (after_bytes files w) e ∙ ap (after_names files w) (no_script w bytes never)
-answer_only words files Fault text (model_missing w c n s before behind f stands all_read e) =
+answer_only words files (unread path) (model_missing w c n s before behind f stands all_read e) =
     of_command words files w c ∙ script_reply files w n s ∙ models_stopped files w n s before behind f _ stands all_read (λ more. missing_reply files f more e)
-answer_only words files Refused text (model_refused w c n s before behind f stands all_read bytes e never) =
+answer_only words files (refused path refusal) (model_refused w c n s before behind f stands all_read bytes e never) =
     of_command words files w c ∙ script_reply files w n s ∙ models_stopped files w n s before behind f _ stands all_read (λ more. refused_reply files f bytes more e never)
-answer_only words files Done text (yes w c n s sources targets rx ry none) =
+answer_only words files holds (yes w c n s sources targets rx ry none) =
     of_command words files w c ∙ script_reply files w n s ∙ models_read files w n s sources targets rx ry ∙ ap (reply_of n) (least_empty (failing sources targets) none)
-answer_only words files No text (no w c n s sources targets rx ry o l) =
+answer_only words files (fails c') (no w c n s sources targets rx ry o l) =
     of_command words files w c ∙ script_reply files w n s ∙ models_read files w n s sources targets rx ry ∙ ap (reply_of n) (least_is (failing sources targets) o l)
-answer_only words files Conflict text a = elim a [ ]
-answer_only words files Unmet text a = elim a [ ]
-answer_only words files Chain text a = elim a [ ]
-answer_only words files Invalid text a = elim a [ ]
-answer_only words files Limit text a = elim a [ ]
-answer_only words files NoMemory text a = elim a [ ]
-answer_only words files NotEnforceable text a = elim a [ ]
+
+-- two answers are one
+pub answer_single : (words : List (List ℕ)) (files : Files) (reply other : Reply) → Answer words files reply → Answer words files other → reply ≡ other
+answer_single words files reply other a b = sym (answer_only words files reply a) ∙ answer_only words files other b

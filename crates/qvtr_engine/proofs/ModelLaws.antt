@@ -6,7 +6,8 @@ use Rattle.std.specs.Option.{option_map}
 use Rattle.std.proofs.lemmas.Bool.{leb-true}
 use Rattle.std.proofs.Math.Dec.{eqb-suc-zero}
 use Rattle.qvtr_engine.specs.Template.{spelled}
-use Rattle.qvtr_engine.specs.Names.{same, is_letter_or_digit, is_thin_name, are_distinct, is_among}
+use Rattle.mof_metamodel.specs.Metamodels.{same_name}
+use Rattle.qvtr_engine.specs.Names.{is_letter_or_digit, is_thin_name, are_distinct, is_among}
 use Rattle.qvtr_engine.specs.ThinModel.{ThinObject, object_text, model_text, IsThinModel}
 use Rattle.qvtr_engine.specs.Reading.{◌>>=◌, when_true, behind, name_before, names_before, nth}
 use Rattle.qvtr_engine.specs.ReadModel.{object_texts, object_from, object_at, go_on, objects_at, elements_of, has_identifier, are_numbered, are_named, model_of}
@@ -28,9 +29,6 @@ four (a ∷ b ∷ c ∷ d ∷ e ∷ es) h = absurd (omega (arith, h))
 
 abbrev object_places : List ℕ → List ℕ → ThinObject → List (List ℕ)
 object_places class property o = class ∷ o.identifier ∷ property ∷ o.value ∷ []
-
-object_spelled : (class property : List ℕ) (o : ThinObject) → object_text class property o ≡ codes "<" ++ spelled object_texts (object_places class property o)
-object_spelled class property o = refl
 
 pub object_found : (class property bytes : List ℕ) (o : ThinObject) (rest : List ℕ) → object_at class property bytes ≡ Some (o, rest)
     → (bytes ≡ object_text class property o ++ rest) × (is_word o.value ≡ true)
@@ -58,7 +56,7 @@ pub object_again : (class property : List ℕ) (o : ThinObject) (rest : List ℕ
     → object_at class property (object_text class property o ++ rest) ≡ Some (o, rest)
 unfolding object_at
 object_again class property o rest c p i v =
-    let accepted : List (List ℕ) × List ℕ → Option (ThinObject × List ℕ) = λ read. when_true (same (nth read.0 0) class && same (nth read.0 2) property) (object_from read.0, read.1) in
+    let accepted : List (List ℕ) × List ℕ → Option (ThinObject × List ℕ) = λ read. when_true (same_name (nth read.0 0) class && same_name (nth read.0 2) property) (object_from read.0, read.1) in
     let words : list_all is_word (object_places class property o) ≡ true = both_true _ _ c (both_true _ _ i (both_true _ _ p (both_true _ _ v refl))) in
     ap (λ x. x >>= λ r. names_before object_texts r >>= accepted) (behind_again (codes "<") (spelled object_texts (object_places class property o) ++ rest))
     ∙ ap (λ x. x >>= accepted) (names_before_again object_texts (object_places class property o) rest refl refl words)
@@ -168,7 +166,7 @@ elements_again class property o os c p i v =
 -- the identifiers are distinct exactly where none stands twice
 numbered_same : (name : List ℕ) (os : List ThinObject) → has_identifier name os ≡ is_among (map (λ o. o.identifier) os) name
 numbered_same name [] = refl
-numbered_same name (o ∷ os) = ap (λ b. same name o.identifier || b) (numbered_same name os)
+numbered_same name (o ∷ os) = ap (λ b. same_name name o.identifier || b) (numbered_same name os)
 
 numbered_distinct : (os : List ThinObject) → are_numbered os ≡ are_distinct (map (λ o. o.identifier) os)
 numbered_distinct [] = refl
@@ -179,7 +177,7 @@ numbered_distinct (o ∷ os) =
 pub model_found : (class property bytes : List ℕ) (os : List ThinObject) → model_of class property bytes ≡ Some os → IsThinModel class property bytes os
 unfolding model_of
 model_found class property bytes os e =
-    elim (same bytes (codes "<xmi:XMI/>")) as (λ b. same bytes (codes "<xmi:XMI/>") ≡ b
+    elim (same_name bytes (codes "<xmi:XMI/>")) as (λ b. same_name bytes (codes "<xmi:XMI/>") ≡ b
     → cond b (Some []) (elements_of class property bytes >>= λ xs. when_true (nat_le (length bytes) MAX_THIN && are_named xs) xs) ≡ Some os → IsThinModel class property bytes os) [
       | true ↦ λ is e.
           let text : bytes ≡ codes "<xmi:XMI/>" = same_is _ _ is in
@@ -203,7 +201,7 @@ model_again class property bytes [] c p s =
 model_again class property bytes (o ∷ os) c p s =
     let named : list_all has_named (o ∷ os) ≡ true = all_pick (λ x. is_thin_name x.identifier) has_named (λ x h. thin_words x.identifier h) (o ∷ os) s.identifiers in
     let rest : List ThinObject → Option (List ThinObject) = λ xs. when_true (nat_le (length bytes) MAX_THIN && are_named xs) xs in
-    ap (λ b. cond (same b (codes "<xmi:XMI/>")) (Some []) (elements_of class property bytes >>= rest)) s.text
+    ap (λ b. cond (same_name b (codes "<xmi:XMI/>")) (Some []) (elements_of class property bytes >>= rest)) s.text
     ∙ ap (λ b. elements_of class property b >>= rest) s.text
     ∙ ap (λ x. x >>= rest) (elements_again class property o os c p named s.values)
     ∙ when_holds _ _ (both_true _ _ (le_test _ _ s.short) (both_true _ _ s.identifiers (numbered_distinct (o ∷ os) ∙ s.distinct)))

@@ -1,7 +1,7 @@
 -- The steps of a reading, one after another.
 use Rattle.std.proofs.Common.{◌≡◌, ℕ, zero, suc, ◌<◌, List, [], ◌∷◌, ◌++◌, length, refl, sym, ap, ◌∙◌, arith, append_assoc, Option, None, Some}
 use Rattle.std.specs.Option.{option_map}
-use Rattle.qvtr_engine.specs.Names.{same}
+use Rattle.mof_metamodel.specs.Metamodels.{same_name}
 use Rattle.qvtr_engine.specs.ThinModel.{ThinObject}
 use Rattle.qvtr_engine.specs.ReadModel.{object_at, go_on, objects_at}
 use Rattle.std.specs.Prelude.{codes}
@@ -26,7 +26,7 @@ pub script_named : (bytes rest : List ℕ) (read : List (List ℕ) × List ℕ) 
 script_named bytes rest read answer e n a = script_read bytes rest e ∙ ap (λ o. o >>= script_from (length bytes)) n ∙ a
 
 pub objects_end : (most : ℕ) (class property bytes : List ℕ) → 0 < most → object_at class property bytes ≡ None
-    → objects_at most class property bytes ≡ when_true (same bytes (codes "</xmi:XMI>")) []
+    → objects_at most class property bytes ≡ when_true (same_name bytes (codes "</xmi:XMI>")) []
 unfolding objects_at
 objects_end zero class property bytes l e = absurd (omega (arith, l))
 objects_end (suc most) class property bytes l e = ap (go_on (objects_at most class property) bytes) e
@@ -36,10 +36,6 @@ pub objects_more : (most left : ℕ) (class property bytes : List ℕ) (one : Th
 unfolding objects_at
 objects_more most left class property bytes one m e =
     ap (λ n. objects_at n class property bytes) m ∙ ap (go_on (objects_at left class property) bytes) e
-
-pub no_objects_left : (most : ℕ) (class property bytes : List ℕ) → most ≡ 0 → objects_at most class property bytes ≡ None
-unfolding objects_at
-no_objects_left most class property bytes e = ap (λ n. objects_at n class property bytes) e
 
 -- one object more behind those so far
 pub one_more : (os : List ThinObject) (o : ThinObject) (more : Option (List ThinObject))

@@ -6,7 +6,8 @@ use Rattle.std.specs.Prelude.{◌||◌, nat_le, not, ◌&&◌}
 use Rattle.std.specs.List.{list_all, list_any}
 use Rattle.std.specs.Cmp.Lexicographic.{bytes_decides}
 use Rattle.qvtr_engine.specs.Template.{spelled}
-use Rattle.qvtr_engine.specs.Names.{same, is_letter_or_digit, is_thin_name}
+use Rattle.mof_metamodel.specs.Metamodels.{same_name}
+use Rattle.qvtr_engine.specs.Names.{is_letter_or_digit, is_thin_name}
 use Rattle.qvtr_engine.specs.Reading.{◌>>=◌, when_true, behind, word_of, behind_word, name_before, names_before}
 
 -- a step of a reading that went well
@@ -37,10 +38,10 @@ some_same x y e = cc
 regroup : (a b c d : List ℕ) → a ++ (b ++ (c ++ d)) ≡ (a ++ (b ++ c)) ++ d
 regroup a b c d = sym (simp append_assoc)
 
-pub same_is : (xs ys : List ℕ) → same xs ys ≡ true → xs ≡ ys
+pub same_is : (xs ys : List ℕ) → same_name xs ys ≡ true → xs ≡ ys
 same_is xs ys = (bytes_decides xs ys).0
 
-pub same_holds : (xs ys : List ℕ) → xs ≡ ys → same xs ys ≡ true
+pub same_holds : (xs ys : List ℕ) → xs ≡ ys → same_name xs ys ≡ true
 same_holds xs ys = (bytes_decides xs ys).1
 
 -- a text that stands in front

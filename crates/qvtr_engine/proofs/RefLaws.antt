@@ -13,15 +13,16 @@ use Rattle.std.specs.List.{list_any}
 use Rattle.std.proofs.Math.Numerals.{one-add}
 use Rattle.std.proofs.lemmas.List.Sums.{prefix_len-le-length}
 use Rattle.qvtr_engine.specs.Reading.{word_len, word_of, behind_word, nth, behind}
-use Rattle.qvtr_engine.specs.Names.{is_letter_or_digit, same, is_among}
+use Rattle.mof_metamodel.specs.Metamodels.{same_name}
+use Rattle.qvtr_engine.specs.Names.{is_letter_or_digit, is_among}
 
 -- what the references point to
 abbrev pub pointed : List (Bor (List ℕ)) → List (List ℕ)
 pointed ns = map (λ n. n.now) ns
 
-pub among_refs : (name : List ℕ) (ns : List (Bor (List ℕ))) → list_any (λ n. same name n.now) ns ≡ is_among (pointed ns) name
+pub among_refs : (name : List ℕ) (ns : List (Bor (List ℕ))) → list_any (λ n. same_name name n.now) ns ≡ is_among (pointed ns) name
 among_refs name [] = refl
-among_refs name (n ∷ ns) = ap (λ b. same name n.now || b) (among_refs name ns)
+among_refs name (n ∷ ns) = ap (λ b. same_name name n.now || b) (among_refs name ns)
 
 -- the word in front, by its length
 pub word_len_le : (bs : List ℕ) → word_len bs ≤ length bs
@@ -51,7 +52,7 @@ none_not_some : (xs : List ℕ) → None ≡ Some xs → ⊥
 none_not_some xs e = cc
 
 -- a path is the other one followed by `.new` exactly where it is that behind the other one
-pub new_of_some : (path other rest : List ℕ) → behind other path ≡ Some rest → same rest (codes ".new") ≡ is_new_of path other
+pub new_of_some : (path other rest : List ℕ) → behind other path ≡ Some rest → same_name rest (codes ".new") ≡ is_new_of path other
 new_of_some path other rest e =
     let found = behind_found other path rest e in
     both_ways _ _

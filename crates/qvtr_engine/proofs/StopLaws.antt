@@ -4,22 +4,24 @@ use Rattle.std.specs.Prelude.{◌||◌, IfSome, IsSomeAnd}
 use Rattle.std.specs.Cmp.{both_ways}
 use Rattle.std.specs.FinMap.{get}
 use Rattle.vault_io.specs.Counts.{Rose}
-use Rattle.qvtr_engine.specs.declared.status.Status.TheVariants.{Fault, Refused}
-use Rattle.qvtr_engine.specs.declared.checking.Verdict.{Verdict}
-use Rattle.qvtr_engine.specs.declared.checking.Stop.{Stop}
-use Rattle.qvtr_engine.specs.declared.checking.Stop.TheVariants as stop
+use Rattle.qvtr_engine.specs.declared.outcome.Stop.{Stop}
+use Rattle.qvtr_engine.specs.declared.outcome.Stop.TheVariants as stop
+use Rattle.qvtr_engine.specs.declared.outcome.Refusal.{Refusal}
+use Rattle.qvtr_engine.specs.declared.outcome.Refusal.TheVariants.{Thin}
 use Rattle.qvtr_engine.specs.declared.TheConstants.{MAX_THIN}
-use Rattle.qvtr_engine.specs.Names.{same, is_among}
+use Rattle.mof_metamodel.specs.Metamodels.{same_name}
+use Rattle.qvtr_engine.specs.Names.{is_among}
 use Rattle.qvtr_engine.specs.Command.{Bound, Words}
 use Rattle.qvtr_engine.specs.ThinScript.{Names}
 use Rattle.qvtr_engine.specs.ThinModel.{ThinObject}
 use Rattle.qvtr_engine.specs.ReadModel.{model_of}
 use Rattle.qvtr_engine.specs.ReadScript.{script_of}
+use Rattle.qvtr_engine.specs.Reply.{Reply, unread, refused}
 use Rattle.qvtr_engine.specs.Reading.{◌>>=◌, when_true}
-use Rattle.qvtr_engine.specs.Answer.{Files, ModelFile, source_file, target_file, path_of, comes_first, refused_text}
-use Rattle.qvtr_engine.specs.Judging.{Reply, verdict_on, after_objects, after_file, after_model, after_script, in_order_reply, fits, fitting, after_names, after_bytes, judged}
+use Rattle.qvtr_engine.specs.Answer.{Files, ModelFile, source_file, target_file, path_of, comes_first}
+use Rattle.qvtr_engine.specs.Judging.{verdict_on, after_objects, after_file, after_model, after_script, in_order_reply, fits, fitting, after_names, after_bytes, judged}
 use Rattle.qvtr_engine.specs.Run.{paths_of}
-use Rattle.qvtr_engine.specs.Stops.{Gives, Stopped, NotLoaded, NotRead}
+use Rattle.qvtr_engine.specs.Stops.{Stopped, NotLoaded}
 use Rattle.qvtr_engine.proofs.ReadingLaws.{and_some, same_is, same_holds, all_parts}
 use Rattle.qvtr_engine.proofs.ModelLaws.{model_found}
 use Rattle.qvtr_engine.proofs.ScriptLaws.{script_found}
@@ -29,23 +31,19 @@ pub rose_from : (before mid after : ℕ) → before ≤ mid → Rose mid after �
 rose_from before mid after l (inl rose) = inl (omega arith)
 rose_from before mid after l (inr last) = inr last
 
+pub among_first : (p : List ℕ) (ps : List (List ℕ)) → is_among (p ∷ ps) p ≡ true
+among_first p ps = ap (λ b. b || is_among ps p) (same_holds p p refl)
+
 -- replies that agree where the files are told
 pub stopped_along : (s : Stop) (told : Option Files) (reply reply' : Files → Reply) (faulted faulted' : Type 0) (paths paths' : List (List ℕ))
     → IfSome told (λ files. reply' files ≡ reply files) → (faulted → faulted') → ((path : List ℕ) → is_among paths path ≡ true → is_among paths' path ≡ true)
     → Stopped s told reply faulted paths → Stopped s told reply' faulted' paths'
-stopped_along (stop.Fault text) None reply reply' f f' ps ps' e t i (inl gone) = absurd gone
-stopped_along (stop.Fault text) (Some files) reply reply' f f' ps ps' e t i (inl is) = inl (e ∙ is)
-stopped_along (stop.Fault text) told reply reply' f f' ps ps' e t i (inr at) = inr (t at.0, at.1, i at.1 at.2, at.3)
-stopped_along (stop.Refused text) None reply reply' f f' ps ps' e t i s = s
-stopped_along (stop.Refused text) (Some files) reply reply' f f' ps ps' e t i s = e ∙ s
+stopped_along (stop.Fault path) None reply reply' f f' ps ps' e t i (inl gone) = absurd gone
+stopped_along (stop.Fault path) (Some files) reply reply' f f' ps ps' e t i (inl is) = inl (e ∙ is)
+stopped_along (stop.Fault path) told reply reply' f f' ps ps' e t i (inr at) = inr (t at.0, i path.now at.1)
+stopped_along (stop.Refused path refusal) None reply reply' f f' ps ps' e t i s = s
+stopped_along (stop.Refused path refusal) (Some files) reply reply' f f' ps ps' e t i s = e ∙ s
 stopped_along stop.NoMemory told reply reply' f f' ps ps' e t i s = tt
-
-pub gives_along : (v : Verdict) (told : Option Files) (reply reply' : Files → Reply) → IfSome told (λ files. reply' files ≡ reply files) → Gives v told reply → Gives v told reply'
-gives_along v None reply reply' e g = g
-gives_along v (Some files) reply reply' e g = e ∙ g
-
-none_some : {X : Type 0} (x : X) → None ≡ Some x → ⊥
-none_some x e = cc
 
 -- a file that is too long is no model, and no script
 no_long_model : (class property bytes : List ℕ) → MAX_THIN < length bytes → model_of class property bytes ≡ None
@@ -62,38 +60,31 @@ no_long_script w bytes l =
       | Some n ↦ λ e. let m = (script_found bytes n e).short in absurd (omega arith)
     ] refl
 
-long_model : (files : Files) (f : ModelFile) (more : List ThinObject → Reply) (text : List ℕ) (o : Option (List ℕ)) → get files f.path ≡ o → text ≡ refused_text f.path
-    → IsSomeAnd o (λ file. MAX_THIN < length file) → after_model files f more ≡ (Refused, text)
-long_model files f more text None e is l = absurd l
-long_model files f more text (Some bytes) e is l =
-    ap (after_file f more) e ∙ ap (after_objects f more) (no_long_model f.class f.property bytes l) ∙ ap (λ t. (Refused, t)) (sym is)
+-- the reply of a refusal with these words
+refused_again : (reply : Reply) (path at : List ℕ) (refusal : Refusal) → at ≡ path → refusal ≡ Thin → reply ≡ refused path Thin → reply ≡ refused at refusal
+refused_again reply path at refusal e r h = h ∙ (λ i. refused (sym e i) (sym r i))
 
-long_script : (files : Files) (w : Words) (text : List ℕ) (o : Option (List ℕ)) → get files w.script ≡ o → text ≡ refused_text w.script
-    → IsSomeAnd o (λ file. MAX_THIN < length file) → judged files w ≡ (Refused, text)
-long_script files w text None e is l = absurd l
-long_script files w text (Some bytes) e is l =
-    ap (after_bytes files w) e ∙ ap (after_names files w) (no_long_script w bytes l) ∙ ap (λ t. (Refused, t)) (sym is)
+long_model : (files : Files) (f : ModelFile) (more : List ThinObject → Reply) (o : Option (List ℕ)) → get files f.path ≡ o
+    → IsSomeAnd o (λ file. MAX_THIN < length file) → after_model files f more ≡ refused f.path Thin
+long_model files f more None e l = absurd l
+long_model files f more (Some bytes) e l = ap (after_file f more) e ∙ ap (after_objects f more) (no_long_model f.class f.property bytes l)
+
+long_script : (files : Files) (w : Words) (o : Option (List ℕ)) → get files w.script ≡ o
+    → IsSomeAnd o (λ file. MAX_THIN < length file) → judged files w ≡ refused w.script Thin
+long_script files w None e l = absurd l
+long_script files w (Some bytes) e l = ap (after_bytes files w) e ∙ ap (after_names files w) (no_long_script w bytes l)
 
 -- a model file that wasn't loaded
 pub model_not_loaded : (s : Stop) (told : Option Files) (f : ModelFile) (more : Files → List ThinObject → Reply) (before after : ℕ) (paths : List (List ℕ))
     → is_among paths f.path ≡ true → NotLoaded s told f.path before after → Stopped s told (λ files. after_model files f (more files)) (Rose before after) paths
-model_not_loaded (stop.Fault text) told f more before after ps here (is, inl rose) = inr (rose, f.path, here, is)
-model_not_loaded (stop.Fault text) None f more before after ps here (is, inr lacks) = absurd lacks
-model_not_loaded (stop.Fault text) (Some files) f more before after ps here (is, inr lacks) =
-    inl (ap (after_file f (more files)) lacks ∙ ap (λ t. (Fault, t)) (sym is))
-model_not_loaded (stop.Refused text) None f more before after ps here s = tt
-model_not_loaded (stop.Refused text) (Some files) f more before after ps here s = long_model files f (more files) text (get files f.path) refl s.0 s.1
+model_not_loaded (stop.Fault at) told f more before after ps here (is, inl rose) = inr (rose, subst (λ p. is_among ps p ≡ true) (sym is) here)
+model_not_loaded (stop.Fault at) None f more before after ps here (is, inr lacks) = absurd lacks
+model_not_loaded (stop.Fault at) (Some files) f more before after ps here (is, inr lacks) =
+    inl (ap (after_file f (more files)) lacks ∙ ap unread (sym is))
+model_not_loaded (stop.Refused at refusal) None f more before after ps here s = tt
+model_not_loaded (stop.Refused at refusal) (Some files) f more before after ps here s =
+    refused_again _ f.path at.now refusal s.0 s.1 (long_model files f (more files) (get files f.path) refl s.2)
 model_not_loaded stop.NoMemory told f more before after ps here s = tt
-
--- a model file that was loaded and isn't one
-pub model_not_read : (s : Stop) (told : Option Files) (f : ModelFile) (bytes : List ℕ) (more : Files → List ThinObject → Reply) (faulted : Type 0) (paths : List (List ℕ))
-    → IfSome told (λ files. get files f.path ≡ Some bytes) → NotRead s (model_of f.class f.property bytes ≡ None) f.path
-    → Stopped s told (λ files. after_model files f (more files)) faulted paths
-model_not_read (stop.Fault text) told f bytes more faulted ps e s = absurd s
-model_not_read (stop.Refused text) None f bytes more faulted ps e s = tt
-model_not_read (stop.Refused text) (Some files) f bytes more faulted ps e s =
-    ap (after_file f (more files)) e ∙ ap (after_objects f (more files)) s.0 ∙ ap (λ t. (Refused, t)) (sym s.1)
-model_not_read stop.NoMemory told f bytes more faulted ps e s = tt
 
 -- a model file that was read
 pub model_read : (told : Option Files) (f : ModelFile) (bytes : List ℕ) (objects : List ThinObject) (more : Files → List ThinObject → Reply)
@@ -102,30 +93,17 @@ pub model_read : (told : Option Files) (f : ModelFile) (bytes : List ℕ) (objec
 model_read None f bytes objects more e m = tt
 model_read (Some files) f bytes objects more e m = ap (after_file f (more files)) e ∙ ap (after_objects f (more files)) m
 
--- a script that wasn't loaded, or isn't one that the words fit
+-- a script that wasn't loaded
 pub script_not_loaded : (s : Stop) (told : Option Files) (w : Words) (before after : ℕ) → NotLoaded s told w.script before after
     → Stopped s told (λ files. judged files w) (Rose before after) (paths_of w)
-script_not_loaded (stop.Fault text) told w before after (is, inl rose) =
-    inr (rose, w.script, ap (λ b. b || is_among (map (λ b. b.path) w.files) w.script) (same_holds w.script w.script refl), is)
-script_not_loaded (stop.Fault text) None w before after (is, inr lacks) = absurd lacks
-script_not_loaded (stop.Fault text) (Some files) w before after (is, inr lacks) = inl (ap (after_bytes files w) lacks ∙ ap (λ t. (Fault, t)) (sym is))
-script_not_loaded (stop.Refused text) None w before after s = tt
-script_not_loaded (stop.Refused text) (Some files) w before after s = long_script files w text (get files w.script) refl s.0 s.1
+script_not_loaded (stop.Fault at) told w before after (is, inl rose) =
+    inr (rose, subst (λ p. is_among (paths_of w) p ≡ true) (sym is) (among_first w.script (map (λ b. b.path) w.files)))
+script_not_loaded (stop.Fault at) None w before after (is, inr lacks) = absurd lacks
+script_not_loaded (stop.Fault at) (Some files) w before after (is, inr lacks) = inl (ap (after_bytes files w) lacks ∙ ap unread (sym is))
+script_not_loaded (stop.Refused at refusal) None w before after s = tt
+script_not_loaded (stop.Refused at refusal) (Some files) w before after s =
+    refused_again _ w.script at.now refusal s.0 s.1 (long_script files w (get files w.script) refl s.2)
 script_not_loaded stop.NoMemory told w before after s = tt
-
-pub script_not_read : (s : Stop) (told : Option Files) (w : Words) (bytes : List ℕ) (faulted : Type 0)
-    → IfSome told (λ files. get files w.script ≡ Some bytes) → NotRead s (fitting w bytes ≡ None) w.script
-    → Stopped s told (λ files. judged files w) faulted (paths_of w)
-script_not_read (stop.Fault text) told w bytes faulted e s = absurd s
-script_not_read (stop.Refused text) None w bytes faulted e s = tt
-script_not_read (stop.Refused text) (Some files) w bytes faulted e s =
-    ap (after_bytes files w) e ∙ ap (after_names files w) s.0 ∙ ap (λ t. (Refused, t)) (sym s.1)
-script_not_read stop.NoMemory told w bytes faulted e s = tt
-
-pub script_read_along : (told : Option Files) (w : Words) (bytes : List ℕ) (n : Names) → IfSome told (λ files. get files w.script ≡ Some bytes) → fitting w bytes ≡ Some n
-    → IfSome told (λ files. judged files w ≡ after_script files w n)
-script_read_along None w bytes n e f = tt
-script_read_along (Some files) w bytes n e f = ap (after_bytes files w) e ∙ ap (after_names files w) f
 
 none_true : false ≡ true → ⊥
 none_true e = cc
@@ -138,7 +116,7 @@ or_false_right : (a : Bool) → (a || false) ≡ true → a ≡ true
 or_false_right true h = refl
 or_false_right false h = h
 
-same_turned : (xs ys : List ℕ) → same ys xs ≡ same xs ys
+same_turned : (xs ys : List ℕ) → same_name ys xs ≡ same_name xs ys
 same_turned xs ys = both_ways _ _ (λ h. same_holds xs ys (sym (same_is ys xs h))) (λ h. same_holds ys xs (sym (same_is xs ys h)))
 
 -- the two orders of the model files
@@ -160,12 +138,12 @@ target_first (Some files) w n e = ap (λ b. cond b
 path_among : (bs : List Bound) (name : List ℕ) → is_among (map (λ b. b.name) bs) name ≡ true → is_among (map (λ b. b.path) bs) (path_of bs name) ≡ true
 path_among [] name h = absurd (none_true h)
 path_among (b ∷ bs) name h =
-    elim (same b.name name) as (λ t. same b.name name ≡ t → is_among (b.path ∷ map (λ x. x.path) bs) (cond t b.path (path_of bs name)) ≡ true) [
+    elim (same_name b.name name) as (λ t. same_name b.name name ≡ t → is_among (b.path ∷ map (λ x. x.path) bs) (cond t b.path (path_of bs name)) ≡ true) [
       | true ↦ λ e. ap (λ x. x || is_among (map (λ y. y.path) bs) b.path) (same_holds b.path b.path refl)
       | false ↦ λ e.
-          let other : same name b.name ≡ false = same_turned b.name name ∙ e in
+          let other : same_name name b.name ≡ false = same_turned b.name name ∙ e in
           let rest : is_among (map (λ x. x.name) bs) name ≡ true = sym (ap (λ x. x || is_among (map (λ y. y.name) bs) name) other) ∙ h in
-          or_right (same (path_of bs name) b.path) _ (path_among bs name rest)
+          or_right (same_name (path_of bs name) b.path) _ (path_among bs name rest)
     ] refl
 
 -- the paths of the model files are paths of the words
@@ -182,16 +160,13 @@ model_paths w n h =
 -- of two paths that are among others
 pub both_among : (ps : List (List ℕ)) (p q path : List ℕ) → is_among ps p ≡ true → is_among ps q ≡ true → is_among (p ∷ q ∷ []) path ≡ true → is_among ps path ≡ true
 both_among ps p q path hp hq h =
-    elim (same path p) as (λ t. same path p ≡ t → (t || (same path q || false)) ≡ true → is_among ps path ≡ true) [
+    elim (same_name path p) as (λ t. same_name path p ≡ t → (t || (same_name path q || false)) ≡ true → is_among ps path ≡ true) [
       | true ↦ λ e h. subst (λ x. is_among ps x ≡ true) (sym (same_is path p e)) hp
-      | false ↦ λ e h. subst (λ x. is_among ps x ≡ true) (sym (same_is path q (or_false_right (same path q) h))) hq
+      | false ↦ λ e h. subst (λ x. is_among ps x ≡ true) (sym (same_is path q (or_false_right (same_name path q) h))) hq
     ] refl h
 
-pub among_first : (p : List ℕ) (ps : List (List ℕ)) → is_among (p ∷ ps) p ≡ true
-among_first p ps = ap (λ b. b || is_among ps p) (same_holds p p refl)
-
 pub among_second : (p q : List ℕ) (ps : List (List ℕ)) → is_among (p ∷ q ∷ ps) q ≡ true
-among_second p q ps = or_right (same q p) _ (among_first q ps)
+among_second p q ps = or_right (same_name q p) _ (among_first q ps)
 
 -- what stops the reading of the two model files stops the check
 pub stopped_in_order : (s : Stop) (told : Option Files) (w : Words) (n : Names) (one two : ModelFile) (faulted : Type 0)

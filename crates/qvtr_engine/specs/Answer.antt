@@ -1,18 +1,17 @@
 -- What `run` answers for words over the files of a vault.
-use Rattle.std.specs.Prelude.{◌≡◌, ℕ, Bool, true, false, cond, List, [], ◌∷◌, ◌++◌, codes}
+use Rattle.std.specs.Prelude.{◌≡◌, ℕ, Bool, true, false, cond, List, [], ◌∷◌, ◌++◌}
 use Rattle.std.specs.Prelude.{Some, None}
 use Rattle.std.specs.List.{AllByRecursion}
 use Rattle.std.specs.FinMap.{FinMap, get}
 use Rattle.std.specs.Ordering.{nat_cmp}
 use Rattle.std.specs.Cmp.Lexicographic.{slice_cmp}
-use Rattle.qvtr_engine.specs.declared.status.Status.{Status}
-use Rattle.qvtr_engine.specs.declared.status.Status.TheVariants.{Done, No, Usage, Fault, Refused}
-use Rattle.qvtr_engine.specs.Template.{joined}
-use Rattle.qvtr_engine.specs.Names.{same}
+use Rattle.qvtr_engine.specs.declared.outcome.Refusal.TheVariants.{Thin}
+use Rattle.mof_metamodel.specs.Metamodels.{same_name}
 use Rattle.qvtr_engine.specs.Command.{Bound, Words, IsCommand, IsUsage}
 use Rattle.qvtr_engine.specs.ThinScript.{Names, IsThinScript, FitsWords}
 use Rattle.qvtr_engine.specs.ThinModel.{ThinObject, IsThinModel}
-use Rattle.qvtr_engine.specs.Verdict.{failing, IsLeast, yes_text, no_text}
+use Rattle.qvtr_engine.specs.Verdict.{failing, IsLeast, counterexample}
+use Rattle.qvtr_engine.specs.Reply.{Reply, misused, unread, refused, holds, fails}
 
 -- the bytes of each file, by the bytes of its name
 abbrev pub Files : Type 0
@@ -21,12 +20,12 @@ Files = FinMap (slice_cmp nat_cmp) (List ℕ)
 -- the path that the words give a name
 abbrev pub path_of : List Bound → List ℕ → List ℕ
 path_of [] name = []
-path_of (b ∷ bs) name = cond (same b.name name) b.path (path_of bs name)
+path_of (b ∷ bs) name = cond (same_name b.name name) b.path (path_of bs name)
 
 -- the words give the first name a path before they give one to the second
 abbrev pub comes_first : List Bound → List ℕ → List ℕ → Bool
 comes_first [] first second = true
-comes_first (b ∷ bs) first second = cond (same b.name first) true (cond (same b.name second) false (comes_first bs first second))
+comes_first (b ∷ bs) first second = cond (same_name b.name first) true (cond (same_name b.name second) false (comes_first bs first second))
 
 -- a model file, and the class and the property that its objects have
 pub record ModelFile : Type 0 where
@@ -62,34 +61,24 @@ ReadsModel files f objects = (bytes : List ℕ) × HasFile files f.path bytes ×
 abbrev pub IsRead : Files → ModelFile → Type 0
 IsRead files f = (objects : List ThinObject) × ReadsModel files f objects
 
-abbrev pub usage_text : List ℕ
-usage_text = codes "usage\n"
-
-abbrev pub fault_text : List ℕ → List ℕ
-fault_text path = joined (codes "fault " ∷ path ∷ codes "\n" ∷ [])
-
-abbrev pub refused_text : List ℕ → List ℕ
-refused_text path = joined (codes "refused " ∷ path ∷ codes " Thin\n" ∷ [])
-
--- The status and the text for these words over these files: the first of the steps that has something against them,
--- or else the verdict.
-pub data Answer (words : List (List ℕ)) (files : Files) : Status → List ℕ → Type 0 where
-  usage : IsUsage words → Answer words files Usage usage_text
+-- The reply to these words over these files: the first of the steps that has something against them, or else the verdict.
+pub data Answer (words : List (List ℕ)) (files : Files) : Reply → Type 0 where
+  usage : IsUsage words → Answer words files misused
   script_missing : (w : Words) → IsCommand words w
-      → get files w.script ≡ None → Answer words files Fault (fault_text w.script)
+      → get files w.script ≡ None → Answer words files (unread w.script)
   script_refused : (w : Words) → IsCommand words w
       → (bytes : List ℕ) → HasFile files w.script bytes → ((n : Names) → IsThinScript bytes n × FitsWords w n → ⊥)
-      → Answer words files Refused (refused_text w.script)
+      → Answer words files (refused w.script Thin)
   model_missing : (w : Words) → IsCommand words w → (n : Names) → ReadsScript files w n
       → (before behind : List ModelFile) (f : ModelFile) → model_files w n ≡ before ++ f ∷ behind → AllByRecursion (IsRead files) before
-      → get files f.path ≡ None → Answer words files Fault (fault_text f.path)
+      → get files f.path ≡ None → Answer words files (unread f.path)
   model_refused : (w : Words) → IsCommand words w → (n : Names) → ReadsScript files w n
       → (before behind : List ModelFile) (f : ModelFile) → model_files w n ≡ before ++ f ∷ behind → AllByRecursion (IsRead files) before
       → (bytes : List ℕ) → HasFile files f.path bytes → ((objects : List ThinObject) → IsThinModel f.class f.property bytes objects → ⊥)
-      → Answer words files Refused (refused_text f.path)
+      → Answer words files (refused f.path Thin)
   yes : (w : Words) → IsCommand words w → (n : Names) → ReadsScript files w n
       → (sources targets : List ThinObject) → ReadsModel files (source_file w n) sources → ReadsModel files (target_file w n) targets
-      → failing sources targets ≡ [] → Answer words files Done yes_text
+      → failing sources targets ≡ [] → Answer words files holds
   no : (w : Words) → IsCommand words w → (n : Names) → ReadsScript files w n
       → (sources targets : List ThinObject) → ReadsModel files (source_file w n) sources → ReadsModel files (target_file w n) targets
-      → (o : ThinObject) → IsLeast (failing sources targets) o → Answer words files No (no_text n o)
+      → (o : ThinObject) → IsLeast (failing sources targets) o → Answer words files (fails (counterexample n o))

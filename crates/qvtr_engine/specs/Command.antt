@@ -1,7 +1,8 @@
 -- The words of the command line.
 use Rattle.std.specs.Prelude.{◌≡◌, ℕ, Bool, true, false, ◌&&◌, ◌==◌, not, List, [], ◌∷◌, ◌++◌, length, map, codes}
 use Rattle.std.specs.List.{list_all, list_any}
-use Rattle.qvtr_engine.specs.Names.{same, are_distinct}
+use Rattle.mof_metamodel.specs.Metamodels.{same_name}
+use Rattle.qvtr_engine.specs.Names.{are_distinct}
 
 -- a word `NAME=PATH`
 pub record Bound : Type 0 where
@@ -34,11 +35,11 @@ is_bound b = not (length b.name == 0) && not (list_any is_equals_sign b.name) &&
 
 -- a path is the other one followed by `.new`
 abbrev pub is_new_of : List ℕ → List ℕ → Bool
-is_new_of p q = same p (q ++ codes ".new")
+is_new_of p q = same_name p (q ++ codes ".new")
 
 -- two paths that name no common file: neither is the other, or the other followed by `.new`
 abbrev pub are_apart : List ℕ → List ℕ → Bool
-are_apart p q = not (same p q) && not (is_new_of p q) && not (is_new_of q p)
+are_apart p q = not (same_name p q) && not (is_new_of p q) && not (is_new_of q p)
 
 abbrev pub are_all_apart : List (List ℕ) → Bool
 are_all_apart [] = true

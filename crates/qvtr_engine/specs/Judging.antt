@@ -2,17 +2,18 @@
 use Rattle.std.specs.Prelude.{ℕ, Bool, ◌&&◌, List, [], ◌∷◌, map, Option, Some, None, if◌then◌else◌}
 use Rattle.std.specs.List.{list_all}
 use Rattle.std.specs.FinMap.{get}
-use Rattle.qvtr_engine.specs.declared.status.Status.{Status}
-use Rattle.qvtr_engine.specs.declared.status.Status.TheVariants.{Done, No, Usage, Fault, Refused}
-use Rattle.qvtr_engine.specs.Names.{same, is_among}
+use Rattle.qvtr_engine.specs.declared.outcome.Refusal.TheVariants.{Thin}
+use Rattle.mof_metamodel.specs.Metamodels.{same_name}
+use Rattle.qvtr_engine.specs.Names.{is_among}
 use Rattle.qvtr_engine.specs.Command.{Words}
 use Rattle.qvtr_engine.specs.ThinScript.{Names, file_names_of}
 use Rattle.qvtr_engine.specs.ThinModel.{ThinObject}
-use Rattle.qvtr_engine.specs.Verdict.{failing, precedes, yes_text, no_text}
+use Rattle.qvtr_engine.specs.Verdict.{failing, precedes, counterexample}
+use Rattle.qvtr_engine.specs.Reply.{Reply, misused, unread, refused, holds, fails}
 use Rattle.qvtr_engine.specs.Reading.{◌>>=◌, when_true, command_of}
 use Rattle.qvtr_engine.specs.ReadScript.{script_of}
 use Rattle.qvtr_engine.specs.ReadModel.{model_of}
-use Rattle.qvtr_engine.specs.Answer.{Files, ModelFile, source_file, target_file, comes_first, usage_text, fault_text, refused_text}
+use Rattle.qvtr_engine.specs.Answer.{Files, ModelFile, source_file, target_file, comes_first}
 
 -- the lesser of the least so far and the next object
 abbrev pub lesser : Option ThinObject → ThinObject → Option ThinObject
@@ -26,24 +27,20 @@ least_from best (o ∷ os) = least_from (lesser best o) os
 abbrev pub least : List ThinObject → Option ThinObject
 least os = least_from None os
 
--- a status and the text that is printed
-abbrev pub Reply : Type 0
-Reply = Status × List ℕ
-
 abbrev pub reply_of : Names → Option ThinObject → Reply
-reply_of n None = (Done, yes_text)
-reply_of n (Some o) = (No, no_text n o)
+reply_of n None = holds
+reply_of n (Some o) = fails (counterexample n o)
 
 abbrev pub verdict_on : Names → List ThinObject → List ThinObject → Reply
 verdict_on n sources targets = reply_of n (least (failing sources targets))
 
 -- what follows where a model file is read
 abbrev pub after_objects : ModelFile → (List ThinObject → Reply) → Option (List ThinObject) → Reply
-after_objects f more None = (Refused, refused_text f.path)
+after_objects f more None = refused f.path Thin
 after_objects f more (Some objects) = more objects
 
 abbrev pub after_file : ModelFile → (List ThinObject → Reply) → Option (List ℕ) → Reply
-after_file f more None = (Fault, fault_text f.path)
+after_file f more None = unread f.path
 after_file f more (Some bytes) = after_objects f more (model_of f.class f.property bytes)
 
 abbrev pub after_model : Files → ModelFile → (List ThinObject → Reply) → Reply
@@ -58,18 +55,18 @@ after_script files w n =
 
 -- the words fit the script
 abbrev pub fits : Words → Names → Bool
-fits w n = same w.target n.target_model && list_all (is_among (map (λ b. b.name) w.files)) (file_names_of n)
+fits w n = same_name w.target n.target_model && list_all (is_among (map (λ b. b.name) w.files)) (file_names_of n)
 
 -- the names of the script that the bytes are and the words fit
 abbrev pub fitting : Words → List ℕ → Option Names
 fitting w bytes = script_of bytes >>= λ n. when_true (fits w n) n
 
 abbrev pub after_names : Files → Words → Option Names → Reply
-after_names files w None = (Refused, refused_text w.script)
+after_names files w None = refused w.script Thin
 after_names files w (Some n) = after_script files w n
 
 abbrev pub after_bytes : Files → Words → Option (List ℕ) → Reply
-after_bytes files w None = (Fault, fault_text w.script)
+after_bytes files w None = unread w.script
 after_bytes files w (Some bytes) = after_names files w (fitting w bytes)
 
 -- the reply to a command
@@ -77,7 +74,7 @@ abbrev pub judged : Files → Words → Reply
 judged files w = after_bytes files w (get files w.script)
 
 abbrev pub after_words : Files → Option Words → Reply
-after_words files None = (Usage, usage_text)
+after_words files None = misused
 after_words files (Some w) = judged files w
 
 -- the reply to the words

@@ -4,6 +4,7 @@ pub mod Command
 pub mod ThinScript
 pub mod ThinModel
 pub mod Verdict
+pub mod Reply
 pub mod Answer
 pub mod Reading
 pub mod ReadScript

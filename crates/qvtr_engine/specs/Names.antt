@@ -1,7 +1,7 @@
 -- Names of thin scripts and thin files, and lists of them.
-use Rattle.std.specs.Prelude.{ℕ, Bool, true, false, ◌||◌, ◌&&◌, nat_le, not, List, [], ◌∷◌, nat_eq, codes}
+use Rattle.std.specs.Prelude.{ℕ, Bool, true, false, ◌||◌, ◌&&◌, nat_le, not, List, [], ◌∷◌, codes}
 use Rattle.std.specs.List.{list_all, list_any}
-use Rattle.std.specs.Cmp.Lexicographic.{pointwise}
+use Rattle.mof_metamodel.specs.Metamodels.{same_name}
 
 -- an ASCII letter
 abbrev pub is_letter : ℕ → Bool
@@ -11,13 +11,9 @@ is_letter c = (nat_le 65 c && nat_le c 90) || (nat_le 97 c && nat_le c 122)
 abbrev pub is_letter_or_digit : ℕ → Bool
 is_letter_or_digit c = is_letter c || (nat_le 48 c && nat_le c 57)
 
--- two names are the same
-abbrev pub same : List ℕ → List ℕ → Bool
-same = pointwise nat_eq
-
 -- a name is one of these
 abbrev pub is_among : List (List ℕ) → List ℕ → Bool
-is_among names name = list_any (same name) names
+is_among names name = list_any (same_name name) names
 
 -- no name stands twice
 abbrev pub are_distinct : List (List ℕ) → Bool

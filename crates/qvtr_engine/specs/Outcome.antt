@@ -1,23 +1,28 @@
 -- What a check comes to, and how its reply is printed.
-use Rattle.std.specs.Prelude.{◌≡◌, ℕ, List, ◌⊎◌, Option, Result, Ok, Err}
+use Rattle.std.specs.Prelude.{◌≡◌, ℕ, List, ◌⊎◌, Option, Some, None, Result, Ok, Err, IsSomeAnd}
 use Rattle.vault_io.specs.Sinks.{appended, AppendsPrefix}
 use Rattle.qvtr_engine.specs.declared.status.Status.{Status}
-use Rattle.qvtr_engine.specs.declared.status.Status.TheVariants.{Fault, Refused, NoMemory}
-use Rattle.qvtr_engine.specs.declared.checking.Verdict.{Verdict}
-use Rattle.qvtr_engine.specs.declared.checking.Stop.{Stop}
-use Rattle.qvtr_engine.specs.declared.checking.Stop.TheVariants as stop
-use Rattle.qvtr_engine.specs.Judging.{Reply}
-use Rattle.qvtr_engine.specs.Run.{no_memory_text}
+use Rattle.qvtr_engine.specs.declared.status.Status.TheVariants.{Fault, NoMemory}
+use Rattle.qvtr_engine.specs.declared.outcome.Verdict.{Verdict}
+use Rattle.qvtr_engine.specs.declared.outcome.Stop.{Stop}
+use Rattle.qvtr_engine.specs.declared.outcome.Stop.TheVariants as stop
+use Rattle.qvtr_engine.specs.Reply.{Reply, status_of, text_of, unread, refused, no_memory_text}
 use Rattle.qvtr_engine.specs.Stops.{reply_of_verdict}
 
--- the status of a run with this outcome, and the text that it prints
-abbrev pub outcome_reply : Result Verdict Stop → Reply
-outcome_reply (Ok v) = reply_of_verdict v
-outcome_reply (Err (stop.Fault text)) = (Fault, text)
-outcome_reply (Err (stop.Refused text)) = (Refused, text)
-outcome_reply (Err stop.NoMemory) = (NoMemory, no_memory_text)
+-- the reply that an outcome is, unless memory could not be had
+abbrev pub reply_of_outcome : Result Verdict Stop → Option Reply
+reply_of_outcome (Ok v) = Some (reply_of_verdict v)
+reply_of_outcome (Err (stop.Fault path)) = Some (unread path.now)
+reply_of_outcome (Err (stop.Refused path refusal)) = Some (refused path.now refusal)
+reply_of_outcome (Err stop.NoMemory) = None
 
 -- a text was printed and the status is that which goes with it, or the sink faulted and took a prefix of the text
 abbrev pub Finishes : Status → List ℕ → Option (List ℕ) → Option (List ℕ) → Type 0 → Status → Type 0
 Finishes status text before after faulted result =
     ((result ≡ status) × (after ≡ appended before text)) ⊎ ((result ≡ Fault) × faulted × AppendsPrefix text before after)
+
+-- the reply that an outcome is was printed, or that memory could not be had
+abbrev pub Reports : Option Reply → Option (List ℕ) → Option (List ℕ) → Type 0 → Status → Type 0
+Reports reply before after faulted result =
+    IsSomeAnd reply (λ r. Finishes (status_of r) (text_of r) before after faulted result)
+    ⊎ Finishes NoMemory no_memory_text before after faulted result

@@ -2,7 +2,8 @@
 use Rattle.std.specs.Prelude.{ℕ, suc, zero, Bool, true, ◌&&◌, ◌==◌, not, nat_le, List, [], ◌∷◌, length, codes, Option, Some, None, if◌then◌else◌}
 use Rattle.std.specs.List.{list_all, list_any}
 use Rattle.std.specs.Option.{option_map}
-use Rattle.qvtr_engine.specs.Names.{same, is_thin_name}
+use Rattle.mof_metamodel.specs.Metamodels.{same_name}
+use Rattle.qvtr_engine.specs.Names.{is_thin_name}
 use Rattle.qvtr_engine.specs.ThinModel.{ThinObject}
 use Rattle.qvtr_engine.specs.Reading.{◌>>=◌, when_true, behind, names_before, nth}
 use Rattle.qvtr_engine.specs.declared.TheConstants.{MAX_THIN}
@@ -19,11 +20,11 @@ unfoldable pub object_at : List ℕ → List ℕ → List ℕ → Option (ThinOb
 object_at class property bytes = do
   rest ← behind (codes "<") bytes
   read ← names_before object_texts rest
-  when_true (same (nth read.0 0) class && same (nth read.0 2) property) (object_from read.0, read.1)
+  when_true (same_name (nth read.0 0) class && same_name (nth read.0 2) property) (object_from read.0, read.1)
 
 -- one object more, or the end of the file
 abbrev pub go_on : (List ℕ → Option (List ThinObject)) → List ℕ → Option (ThinObject × List ℕ) → Option (List ThinObject)
-go_on more bytes None = when_true (same bytes (codes "</xmi:XMI>")) []
+go_on more bytes None = when_true (same_name bytes (codes "</xmi:XMI>")) []
 go_on more bytes (Some one) = option_map (λ os. one.0 ∷ os) (more one.1)
 
 -- the objects up to the end of the file, of which there are fewer than the number
@@ -40,7 +41,7 @@ elements_of class property bytes = do
 
 -- no identifier stands twice
 abbrev pub has_identifier : List ℕ → List ThinObject → Bool
-has_identifier identifier objects = list_any (λ o. same identifier o.identifier) objects
+has_identifier identifier objects = list_any (λ o. same_name identifier o.identifier) objects
 
 abbrev pub are_numbered : List ThinObject → Bool
 are_numbered [] = true
@@ -52,5 +53,5 @@ are_named objects = list_all (λ o. is_thin_name o.identifier) objects && are_nu
 
 unfoldable pub model_of : List ℕ → List ℕ → List ℕ → Option (List ThinObject)
 model_of class property bytes =
-    if same bytes (codes "<xmi:XMI/>") then Some []
+    if same_name bytes (codes "<xmi:XMI/>") then Some []
     else (elements_of class property bytes >>= λ os. when_true (nat_le (length bytes) MAX_THIN && are_named os) os)

@@ -1,7 +1,8 @@
 -- The reading of a thin script.
 use Rattle.std.specs.Prelude.{ℕ, Bool, ◌&&◌, ◌==◌, nat_le, List, [], ◌∷◌, length, codes, Option}
 use Rattle.std.specs.List.{list_all}
-use Rattle.qvtr_engine.specs.Names.{same, is_thin_name, are_distinct}
+use Rattle.mof_metamodel.specs.Metamodels.{same_name}
+use Rattle.qvtr_engine.specs.Names.{is_thin_name, are_distinct}
 use Rattle.qvtr_engine.specs.ThinScript.{Names, names_of, file_names_of}
 use Rattle.qvtr_engine.specs.Reading.{◌>>=◌, when_true, behind, names_before, nth}
 use Rattle.qvtr_engine.specs.declared.TheConstants.{MAX_THIN}
@@ -45,8 +46,8 @@ names_at p = record {
 -- the other places have the same names
 abbrev pub agree : List (List ℕ) → Bool
 agree p =
-    same (nth p 5) (nth p 4) && same (nth p 10) (nth p 1) && same (nth p 14) (nth p 9) && same (nth p 15) (nth p 3)
-    && same (nth p 17) (nth p 6) && same (nth p 18) (nth p 7) && same (nth p 19) (nth p 9)
+    same_name (nth p 5) (nth p 4) && same_name (nth p 10) (nth p 1) && same_name (nth p 14) (nth p 9) && same_name (nth p 15) (nth p 3)
+    && same_name (nth p 17) (nth p 6) && same_name (nth p 18) (nth p 7) && same_name (nth p 19) (nth p 9)
 
 -- the names are thin and distinct where they have to be
 abbrev pub are_thin : Names → Bool

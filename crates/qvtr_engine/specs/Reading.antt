@@ -1,7 +1,8 @@
 -- The reading of words, thin scripts and thin files, as functions on lists. The laws that tie it to what is spelled stand in proofs/.
 use Rattle.std.specs.Prelude.{ℕ, suc, zero, Bool, true, false, not, ◌&&◌, ◌==◌, nat_eq, List, [], ◌∷◌, length, drop, map, codes, Option, Some, None, if◌then◌else◌}
 use Rattle.std.specs.List.{list_all, starts_with, prefix_len}
-use Rattle.qvtr_engine.specs.Names.{same, is_letter_or_digit, are_distinct}
+use Rattle.mof_metamodel.specs.Metamodels.{same_name}
+use Rattle.qvtr_engine.specs.Names.{is_letter_or_digit, are_distinct}
 use Rattle.qvtr_engine.specs.Command.{Bound, Words, is_plain, are_all_apart, is_equals_sign}
 
 infixl 10 ◌>>=◌
@@ -43,7 +44,7 @@ command_from words first second third fourth =
 -- nothing speaks against the words and the command in them
 abbrev pub is_accepted : List (List ℕ) → Words → Bool
 is_accepted words w =
-    same (nth words 0) (codes "check") && list_all is_plain (drop 1 words)
+    same_name (nth words 0) (codes "check") && list_all is_plain (drop 1 words)
     && are_distinct (map (λ b. b.name) w.files)
     && are_all_apart (w.script ∷ map (λ b. b.path) w.files)
 

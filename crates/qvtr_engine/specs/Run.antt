@@ -1,14 +1,12 @@
 -- How a run ends.
-use Rattle.std.specs.Prelude.{◌≡◌, ℕ, true, List, ◌∷◌, map, Option, codes}
+use Rattle.std.specs.Prelude.{◌≡◌, ℕ, true, List, ◌∷◌, map, Option}
 use Rattle.vault_io.specs.Sinks.{appended, AppendsPrefix}
 use Rattle.qvtr_engine.specs.declared.status.Status.{Status}
 use Rattle.qvtr_engine.specs.declared.status.Status.TheVariants.{Fault, NoMemory}
 use Rattle.qvtr_engine.specs.Names.{is_among}
 use Rattle.qvtr_engine.specs.Command.{Words, IsCommand}
-use Rattle.qvtr_engine.specs.Answer.{Files, Answer, fault_text}
-
-abbrev pub no_memory_text : List ℕ
-no_memory_text = codes "no memory\n"
+use Rattle.qvtr_engine.specs.Reply.{Reply, status_of, text_of, fault_text, no_memory_text}
+use Rattle.qvtr_engine.specs.Answer.{Files, Answer}
 
 -- the paths of the words: that of the script, and those of the names
 abbrev pub paths_of : Words → List (List ℕ)
@@ -21,7 +19,7 @@ IsPath words path = (w : Words) × IsCommand words w × (is_among (paths_of w) p
 -- What is to be printed, with the status that a run has once it is printed: the answer that is owed; or that memory could
 -- not be had; or, where the vault faulted, that a file could not be read.
 pub data Due (words : List (List ℕ)) (files : Files) (faulted : Type 0) : Status → List ℕ → Type 0 where
-  answered : {status : Status} {text : List ℕ} → Answer words files status text → Due words files faulted status text
+  answered : (reply : Reply) → Answer words files reply → Due words files faulted (status_of reply) (text_of reply)
   starved : Due words files faulted NoMemory no_memory_text
   faulted_at : faulted → (path : List ℕ) → IsPath words path → Due words files faulted Fault (fault_text path)
 

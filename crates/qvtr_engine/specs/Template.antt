@@ -1,10 +1,5 @@
--- Texts, and texts with gaps for names.
+-- Texts with gaps for names.
 use Rattle.std.specs.Prelude.{ℕ, List, [], ◌∷◌, ◌++◌}
-
--- texts, one behind the other
-abbrev pub joined : List (List ℕ) → List ℕ
-joined [] = []
-joined (text ∷ texts) = text ++ joined texts
 
 -- names, each with the text that stands behind it
 abbrev pub spelled : List (List ℕ) → List (List ℕ) → List ℕ

@@ -1,7 +1,6 @@
 -- Thin model files: objects of one class with one value each.
 use Rattle.std.specs.Prelude.{◌≡◌, ◌≤◌, ℕ, true, List, [], ◌∷◌, ◌++◌, length, map, codes}
-use Rattle.std.specs.List.{list_all, flat_map}
-use Rattle.qvtr_engine.specs.Template.{joined}
+use Rattle.std.specs.List.{list_all, flat_map, concat}
 use Rattle.qvtr_engine.specs.Names.{is_thin_name, is_letter_or_digit, are_distinct}
 use Rattle.qvtr_engine.specs.declared.TheConstants.{MAX_THIN}
 
@@ -13,7 +12,7 @@ pub record ThinObject : Type 0 where
 -- the element of an object of a class with a property
 abbrev pub object_text : List ℕ → List ℕ → ThinObject → List ℕ
 object_text class property o =
-    joined (codes "<" ∷ class ∷ codes " xmi:id=\"" ∷ o.identifier ∷ codes "\" " ∷ property ∷ codes "=\"" ∷ o.value ∷ codes "\"/>" ∷ [])
+    concat (codes "<" ∷ class ∷ codes " xmi:id=\"" ∷ o.identifier ∷ codes "\" " ∷ property ∷ codes "=\"" ∷ o.value ∷ codes "\"/>" ∷ [])
 
 -- the text of a file
 abbrev pub model_text : List ℕ → List ℕ → List ThinObject → List ℕ

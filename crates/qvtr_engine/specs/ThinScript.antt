@@ -1,7 +1,6 @@
 -- Thin scripts: one relation that ties one property of two classes by equal values.
 use Rattle.std.specs.Prelude.{◌≡◌, ◌≤◌, ℕ, true, List, [], ◌∷◌, length, map, codes}
-use Rattle.std.specs.List.{list_all}
-use Rattle.qvtr_engine.specs.Template.{joined}
+use Rattle.std.specs.List.{list_all, concat}
 use Rattle.qvtr_engine.specs.Names.{is_thin_name, are_distinct, is_among}
 use Rattle.qvtr_engine.specs.Command.{Words}
 use Rattle.qvtr_engine.specs.declared.TheConstants.{MAX_THIN}
@@ -24,7 +23,7 @@ pub record Names : Type 0 where
 
 -- the text of the script, with its names put in
 abbrev pub script_text : Names → List ℕ
-script_text n = joined
+script_text n = concat
     (codes "transformation " ∷ n.transformation ∷ codes " (" ∷ n.source_model ∷ codes " : " ∷ n.source_metamodel
     ∷ codes ", " ∷ n.target_model ∷ codes " : " ∷ n.target_metamodel ∷ codes ") {\n"
     ∷ codes "  key " ∷ n.target_metamodel ∷ codes "::" ∷ n.target_class ∷ codes " {" ∷ n.target_property ∷ codes "};\n"

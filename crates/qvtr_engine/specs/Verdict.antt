@@ -1,16 +1,16 @@
 -- The verdict of a thin script over two thin files.
-use Rattle.std.specs.Prelude.{◌≡◌, ℕ, Bool, true, not, List, [], ◌∷◌, ◌++◌, filter, codes}
+use Rattle.std.specs.Prelude.{◌≡◌, Bool, true, not, List, ◌∷◌, ◌++◌, filter}
 use Rattle.std.specs.List.{list_all, list_any}
 use Rattle.std.specs.Ordering.{nat_cmp, is_lt}
 use Rattle.std.specs.Cmp.Lexicographic.{slice_cmp}
-use Rattle.qvtr_engine.specs.Template.{joined}
-use Rattle.qvtr_engine.specs.Names.{same}
+use Rattle.qvtr_engine.specs.declared.outcome.Counterexample.{Counterexample}
+use Rattle.mof_metamodel.specs.Metamodels.{same_name}
 use Rattle.qvtr_engine.specs.ThinScript.{Names}
 use Rattle.qvtr_engine.specs.ThinModel.{ThinObject}
 
 -- some object of the target has the object's value
 abbrev pub is_held : List ThinObject → ThinObject → Bool
-is_held targets o = list_any (λ t. same o.value t.value) targets
+is_held targets o = list_any (λ t. same_name o.value t.value) targets
 
 -- the objects of the source whose value no object of the target has, by number
 abbrev pub failing : List ThinObject → List ThinObject → List ThinObject
@@ -29,13 +29,13 @@ pub record IsLeast (objects : List ThinObject) (o : ThinObject) : Type 0 where
   pub greater : list_all (precedes o) before ≡ true
   pub no_lesser : list_all (λ q. not (precedes q o)) behind ≡ true
 
-abbrev pub yes_text : List ℕ
-yes_text = codes "yes\n"
-
--- what is printed of a failing object
-abbrev pub no_text : Names → ThinObject → List ℕ
-no_text n o = joined
-    (codes "no\n"
-    ∷ codes "relation " ∷ n.relation ∷ codes "\n"
-    ∷ codes "  " ∷ n.value ∷ codes " = '" ∷ o.value ∷ codes "'\n"
-    ∷ codes "  " ∷ n.source ∷ codes " = " ∷ n.source_model ∷ codes ":" ∷ o.identifier ∷ codes "\n" ∷ [])
+-- what is told of a failing object
+abbrev pub counterexample : Names → ThinObject → Counterexample
+counterexample n o = record {
+  relation = n.relation;
+  variable = n.value;
+  value = o.value;
+  source = n.source;
+  model = n.source_model;
+  identifier = o.identifier;
+}

@@ -1,24 +1,24 @@
-ghost use Rattle.std.specs.Prelude.{◌≡◌, ◌≤◌, ◌∷◌, [], length, map, if◌then◌else◌, true, None, Some, IfOk, IfErr, IfSome};
+ghost use Rattle.std.specs.Prelude.{◌≡◌, ◌≤◌, ◌∷◌, [], map, true, None, Some, IfOk, IfErr, IfSome};
 ghost use Rattle.std.specs.FinMap.{get};
 ghost use Rattle.vault_io.specs.Counts.{Rose};
-ghost use Rattle.qvtr_engine.specs.Template.{joined};
-ghost use Rattle.qvtr_engine.specs.Answer.{fault_text, refused_text, source_file, target_file};
-ghost use Rattle.qvtr_engine.specs.Verdict.{no_text};
+ghost use Rattle.qvtr_engine.specs.Answer.{source_file, target_file};
+ghost use Rattle.qvtr_engine.specs.Verdict.{counterexample};
 ghost use Rattle.std.specs.List.{list_all};
 ghost use Rattle.qvtr_engine.specs.Names.{is_among};
 ghost use Rattle.qvtr_engine.specs.ThinScript.{file_names_of};
-ghost use Rattle.qvtr_engine.specs.Judging.{verdict_on, after_model, after_script, in_order_reply, judged, fits, fitting};
+ghost use Rattle.qvtr_engine.specs.Judging.{verdict_on, after_script, in_order_reply, judged, fits, fitting};
 ghost use Rattle.qvtr_engine.specs.ReadModel.{model_of};
 ghost use Rattle.qvtr_engine.specs.ScriptView.{names_view};
 ghost use Rattle.qvtr_engine.specs.ModelView.{object_view, objects_view};
 ghost use Rattle.qvtr_engine.specs.FileView.{file_view};
 ghost use Rattle.qvtr_engine.specs.CommandView.{command_view};
 ghost use Rattle.qvtr_engine.specs.Run.{paths_of};
-ghost use Rattle.qvtr_engine.specs.Stops.{reply_of_verdict, IsFault, IsRefusal, Gives, Stopped, NotLoaded, NotRead};
+ghost use Rattle.qvtr_engine.specs.Stops.{reply_of_verdict, Gives, Stopped, NotLoaded, NotRead};
 
 use crate::MAX_THIN;
 use crate::command::{Command, comes_first, path_of};
 use crate::names::is_among;
+use crate::outcome::{Counterexample, Refusal, Stop, Verdict};
 use crate::thin_error::ThinError;
 use crate::thin_model::{Form, Object};
 use crate::thin_script::ThinScript;
@@ -27,66 +27,15 @@ use mof_metamodel::{NoMemory, Seq};
 use std::alloc::Global;
 use vault_io::{LoadError, Vault, load};
 
-/// What a check comes to.
-#[derive(Debug, Drop)]
-pub(crate) enum Verdict {
-    /// The relation holds.
-    Yes,
-    /// It fails; the text names the least pair that has no partner.
-    No(Seq<u8>),
-}
-
-/// What stops a check, with the text that says so.
-#[derive(Debug, Drop)]
-pub(crate) enum Stop {
-    /// A file couldn't be read.
-    Fault(Seq<u8>),
-    /// A file isn't of its form.
-    Refused(Seq<u8>),
-    /// Memory could not be had.
-    NoMemory,
-}
-
 /// A thin model file.
-#[derive(Clone, Copy, Debug)]
-pub(crate) struct ThinFile<'a> {
-    pub path: &'a str,
+#[derive(Drop)]
+pub(crate) struct ThinFile<'w, 'a> {
+    pub path: &'w str,
     pub form: Form<'a>,
 }
 
-/// Texts, one behind the other.
-fn concatenate(alloc: Global, texts: &[&[u8]]) -> Result<Seq<u8>, NoMemory>
-    ensures { IfOk result (λ text. text ≡ joined (map (λ t. t.now) texts.now)) }
-{
-    let mut all = Vec::new(alloc);
-    for text in texts {
-        all.extend_from_slice(text)?;
-    }
-    Ok(Seq::from_vec(all))
-}
-
-/// That the file at a path couldn't be read.
-fn fault(alloc: Global, path: &str) -> Stop
-    ensures { IsFault result path.now }
-{
-    match concatenate(alloc, &[b"fault ", path.as_bytes(), b"\n"]) {
-        Ok(text) => Stop::Fault(text),
-        Err(NoMemory) => Stop::NoMemory,
-    }
-}
-
-/// That the file at a path isn't of its form.
-fn refused(alloc: Global, path: &str) -> Stop
-    ensures { IsRefusal result path.now }
-{
-    match concatenate(alloc, &[b"refused ", path.as_bytes(), b" Thin\n"]) {
-        Ok(text) => Stop::Refused(text),
-        Err(NoMemory) => Stop::NoMemory,
-    }
-}
-
 /// The bytes of a thin script or a thin file.
-fn load_thin<F: Vault>(alloc: Global, vault: &mut F, path: &str) -> Result<Seq<u8>, Stop>
+fn load_thin<'w, F: Vault>(alloc: Global, vault: &mut F, path: &'w str) -> Result<Seq<u8>, Stop<'w>>
     ensures ok { IfOk result (λ bytes. IfSome (F.files vault.old) (λ files. get files path.now ≡ Some bytes)) }
     ensures err { IfErr result (λ stop. NotLoaded stop (F.files vault.old) path.now (F.faults vault.old) (F.faults vault.new)) }
     ensures files { F.files vault.new ≡ F.files vault.old }
@@ -94,52 +43,39 @@ fn load_thin<F: Vault>(alloc: Global, vault: &mut F, path: &str) -> Result<Seq<u
 {
     match load(alloc, vault, path, MAX_THIN) {
         Ok(bytes) => Ok(bytes),
-        Err(LoadError::Failed) => Err(fault(alloc, path)),
-        Err(LoadError::TooLong) => Err(refused(alloc, path)),
+        Err(LoadError::Failed) => Err(Stop::Fault(path)),
+        Err(LoadError::TooLong) => Err(Stop::Refused(path, Refusal::Thin)),
         Err(LoadError::NoMemory) => Err(Stop::NoMemory),
     }
 }
 
-impl ThinFile<'_> {
+impl<'w> ThinFile<'w, '_> {
     /// The objects of the file with these bytes.
-    fn objects<'b>(&self, alloc: Global, bytes: &'b [u8]) -> Result<Vec<Object<'b>>, Stop>
+    fn objects<'b>(&self, alloc: Global, bytes: &'b [u8]) -> Result<Vec<Object<'b>>, Stop<'w>>
         ensures ok { IfOk result (λ os. model_of self.now.form.class.now self.now.form.property.now bytes.now ≡ Some (objects_view os.items)) }
         ensures err { IfErr result (λ stop. NotRead stop (model_of self.now.form.class.now self.now.form.property.now bytes.now ≡ None) self.now.path.now) }
     {
         match self.form.read(alloc, bytes) {
             Ok(objects) => Ok(objects),
-            Err(ThinError::NotThin) => Err(refused(alloc, self.path)),
+            Err(ThinError::NotThin) => Err(Stop::Refused(self.path, Refusal::Thin)),
             Err(ThinError::NoMemory) => Err(Stop::NoMemory),
         }
     }
 }
 
 impl ThinScript<'_> {
-    /// What is printed of an object of the source that fails.
-    fn no_text(&self, alloc: Global, object: &Object<'_>) -> Result<Seq<u8>, NoMemory>
-        ensures { IfOk result (λ text. text ≡ no_text (names_view self.now) (object_view object.now)) }
+    /// What is told of an object of the source that fails.
+    fn counterexample(&self, alloc: Global, object: &Object<'_>) -> Result<Counterexample, NoMemory>
+        ensures { IfOk result (λ c. c ≡ counterexample (names_view self.now) (object_view object.now)) }
     {
-        concatenate(
-            alloc,
-            &[
-                b"no\n",
-                b"relation ",
-                self.relation,
-                b"\n",
-                b"  ",
-                self.value,
-                b" = '",
-                object.value,
-                b"'\n",
-                b"  ",
-                self.source,
-                b" = ",
-                self.source_model,
-                b":",
-                object.identifier,
-                b"\n",
-            ],
-        )
+        Ok(Counterexample {
+            relation: Seq::from_slice(alloc, self.relation)?,
+            variable: Seq::from_slice(alloc, self.value)?,
+            value: Seq::from_slice(alloc, object.value)?,
+            source: Seq::from_slice(alloc, self.source)?,
+            model: Seq::from_slice(alloc, self.source_model)?,
+            identifier: Seq::from_slice(alloc, object.identifier)?,
+        })
     }
 
     /// The verdict on the objects of the two files.
@@ -153,20 +89,20 @@ impl ThinScript<'_> {
     {
         match least_failing(sources, targets) {
             None => Ok(Verdict::Yes),
-            Some(object) => Ok(Verdict::No(self.no_text(alloc, &object)?)),
+            Some(object) => Ok(Verdict::No(self.counterexample(alloc, &object)?)),
         }
     }
 }
 
 /// Reads two model files in this order, of which the first is the source's or the target's, and judges their objects.
-fn check_in_order<F: Vault>(
+fn check_in_order<'w, F: Vault>(
     alloc: Global,
     vault: &mut F,
     script: &ThinScript<'_>,
-    first: &ThinFile<'_>,
-    second: &ThinFile<'_>,
+    first: &ThinFile<'w, '_>,
+    second: &ThinFile<'w, '_>,
     source_first: bool,
-) -> Result<Verdict, Stop>
+) -> Result<Verdict, Stop<'w>>
     ensures ok { IfOk result (λ v. Gives v (F.files vault.old) (in_order_reply source_first (names_view script.now) (file_view first.now) (file_view second.now))) }
     ensures err { IfErr result (λ stop. Stopped stop (F.files vault.old) (in_order_reply source_first (names_view script.now) (file_view first.now) (file_view second.now))
         (Rose (F.faults vault.old) (F.faults vault.new)) (first.now.path.now ∷ second.now.path.now ∷ [])) }
@@ -189,19 +125,19 @@ fn check_in_order<F: Vault>(
 }
 
 /// The script in these bytes, if the words fit it.
-fn fitting_script<'a>(
+fn fitting_script<'a, 'w>(
     alloc: Global,
-    command: &Command<'_>,
+    command: &Command<'w>,
     bytes: &'a [u8],
-) -> Result<ThinScript<'a>, Stop>
+) -> Result<ThinScript<'a>, Stop<'w>>
     ensures ok { IfOk result (λ s. fitting (command_view command.now) bytes.now ≡ Some (names_view s)) }
     ensures fits { IfOk result (λ s. fits (command_view command.now) (names_view s) ≡ true) }
     ensures err { IfErr result (λ stop. NotRead stop (fitting (command_view command.now) bytes.now ≡ None) command.now.script.now) }
 {
     match ThinScript::read(alloc, bytes) {
         Ok(script) if command.fits(&script) => Ok(script),
-        Ok(_) => Err(refused(alloc, command.script)),
-        Err(ThinError::NotThin) => Err(refused(alloc, command.script)),
+        Ok(_) => Err(Stop::Refused(command.script, Refusal::Thin)),
+        Err(ThinError::NotThin) => Err(Stop::Refused(command.script, Refusal::Thin)),
         Err(ThinError::NoMemory) => Err(Stop::NoMemory),
     }
 }
@@ -229,9 +165,7 @@ impl<'w> Command<'w> {
             && is_among(&names, script.target_metamodel)
     }
 
-    fn source_file<'a>(&self, script: &ThinScript<'a>) -> ThinFile<'a>
-    where
-        'w: 'a,
+    fn source_file<'a>(&self, script: &ThinScript<'a>) -> ThinFile<'w, 'a>
         ensures { file_view result ≡ source_file (command_view self.now) (names_view script.now) }
     {
         ThinFile {
@@ -243,9 +177,7 @@ impl<'w> Command<'w> {
         }
     }
 
-    fn target_file<'a>(&self, script: &ThinScript<'a>) -> ThinFile<'a>
-    where
-        'w: 'a,
+    fn target_file<'a>(&self, script: &ThinScript<'a>) -> ThinFile<'w, 'a>
         ensures { file_view result ≡ target_file (command_view self.now) (names_view script.now) }
     {
         ThinFile {
@@ -259,12 +191,12 @@ impl<'w> Command<'w> {
 }
 
 /// Reads the model files in the order of the words, and judges their objects.
-fn check_models<F: Vault>(
+fn check_models<'w, F: Vault>(
     alloc: Global,
     vault: &mut F,
-    command: &Command<'_>,
+    command: &Command<'w>,
     script: &ThinScript<'_>,
-) -> Result<Verdict, Stop>
+) -> Result<Verdict, Stop<'w>>
     requires { fits (command_view command.now) (names_view script.now) ≡ true }
     ensures ok { IfOk result (λ v. Gives v (F.files vault.old) (λ files. after_script files (command_view command.now) (names_view script.now))) }
     ensures err { IfErr result (λ stop. Stopped stop (F.files vault.old) (λ files. after_script files (command_view command.now) (names_view script.now))
@@ -282,11 +214,11 @@ fn check_models<F: Vault>(
 }
 
 /// Checks what a command asks for.
-pub(crate) fn check<F: Vault>(
+pub(crate) fn check<'w, F: Vault>(
     alloc: Global,
     vault: &mut F,
-    command: &Command<'_>,
-) -> Result<Verdict, Stop>
+    command: &Command<'w>,
+) -> Result<Verdict, Stop<'w>>
     ensures ok { IfOk result (λ v. Gives v (F.files vault.old) (λ files. judged files (command_view command.now))) }
     ensures err { IfErr result (λ stop. Stopped stop (F.files vault.old) (λ files. judged files (command_view command.now))
         (Rose (F.faults vault.old) (F.faults vault.new)) (paths_of (command_view command.now))) }

@@ -14,7 +14,7 @@ use crate::template::strip;
 const NEW: &[u8] = b".new";
 
 /// A word `NAME=PATH`.
-#[derive(Clone, Copy, Debug)]
+#[derive(Clone, Copy)]
 pub(crate) struct Bound<'w> {
     pub name: &'w str,
     pub path: &'w str,
@@ -46,7 +46,7 @@ impl<'w> Bound<'w> {
 }
 
 /// The words `check SCRIPT TARGET` and four words `NAME=PATH`.
-#[derive(Clone, Copy, Debug)]
+#[derive(Drop)]
 pub(crate) struct Command<'w> {
     pub script: &'w str,
     pub target: &'w str,

@@ -4,6 +4,8 @@
 mod checking;
 mod command;
 mod names;
+mod outcome;
+mod rendering;
 mod status;
 mod template;
 mod thin_error;
@@ -13,7 +15,7 @@ mod top;
 mod verdict;
 
 pub use status::Status;
-pub use top::run;
+pub use top::{one_answer, run};
 
 /// The greatest number of bytes of a thin script or a thin file.
 pub const MAX_THIN: usize = 65_536;

@@ -4,7 +4,7 @@ ghost use Rattle.qvtr_engine.specs.declared.thin_error.ThinError.TheVariants.{No
 use std::alloc::{AllocError, AllocFailed};
 
 /// Why bytes weren't read as a thin script or a thin file.
-#[derive(Clone, Copy, Debug, PartialEq, Eq)]
+#[derive(Drop)]
 pub(crate) enum ThinError {
     /// They aren't of the form.
     NotThin,

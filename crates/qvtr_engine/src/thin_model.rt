@@ -21,14 +21,14 @@ const START: &[u8] = b"<xmi:XMI>";
 const END: &[u8] = b"</xmi:XMI>";
 
 /// An object of a thin model file. Objects are numbered in the order of the file.
-#[derive(Clone, Copy, Debug)]
+#[derive(Clone, Copy)]
 pub(crate) struct Object<'a> {
     pub identifier: &'a [u8],
     pub value: &'a [u8],
 }
 
 /// The class and the property of the objects of a thin model file.
-#[derive(Clone, Copy, Debug)]
+#[derive(Drop)]
 pub(crate) struct Form<'a> {
     pub class: &'a [u8],
     pub property: &'a [u8],

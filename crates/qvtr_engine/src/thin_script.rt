@@ -39,7 +39,7 @@ const TEXTS: [&[u8]; 20] = [
 
 /// A thin script, by the names that stand in it: one relation that ties a property of the source's class to one of the
 /// target's by equal values.
-#[derive(Clone, Copy, Debug)]
+#[derive(Drop)]
 pub(crate) struct ThinScript<'a> {
     pub transformation: &'a [u8],
     pub source_model: &'a [u8],

@@ -1,13 +1,17 @@
 ghost use Rattle.std.specs.Prelude.{◌≡◌, ◌≤◌, ◌⊎◌, List, ℕ, map, string_bytes, IfSome, IsSomeAnd};
 ghost use Rattle.vault_io.specs.Counts.{Rose};
 ghost use Rattle.qvtr_engine.specs.Command.{IsUsage};
+ghost use Rattle.qvtr_engine.specs.Reply.{Reply, status_of, unread};
 ghost use Rattle.qvtr_engine.specs.Answer.{Answer};
 ghost use Rattle.qvtr_engine.specs.Run.{Ends};
-ghost use Rattle.qvtr_engine.specs.Outcome.{Finishes, outcome_reply};
+ghost use Rattle.qvtr_engine.specs.Outcome.{Finishes, Reports, reply_of_outcome};
 
-use crate::checking::{Stop, Verdict, check};
+use crate::checking::check;
 use crate::command::Command;
+use crate::outcome::{Stop, Verdict};
+use crate::rendering::{NO_MEMORY, USAGE, render};
 use crate::status::Status;
+use mof_metamodel::NoMemory;
 use std::alloc::Global;
 use vault_io::{Failed, Sink, Vault, print_all};
 
@@ -23,17 +27,24 @@ fn finish<K: Sink>(out: &mut K, status: Status, text: &[u8]) -> Status
 }
 
 /// Prints what a check came to.
-fn report<K: Sink>(out: &mut K, outcome: Result<Verdict, Stop>) -> Status
-    ensures ends { Finishes (outcome_reply outcome).0 (outcome_reply outcome).1 (K.told out.old) (K.told out.new) (Rose (K.faults out.old) (K.faults out.new)) result }
+fn report<K: Sink>(alloc: Global, out: &mut K, outcome: &Result<Verdict, Stop<'_>>) -> Status
+    ensures ends { Reports (reply_of_outcome outcome.now) (K.told out.old) (K.told out.new) (Rose (K.faults out.old) (K.faults out.new)) result }
     ensures faults { K.faults out.old ≤ K.faults out.new }
 {
-    match outcome {
-        Ok(Verdict::Yes) => finish(out, Status::Done, b"yes\n"),
-        Ok(Verdict::No(text)) => finish(out, Status::No, text.as_slice()),
-        Err(Stop::Fault(text)) => finish(out, Status::Fault, text.as_slice()),
-        Err(Stop::Refused(text)) => finish(out, Status::Refused, text.as_slice()),
-        Err(Stop::NoMemory) => finish(out, Status::NoMemory, b"no memory\n"),
+    match render(alloc, outcome) {
+        Ok(page) => finish(out, page.status, page.text.as_slice()),
+        Err(NoMemory) => finish(out, Status::NoMemory, NO_MEMORY),
     }
+}
+
+/// Over files that are told, words have exactly one answer. It does nothing: its contract is this law.
+pub fn one_answer<F: Vault>(words: &[String], vault: &F)
+    ensures some { IfSome (F.files vault.now) (λ files. (reply : Reply) × Answer (map string_bytes words.now) files reply) }
+    ensures single { IfSome (F.files vault.now) (λ files. (reply other : Reply)
+        → Answer (map string_bytes words.now) files reply → Answer (map string_bytes words.now) files other → reply ≡ other) }
+{
+    let _ = words;
+    let _ = vault;
 }
 
 /// Runs the program: `words` are those after the program's name, `vault` has the files, and all that is printed goes to
@@ -46,27 +57,21 @@ pub fn run<F: Vault, K: Sink>(alloc: Global, words: &[String], vault: &mut F, ou
     // What is printed is the one answer to the words over the files, unless memory or the outside fails.
     ensures ends { IfSome (F.files vault.old) (λ files. Ends (map string_bytes words.now) files (Rose (F.faults vault.old) (F.faults vault.new))
         (Rose (K.faults out.old) (K.faults out.new)) (K.told out.old) (K.told out.new) result) }
-    ensures only { IfSome (F.files vault.old) (λ files. (status : Status) (text : List ℕ) → Answer (map string_bytes words.now) files status text →
-        (result ≡ status) ⊎ (result ≡ Status.NoMemory) ⊎ ((result ≡ Status.Fault) × (Rose (F.faults vault.old) (F.faults vault.new) ⊎ Rose (K.faults out.old) (K.faults out.new)))) }
+    ensures only { IfSome (F.files vault.old) (λ files. (reply : Reply) → Answer (map string_bytes words.now) files reply →
+        (result ≡ status_of reply) ⊎ (result ≡ Status.NoMemory) ⊎ ((result ≡ Status.Fault) × (Rose (F.faults vault.old) (F.faults vault.new) ⊎ Rose (K.faults out.old) (K.faults out.new)))) }
 
     // These two hold of files that aren't told, too.
     ensures usage { (result ≡ Status.Usage → IsUsage (map string_bytes words.now))
         × (IsUsage (map string_bytes words.now) → (result ≡ Status.Usage) ⊎ ((result ≡ Status.Fault) × Rose (K.faults out.old) (K.faults out.new))) }
     ensures fault { result ≡ Status.Fault → Rose (F.faults vault.old) (F.faults vault.new) ⊎ Rose (K.faults out.old) (K.faults out.new)
-        ⊎ IsSomeAnd (F.files vault.old) (λ files. (text : List ℕ) × Answer (map string_bytes words.now) files Status.Fault text) }
+        ⊎ IsSomeAnd (F.files vault.old) (λ files. (path : List ℕ) × Answer (map string_bytes words.now) files (unread path)) }
 
     ensures files { F.files vault.new ≡ F.files vault.old }
     ensures vault_faults { F.faults vault.old ≤ F.faults vault.new }
     ensures sink_faults { K.faults out.old ≤ K.faults out.new }
 {
     match Command::read(words) {
-        None => finish(out, Status::Usage, b"usage\n"),
-        Some(command) => {
-            let outcome = check(alloc, vault, &command);
-            report(out, outcome)
-        }
+        None => finish(out, Status::Usage, USAGE),
+        Some(command) => report(alloc, out, &check(alloc, vault, &command)),
     }
 }
-
-#[cfg(test)]
-mod tests;

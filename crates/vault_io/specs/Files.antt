@@ -3,12 +3,17 @@ use Rattle.std.specs.Prelude.{◌≡◌, ◌↔◌, ℕ, ◌-◌, ◌<◌, ◌�
 use Rattle.std.specs.Prelude.{Option, None, Some, IfSome, IsSomeAnd}
 use Rattle.std.specs.Ordering.{nat_cmp}
 use Rattle.std.specs.Cmp.Lexicographic.{slice_cmp}
-use Rattle.std.specs.FinMap.{FinMap, get}
+use Rattle.std.specs.FinMap.{FinMap, get, insert}
 use Rattle.vault_io.specs.Counts.{Rose}
 
 -- files by name: from the bytes of a name, in UTF-8, to the bytes of the file
 abbrev pub Files : Type 0
 Files = FinMap (slice_cmp nat_cmp) (List ℕ)
+
+-- the files with a name bound to these bytes, and all others as they are; where nothing is told, nothing is
+abbrev pub bound : Option Files → List ℕ → List ℕ → Option Files
+bound None name bytes = None
+bound (Some files) name bytes = Some (insert files name bytes)
 
 -- the vault tells its files, and has none of this name
 abbrev pub Lacks : Option Files → List ℕ → Type 0

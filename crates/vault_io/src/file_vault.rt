@@ -1,5 +1,5 @@
 ghost use Rattle.std.specs.Prelude.{◌≡◌, ◌≤◌, length, IfOk, OnOk, OnErr, None};
-ghost use Rattle.vault_io.specs.Counts.{next_count};
+ghost use Rattle.vault_io.specs.Counts.{Rose, next_count};
 ghost use Rattle.vault_io.specs.Files.{MayFail};
 
 use crate::outside::{Failed, Vault};
@@ -58,6 +58,27 @@ impl<R: Files + AllocGlobal> Vault for FileVault<'_, R> {
             }
         }
     }
+
+    /// Writes a new file `PATH.new` and renames it to `PATH`, so that nobody finds a part of the bytes there.
+    ///
+    /// # Errors
+    /// `Failed` where the system refuses one of these, want of memory included, which counts as a fault. A new file that
+    /// was begun stays where it is.
+    fn put(&mut self, name: &str, bytes: &[u8]) -> Result<(), Failed>
+        ensures ok { OnOk result (self.new ≡ self.old) }
+        ensures err { OnErr result (self.new ≡ next_count self.old) }
+        // The trait's clauses, where nothing is told.
+        ensures failed { OnErr result (Rose self.old self.new) }
+        ensures faults { self.old ≤ self.new }
+    {
+        match replace(self.rt, name, bytes) {
+            Ok(()) => Ok(()),
+            Err(_) => {
+                self.faults = self.faults.saturating_add(1);
+                Err(Failed)
+            }
+        }
+    }
 }
 
 /// Opens a file, goes to a place in it, and reads once.
@@ -67,4 +88,12 @@ fn read_once<R: Files>(rt: &R, name: &str, at: u64, into: &mut [u8]) -> io::Resu
     let mut file = fs::open(rt, name)?;
     file.seek(SeekFrom::Start(at))?;
     file.read(into)
+}
+
+/// Writes a new file beside the one of a path, and renames it to that.
+fn replace<R: Files + AllocGlobal>(rt: &R, path: &str, bytes: &[u8]) -> io::Result<()> {
+    let mut new = String::from_str(rt.alloc(), path)?;
+    new.push_str(".new")?;
+    fs::write(rt, new.as_str(), bytes)?;
+    fs::rename(rt, new.as_str(), path)
 }

@@ -1,4 +1,4 @@
-//! Vaults and sinks: files to read and a place to print to, as traits whose contracts say which bytes come and go where
+//! Vaults and sinks: files to read and to put and a place to print to, as traits whose contracts say which bytes come and go where
 //! that is told, and when a call may fail; in memory for tests, and over the system at the edge.
 #![tactic(auto)]
 
@@ -20,6 +20,3 @@ pub use named_file::NamedFile;
 pub use outside::{Failed, Sink, Vault};
 pub use printing::print_all;
 pub use std_sink::StdSink;
-
-#[cfg(test)]
-mod tests;

@@ -8,7 +8,7 @@ use std::alloc::{AllocError, Global};
 use thiserror::Error;
 
 /// Why a file wasn't loaded.
-#[derive(Clone, Copy, Debug, PartialEq, Eq, Drop, Error)]
+#[derive(Clone, Copy, Debug, Error)]
 pub enum LoadError {
     /// A read failed.
     #[error("the file could not be read")]

@@ -1,18 +1,19 @@
-ghost use Rattle.std.specs.Prelude.{◌≡◌, ◌↔◌, ◌-◌, ◌≤◌, ◌⊎◌, min, length, IsTrue, IsErr, IsNone, IfOk, IfNone, IfSome, IsSomeAnd, OnErr};
+ghost use Rattle.std.specs.Prelude.{◌≡◌, ◌↔◌, ◌-◌, ◌≤◌, ◌⊎◌, min, length, IsTrue, IsErr, IsNone, IfOk, IfNone, IfSome, IsSomeAnd, OnOk, OnErr};
 ghost use Rattle.std.specs.FinMap as map;
-ghost use Rattle.vault_io.specs.Files.{OfFile, Reads, MayFail};
-ghost use Rattle.vault_io.specs.Tallies.{is_listed, answered};
+ghost use Rattle.vault_io.specs.Counts.{Rose};
+ghost use Rattle.vault_io.specs.Files.{OfFile, Reads, MayFail, bound};
+ghost use Rattle.vault_io.specs.Tallies.{is_listed, called, faulted, starved, answered};
 ghost use Rattle.vault_io.specs.Stores.{files_of, first_files};
 
 use crate::named_file::NamedFile;
 use crate::outside::{Failed, Vault};
 use crate::tally::Tally;
-use mof_metamodel::{NoMemory, Seq};
+use mof_metamodel::{NoMemory, Seq, Text};
 use std::alloc::Global;
 use std::marker::Model;
 
 /// Files in memory, for tests. The calls whose numbers are listed fail.
-#[derive(Debug, Drop)]
+#[derive(Drop)]
 pub struct MemVault {
     /// The last file first.
     files: Vec<NamedFile>,
@@ -102,6 +103,49 @@ impl Vault for MemVault {
         };
         Ok(copy_from(bytes, at, into))
     }
+
+    /// Puts the file.
+    ///
+    /// # Errors
+    /// `Failed` comes where the call's number is listed, and else only for want of memory. Each counts as a fault, and
+    /// the second as starved besides. The files are then as they were.
+    fn put(&mut self, name: &str, bytes: &[u8]) -> Result<(), Failed>
+        ensures whole { OnOk result (self.new.files ≡ map.insert self.old.files name.now bytes.now) }
+        ensures called { OnOk result (self.new.tally ≡ called self.old.tally) }
+        ensures listed { IsTrue (is_listed self.old.tally) →
+            IsErr result × (self.new.tally ≡ faulted (called self.old.tally)) }
+        ensures starved { OnErr result
+            (IsTrue (is_listed self.old.tally) ⊎ (self.new.tally ≡ starved (called self.old.tally))) }
+        ensures kept { OnErr result (self.new.files ≡ self.old.files) }
+        // The trait's clauses.
+        ensures ok { OnOk result (Some self.new.files ≡ bound (Some self.old.files) name.now bytes.now) }
+        ensures err { OnErr result ((Some self.new.files ≡ Some self.old.files) ⊎ (Some self.new.files ≡ bound (Some self.old.files) name.now bytes.now)) }
+        ensures failed { OnErr result (Rose self.old.tally.faults self.new.tally.faults) }
+        ensures faults { self.old.tally.faults ≤ self.new.tally.faults }
+    {
+        if self.tally.next_fails() {
+            return Err(Failed);
+        }
+        if put_first(&mut self.files, name, bytes).is_err() {
+            self.tally.count_starved();
+            return Err(Failed);
+        }
+        Ok(())
+    }
+}
+
+/// Puts a file before all others, so that it counts.
+fn put_first(files: &mut Vec<NamedFile>, name: &str, bytes: &[u8]) -> Result<(), NoMemory>
+    ensures ok { OnOk result (first_files files.new.items ≡ map.insert (first_files files.old.items) name.now bytes.now) }
+    ensures err { OnErr result (files.new.items ≡ files.old.items) }
+{
+    let alloc = *files.allocator();
+    let file = NamedFile {
+        name: Text::new(alloc, name)?,
+        bytes: Seq::from_slice(alloc, bytes)?,
+    };
+    files.insert(0, file)?;
+    Ok(())
 }
 
 /// The bytes of the first file of this name, if there is one.

@@ -1,13 +1,13 @@
-ghost use Rattle.std.specs.Prelude.{◌≡◌, ℕ, ◌≤◌, List, length, Option, IfOk, OnErr};
+ghost use Rattle.std.specs.Prelude.{◌≡◌, ℕ, ◌≤◌, ◌⊎◌, List, length, Option, IfOk, OnOk, OnErr};
 ghost use Rattle.vault_io.specs.Counts.{Rose};
-ghost use Rattle.vault_io.specs.Files.{Files, OfFile, Reads, MayFail};
+ghost use Rattle.vault_io.specs.Files.{Files, OfFile, Reads, MayFail, bound};
 ghost use Rattle.vault_io.specs.Sinks.{Takes};
 
 /// The outside failed. The call's contract says what stands after it.
-#[derive(Clone, Copy, Debug, PartialEq, Eq)]
+#[derive(Clone, Copy)]
 pub struct Failed;
 
-/// Files that are read by name.
+/// Files that are read and put by name.
 pub trait Vault {
     /// The files by the bytes of their names, where they are told.
     ghost files: { Self → Option Files };
@@ -26,6 +26,17 @@ pub trait Vault {
         ensures bytes { IfOk result (λ n. OfFile (files self.old) name.now (λ file. Reads file at n into.new)) }
         ensures failed { OnErr result (MayFail (files self.old) name.now (faults self.old) (faults self.new)) }
         ensures files { files self.new ≡ files self.old }
+        ensures faults { faults self.old ≤ faults self.new };
+
+    /// Binds the name to these bytes, whether there was a file of this name or not. All other files are as they were.
+    ///
+    /// # Errors
+    /// `Failed` comes only where the count of faults rose in the call or stands at its last value. The file of this name
+    /// is then as it was, or has these bytes. All other files are as they were.
+    fn put(&mut self, name: &str, bytes: &[u8]) -> Result<(), Failed>
+        ensures ok { OnOk result (files self.new ≡ bound (files self.old) name.now bytes.now) }
+        ensures err { OnErr result ((files self.new ≡ files self.old) ⊎ (files self.new ≡ bound (files self.old) name.now bytes.now)) }
+        ensures failed { OnErr result (Rose (faults self.old) (faults self.new)) }
         ensures faults { faults self.old ≤ faults self.new };
 }
 

@@ -4,7 +4,7 @@ ghost use Rattle.vault_io.specs.Counts.{Rose};
 use mof_metamodel::Seq;
 
 /// The calls of a vault or a sink in memory. Each count stands still at `u64::MAX`.
-#[derive(Debug, Drop)]
+#[derive(Drop)]
 pub struct Tally {
     /// The numbers of the calls that are to fail, counted from 0.
     pub failing: Seq<u64>,

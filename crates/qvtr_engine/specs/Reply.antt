@@ -1,0 +1,57 @@
+-- What is answered to the words over the files of a vault: the reply as data, and its rendering as a status and a text.
+use Rattle.std.specs.Prelude.{ℕ, List, [], ◌∷◌, codes}
+use Rattle.std.specs.List.{concat}
+use Rattle.qvtr_engine.specs.declared.status.Status.{Status}
+use Rattle.qvtr_engine.specs.declared.status.Status.TheVariants.{Done, No, Usage, Fault, Refused}
+use Rattle.qvtr_engine.specs.declared.outcome.Counterexample.{Counterexample}
+use Rattle.qvtr_engine.specs.declared.outcome.Refusal.{Refusal}
+use Rattle.qvtr_engine.specs.declared.outcome.Refusal.TheVariants.{Thin}
+
+-- The words are no command; the file at a path couldn't be read; the file at a path is refused; the relation holds; it
+-- fails, as an object of the source shows.
+pub data Reply : Type 0 where
+  misused : Reply
+  unread : List ℕ → Reply
+  refused : List ℕ → Refusal → Reply
+  holds : Reply
+  fails : Counterexample → Reply
+
+abbrev pub status_of : Reply → Status
+status_of misused = Usage
+status_of (unread path) = Fault
+status_of (refused path refusal) = Refused
+status_of holds = Done
+status_of (fails c) = No
+
+abbrev pub usage_text : List ℕ
+usage_text = codes "usage\n"
+
+abbrev pub fault_text : List ℕ → List ℕ
+fault_text path = concat (codes "fault " ∷ path ∷ codes "\n" ∷ [])
+
+-- the word that is printed of a refusal
+abbrev pub refusal_word : Refusal → List ℕ
+refusal_word Thin = codes "Thin"
+
+abbrev pub refused_text : List ℕ → List ℕ → List ℕ
+refused_text path word = concat (codes "refused " ∷ path ∷ codes " " ∷ word ∷ codes "\n" ∷ [])
+
+abbrev pub yes_text : List ℕ
+yes_text = codes "yes\n"
+
+abbrev pub no_text : Counterexample → List ℕ
+no_text c = concat
+    (codes "no\n"
+    ∷ codes "relation " ∷ c.relation ∷ codes "\n"
+    ∷ codes "  " ∷ c.variable ∷ codes " = '" ∷ c.value ∷ codes "'\n"
+    ∷ codes "  " ∷ c.source ∷ codes " = " ∷ c.model ∷ codes ":" ∷ c.identifier ∷ codes "\n" ∷ [])
+
+abbrev pub text_of : Reply → List ℕ
+text_of misused = usage_text
+text_of (unread path) = fault_text path
+text_of (refused path refusal) = refused_text path (refusal_word refusal)
+text_of holds = yes_text
+text_of (fails c) = no_text c
+
+abbrev pub no_memory_text : List ℕ
+no_memory_text = codes "no memory\n"

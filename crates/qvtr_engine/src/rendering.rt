@@ -1,0 +1,122 @@
+ghost use Rattle.std.specs.Prelude.{◌≡◌, map, IfOk, IsSomeAnd};
+ghost use Rattle.std.specs.List.{concat};
+ghost use Rattle.qvtr_engine.specs.Reply as spec;
+ghost use Rattle.qvtr_engine.specs.Stops.{reply_of_verdict};
+ghost use Rattle.qvtr_engine.specs.Outcome.{reply_of_outcome};
+
+use crate::outcome::{Counterexample, Refusal, Stop, Verdict};
+use crate::status::Status;
+use mof_metamodel::{NoMemory, Seq};
+use std::alloc::Global;
+
+/// What is printed where the words are no command.
+pub(crate) const USAGE: &[u8] = b"usage\n";
+
+/// What is printed where memory could not be had.
+pub(crate) const NO_MEMORY: &[u8] = b"no memory\n";
+
+/// A status and the text that is printed with it.
+#[derive(Drop)]
+pub(crate) struct Page {
+    pub status: Status,
+    pub text: Seq<u8>,
+}
+
+/// Texts, one behind the other.
+fn concatenate(alloc: Global, texts: &[&[u8]]) -> Result<Seq<u8>, NoMemory>
+    ensures { IfOk result (λ text. text ≡ concat (map (λ t. t.now) texts.now)) }
+{
+    let mut all = Vec::new(alloc);
+    for text in texts {
+        all.extend_from_slice(text)?;
+    }
+    Ok(Seq::from_vec(all))
+}
+
+impl Refusal {
+    /// The word that is printed of it.
+    fn word(self) -> &'static str
+        ensures { result.now ≡ spec.refusal_word self }
+    {
+        match self {
+            Refusal::Thin => "Thin",
+        }
+    }
+}
+
+fn fault_text(alloc: Global, path: &str) -> Result<Seq<u8>, NoMemory>
+    ensures { IfOk result (λ text. text ≡ spec.fault_text path.now) }
+{
+    concatenate(alloc, &[b"fault ", path.as_bytes(), b"\n"])
+}
+
+fn refused_text(alloc: Global, path: &str, word: &str) -> Result<Seq<u8>, NoMemory>
+    ensures { IfOk result (λ text. text ≡ spec.refused_text path.now word.now) }
+{
+    concatenate(
+        alloc,
+        &[b"refused ", path.as_bytes(), b" ", word.as_bytes(), b"\n"],
+    )
+}
+
+fn no_text(alloc: Global, counterexample: &Counterexample) -> Result<Seq<u8>, NoMemory>
+    ensures { IfOk result (λ text. text ≡ spec.no_text counterexample.now) }
+{
+    concatenate(
+        alloc,
+        &[
+            b"no\n",
+            b"relation ",
+            counterexample.relation.as_slice(),
+            b"\n",
+            b"  ",
+            counterexample.variable.as_slice(),
+            b" = '",
+            counterexample.value.as_slice(),
+            b"'\n",
+            b"  ",
+            counterexample.source.as_slice(),
+            b" = ",
+            counterexample.model.as_slice(),
+            b":",
+            counterexample.identifier.as_slice(),
+            b"\n",
+        ],
+    )
+}
+
+/// What is printed of a verdict.
+fn render_verdict(alloc: Global, verdict: &Verdict) -> Result<Page, NoMemory>
+    ensures status { IfOk result (λ page. page.status ≡ spec.status_of (reply_of_verdict verdict.now)) }
+    ensures text { IfOk result (λ page. page.text ≡ spec.text_of (reply_of_verdict verdict.now)) }
+{
+    match verdict {
+        Verdict::Yes => Ok(Page {
+            status: Status::Done,
+            text: Seq::from_slice(alloc, b"yes\n")?,
+        }),
+        Verdict::No(counterexample) => Ok(Page {
+            status: Status::No,
+            text: no_text(alloc, counterexample)?,
+        }),
+    }
+}
+
+/// What is printed of an outcome. Where an outcome is want of memory, so is the answer.
+pub(crate) fn render(alloc: Global, outcome: &Result<Verdict, Stop<'_>>) -> Result<Page, NoMemory>
+    ensures { IfOk result (λ page. IsSomeAnd (reply_of_outcome outcome.now)
+        (λ reply. (page.status ≡ spec.status_of reply) × (page.text ≡ spec.text_of reply))) }
+{
+    match outcome {
+        Ok(verdict) => render_verdict(alloc, verdict),
+        Err(Stop::Fault(path)) => Ok(Page {
+            status: Status::Fault,
+            text: fault_text(alloc, path)?,
+        }),
+        Err(Stop::Refused(path, refusal)) => Ok(Page {
+            status: Status::Refused,
+            text: refused_text(alloc, path, refusal.word())?,
+        }),
+        Err(Stop::NoMemory) => Err(NoMemory),
+    }
+}
