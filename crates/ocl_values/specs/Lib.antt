@@ -1,0 +1,3 @@
+pub mod Order
+pub mod Results
+pub mod Spellings
