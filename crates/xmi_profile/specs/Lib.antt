@@ -1,0 +1,14 @@
+pub mod Words
+pub mod Profile
+pub mod Forms
+pub mod Canon
+pub mod Attributes
+pub mod Values
+pub mod References
+pub mod Elements
+pub mod Source
+pub mod Links
+pub mod Judged
+pub mod Faults
+pub mod Content
+pub mod FirstFault
