@@ -1,1 +1,12 @@
 pub mod Operators
+pub mod Types
+pub mod TypeRules
+pub mod TypedTrees
+pub mod Parts
+pub mod Relations
+pub mod ProgramNumbers
+pub mod ProgramTypes
+pub mod QueryCalls
+pub mod Directions
+pub mod Keys
+pub mod WellFormed
