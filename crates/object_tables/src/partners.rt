@@ -1,5 +1,8 @@
+ghost use Rattle.std.specs.Prelude.{◌≡◌, ◌≤◌, length, take};
+
 use crate::tables::Joined;
 use crate::value::ObjId;
+use mof_metamodel::{NoMemory, Seq};
 use std::marker::Model;
 
 /// The partners of an object at a reference, each once and in their order. Contracts see it as the list of those that are left.
@@ -19,7 +22,7 @@ impl<'a> Model for Partners<'a> {
 }
 
 impl<'a> Partners<'a> {
-    ghost use Rattle.std.specs.Prelude.{◌≡◌, map};
+    ghost use Rattle.std.specs.Prelude.{◌≡◌, ◌++◌, map, take, OnOk, OnErr};
     ghost use Rattle.object_tables.specs.Ids.{object_ids};
 
     /// The objects of the places that a place is joined to.
@@ -27,6 +30,22 @@ impl<'a> Partners<'a> {
         ensures { result ≡ object_ids (map (λ e. e.0) joined.entry) }
     {
         Partners { joined }
+    }
+
+    /// Puts the partners that are left behind the others of `out`, in their order. After `NoMemory` `out` is as it was.
+    pub fn collect_into(self, out: &mut Seq<ObjId>) -> Result<(), NoMemory>
+        ensures ok { OnOk result (out.new ≡ out.old ++ self.entry) }
+        ensures err { OnErr result (out.new ≡ out.old) }
+    {
+        let count = out.len();
+        let mut left = self;
+        while let Some(partner) = left.next() {
+            if out.push(partner).is_err() {
+                shorten(out, count);
+                return Err(NoMemory);
+            }
+        }
+        Ok(())
     }
 }
 
@@ -44,5 +63,15 @@ impl<'a> Iterator for Partners<'a> {
             Some((object, _)) => Some(ObjId(object)),
             None => None,
         }
+    }
+}
+
+// leaves the first of them
+fn shorten(objects: &mut Seq<ObjId>, count: usize)
+    requires { count ≤ length objects.old }
+    ensures { objects.new ≡ take count objects.old }
+{
+    while objects.len() > count {
+        let _ = objects.pop();
     }
 }
