@@ -4,7 +4,8 @@ use Rattle.ql_lex.specs.Lexed.{LexedText}
 use Rattle.qv_syntax.specs.declared.expr.Expr.{Expr}
 use Rattle.ocl_parser.specs.Beginnings.{IsTree, IsStuck, IsDeep}
 use Rattle.ocl_parser.specs.Runs.{Answer, Tree, Stuck, Deep, answer}
-use Rattle.ocl_parser.specs.Answers.{Answers, IsAnswered, Tells, place_of, result_of}
+use Rattle.ocl_parser.specs.Answers.{Answers, IsAnswered, Tells, result_of}
+use Rattle.ocl_parser.specs.Places.{place_of}
 use Rattle.ocl_parser.specs.declared.error.ParseError.{ParseError}
 use Rattle.ocl_parser.specs.declared.error.ParseError.TheVariants as errors
 use Rattle.ocl_parser.proofs.CompletionAnswers.{tree_is, stuck_is, deep_is, tree_answered, stuck_answered, deep_answered}

@@ -12,8 +12,9 @@ use Rattle.qv_syntax.specs.declared.expr.Args.TheVariants as args
 use Rattle.qv_syntax.specs.declared.expr.Args.TheOpen as of
 use Rattle.ocl_parser.specs.Grammar.{form, spelled}
 use Rattle.ocl_parser.specs.Moves.{reduced}
-use Rattle.ocl_parser.specs.Runs.{answer, run, ended_by, nowhere, Tree}
-use Rattle.ocl_parser.specs.declared.symbol.Symbol.TheVariants as symbols
+use Rattle.ocl_parser.specs.Runs.{answer, run, ended_by, Tree}
+use Rattle.ql_lex.specs.Symbols.{nowhere}
+use Rattle.ql_lex.specs.declared.symbol.Symbol.TheVariants as symbols
 use Rattle.ocl_parser.proofs.CompleteRuns.{going}
 use Rattle.ocl_parser.proofs.CompleteForms.{IsRead, rolled, closing, parens_read}
 use Rattle.ocl_parser.proofs.CompleteAtoms.{number_read, string_read, constant_read, null_read, invalid_read, named_read}

@@ -6,11 +6,12 @@ use Rattle.ql_lex.specs.Lexed.{Lexeme}
 use Rattle.qv_syntax.specs.declared.name.Name.{Name}
 use Rattle.qv_syntax.specs.declared.name.Path.{Path}
 use Rattle.qv_syntax.specs.declared.expr.Args.TheVariants as args
-use Rattle.ocl_parser.specs.Pieces.{Piece, ◌▸◌, sign, is_sign, is_name, nested, stands, span_at}
+use Rattle.ocl_parser.specs.Pieces.{Piece, ◌▸◌, sign, nested}
+use Rattle.ql_lex.specs.Lexemes.{is_sign, is_name, stands, span_at}
 use Rattle.ocl_parser.specs.Grammar.{takes_class, class_path as class_piece}
 use Rattle.ocl_parser.specs.Moves.{move, to, arguments, with_args, arrow_call, iterated_of, path_of, open_levels}
-use Rattle.ocl_parser.specs.declared.symbol.Symbol.{Symbol}
-use Rattle.ocl_parser.specs.declared.symbol.Symbol.TheVariants as symbols
+use Rattle.ql_lex.specs.declared.symbol.Symbol.{Symbol}
+use Rattle.ql_lex.specs.declared.symbol.Symbol.TheVariants as symbols
 use Rattle.ocl_parser.specs.declared.frame.Base.{Base}
 use Rattle.ocl_parser.specs.declared.frame.Before.TheVariants as before
 use Rattle.ocl_parser.specs.declared.frame.CallHead.{CallHead}

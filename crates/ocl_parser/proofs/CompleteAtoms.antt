@@ -6,11 +6,11 @@ use Rattle.qv_syntax.specs.declared.name.Name.{Name}
 use Rattle.qv_syntax.specs.declared.name.Path.{Path}
 use Rattle.qv_syntax.specs.declared.expr.Expr.TheVariants as exprs
 use Rattle.qv_syntax.specs.declared.expr.Args.TheOpen as of
-use Rattle.ocl_parser.specs.Pieces.{span_at}
+use Rattle.ql_lex.specs.Lexemes.{span_at}
 use Rattle.ocl_parser.specs.Grammar.{expr_step, path}
 use Rattle.ocl_parser.specs.Moves.{move, base_of, path_by, after_path}
-use Rattle.ocl_parser.specs.declared.symbol.Symbol.{Symbol}
-use Rattle.ocl_parser.specs.declared.symbol.Symbol.TheVariants as symbols
+use Rattle.ql_lex.specs.declared.symbol.Symbol.{Symbol}
+use Rattle.ql_lex.specs.declared.symbol.Symbol.TheVariants as symbols
 use Rattle.ocl_parser.specs.declared.frame.Frame.{Frame}
 use Rattle.ocl_parser.specs.declared.state.State.TheVariants as states
 use Rattle.ocl_parser.proofs.CompletePaths.{path_parts}

@@ -12,11 +12,12 @@ use Rattle.qv_syntax.specs.declared.expr.Infix.{Infix}
 use Rattle.qv_syntax.specs.declared.expr.Postfix.{Postfix}
 use Rattle.qv_syntax.specs.declared.expr.Args.{Args}
 use Rattle.qv_syntax.specs.declared.expr.Args.TheOpen as of
-use Rattle.ocl_parser.specs.Pieces.{Piece, ◌▸◌, stands, sign, word, name, is_sign, is_word, is_name, span_at, nested}
+use Rattle.ocl_parser.specs.Pieces.{Piece, ◌▸◌, sign, word, name, nested}
+use Rattle.ql_lex.specs.Lexemes.{stands, is_sign, is_word, is_name, span_at}
 use Rattle.ocl_parser.specs.Grammar.{Form, InfixForm, Given, form, infix_form, postfix_piece, given, args_step, expr_step, postfix_step, infix_step}
 use Rattle.ocl_parser.specs.Moves.{move, base_of, from_to, reduced, open_levels}
-use Rattle.ocl_parser.specs.declared.symbol.Symbol.{Symbol}
-use Rattle.ocl_parser.specs.declared.symbol.Symbol.TheVariants as symbols
+use Rattle.ql_lex.specs.declared.symbol.Symbol.{Symbol}
+use Rattle.ql_lex.specs.declared.symbol.Symbol.TheVariants as symbols
 use Rattle.ocl_parser.specs.declared.frame.Base.{Base}
 use Rattle.ocl_parser.specs.declared.frame.Frame.{Frame}
 use Rattle.ocl_parser.specs.declared.frame.Frame.TheVariants as frames
@@ -32,7 +33,7 @@ use Rattle.qv_syntax.specs.declared.expr.Args.TheVariants as args
 use Rattle.ocl_parser.specs.Pieces.{separated}
 use Rattle.ocl_parser.specs.Grammar.{args_for, takes_class, kind_word}
 use Rattle.ocl_parser.specs.Moves.{arguments, with_args, path_of}
-use Rattle.ocl_parser.specs.Symbols.{symbol_of}
+use Rattle.ql_lex.specs.Symbols.{symbol_of}
 use Rattle.ocl_parser.specs.declared.frame.Before.{Before}
 use Rattle.ocl_parser.specs.declared.frame.Before.TheVariants as before
 use Rattle.ocl_parser.specs.declared.frame.CallHead.{CallHead}

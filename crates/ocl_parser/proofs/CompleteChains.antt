@@ -9,10 +9,11 @@ use Rattle.qv_syntax.specs.declared.expr.Expr.{Expr}
 use Rattle.qv_syntax.specs.declared.expr.Expr.TheVariants as exprs
 use Rattle.qv_syntax.specs.declared.expr.Infix.{Infix}
 use Rattle.qv_syntax.specs.declared.expr.Args.TheOpen as of
-use Rattle.ocl_parser.specs.Pieces.{Piece, ◌▸◌, name, span_at, only}
+use Rattle.ocl_parser.specs.Pieces.{Piece, ◌▸◌, name, only}
+use Rattle.ql_lex.specs.Lexemes.{span_at}
 use Rattle.ocl_parser.specs.Grammar.{Form, InfixForm, Given, form, infix_form, args_step, expr_step, postfix_step, infix_step}
 use Rattle.ocl_parser.specs.Moves.{move, to, reduced, open_levels}
-use Rattle.ocl_parser.specs.declared.symbol.Symbol.TheVariants as symbols
+use Rattle.ql_lex.specs.declared.symbol.Symbol.TheVariants as symbols
 use Rattle.ocl_parser.specs.declared.frame.Subtree.{Subtree}
 use Rattle.ocl_parser.specs.declared.frame.Frame.{Frame}
 use Rattle.ocl_parser.specs.declared.frame.Frame.TheVariants as frames

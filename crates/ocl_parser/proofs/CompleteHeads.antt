@@ -5,10 +5,11 @@ use Rattle.ql_lex.specs.Lexed.{Lexeme}
 use Rattle.qv_syntax.specs.declared.name.Name.{Name}
 use Rattle.qv_syntax.specs.declared.operator.Operator.TheVariants as operators
 use Rattle.qv_syntax.specs.declared.type_tree.TypeTree.{TypeTree}
-use Rattle.ocl_parser.specs.Pieces.{◌▸◌, name, sign, is_sign, is_name, span_at, stands}
+use Rattle.ocl_parser.specs.Pieces.{◌▸◌, name, sign}
+use Rattle.ql_lex.specs.Lexemes.{is_sign, is_name, span_at, stands}
 use Rattle.ocl_parser.specs.Grammar.{type_of, optional_type, bound, declared_variable}
 use Rattle.ocl_parser.specs.Moves.{move, iterated_of, open_levels}
-use Rattle.ocl_parser.specs.declared.symbol.Symbol.TheVariants as symbols
+use Rattle.ql_lex.specs.declared.symbol.Symbol.TheVariants as symbols
 use Rattle.ocl_parser.specs.declared.frame.Base.{Base}
 use Rattle.ocl_parser.specs.declared.frame.Iterated.{Iterated}
 use Rattle.ocl_parser.specs.declared.frame.Frame.{Frame}

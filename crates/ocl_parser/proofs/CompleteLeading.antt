@@ -8,15 +8,17 @@ use Rattle.std.proofs.Math.ListN.{drop_of_length-le}
 use Rattle.mof_metamodel.specs.declared.span.Span.{Span}
 use Rattle.ql_lex.specs.Lexed.{Lexeme}
 use Rattle.qv_syntax.specs.declared.name.Name.{Name}
-use Rattle.ocl_parser.specs.Pieces.{◌▸◌, name, sign, is_sign, is_name, stands, each}
-use Rattle.ocl_parser.specs.Symbols.{symbol_of}
+use Rattle.ocl_parser.specs.Pieces.{◌▸◌, name, sign, each}
+use Rattle.ql_lex.specs.Lexemes.{is_sign, is_name, stands}
+use Rattle.ql_lex.specs.Symbols.{symbol_of}
 use Rattle.ocl_parser.specs.Moves.{Move, move}
-use Rattle.ocl_parser.specs.Runs.{run, ended_by, nowhere}
-use Rattle.ocl_parser.specs.declared.symbol.Symbol.{Symbol}
-use Rattle.ocl_parser.specs.declared.symbol.Symbol.TheVariants as symbols
+use Rattle.ocl_parser.specs.Runs.{run, ended_by}
+use Rattle.ql_lex.specs.Symbols.{nowhere}
+use Rattle.ql_lex.specs.declared.symbol.Symbol.{Symbol}
+use Rattle.ql_lex.specs.declared.symbol.Symbol.TheVariants as symbols
 use Rattle.ocl_parser.specs.declared.frame.Frame.{Frame}
 use Rattle.ocl_parser.specs.declared.state.State.{State}
-use Rattle.ocl_parser.proofs.TokenLaws.{stands_some, stands_none}
+use Rattle.ql_lex.proofs.TokenLaws.{stands_some, stands_none}
 use Rattle.ocl_parser.proofs.SymbolLaws.{test_of, is_told, tested, symbol_is}
 use Rattle.ocl_parser.proofs.CompleteRuns.{going, moved, coming, there}
 use Rattle.ocl_parser.proofs.CompletePieces.{parts, taken}

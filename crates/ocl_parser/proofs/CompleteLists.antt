@@ -4,11 +4,12 @@ use Rattle.std.specs.Prelude.{codes}
 use Rattle.mof_metamodel.specs.declared.span.Span.{Span}
 use Rattle.ql_lex.specs.Lexed.{Lexeme}
 use Rattle.qv_syntax.specs.declared.expr.Expr.{Expr}
-use Rattle.ocl_parser.specs.Pieces.{Piece, ◌▸◌, stands, sign, is_sign, span_at}
+use Rattle.ocl_parser.specs.Pieces.{Piece, ◌▸◌, sign}
+use Rattle.ql_lex.specs.Lexemes.{stands, is_sign, span_at}
 use Rattle.ocl_parser.specs.Grammar.{form}
 use Rattle.ocl_parser.specs.Moves.{move, to, reduced, closed, open_levels}
-use Rattle.ocl_parser.specs.declared.symbol.Symbol.{Symbol}
-use Rattle.ocl_parser.specs.declared.symbol.Symbol.TheVariants as symbols
+use Rattle.ql_lex.specs.declared.symbol.Symbol.{Symbol}
+use Rattle.ql_lex.specs.declared.symbol.Symbol.TheVariants as symbols
 use Rattle.ocl_parser.specs.declared.frame.Subtree.{Subtree}
 use Rattle.ocl_parser.specs.declared.frame.Base.{Base}
 use Rattle.ocl_parser.specs.declared.frame.Frame.{Frame}

@@ -10,10 +10,11 @@ use Rattle.qv_syntax.specs.declared.operator.Operator.TheVariants as operators
 use Rattle.qv_syntax.specs.declared.expr.Expr.{Expr}
 use Rattle.qv_syntax.specs.declared.expr.Expr.TheVariants as exprs
 use Rattle.qv_syntax.specs.declared.expr.Args.TheOpen as of
-use Rattle.ocl_parser.specs.Pieces.{Piece, ◌▸◌, stands, sign, word, is_sign, is_word, span_at, nested, only}
+use Rattle.ocl_parser.specs.Pieces.{Piece, ◌▸◌, sign, word, nested, only}
+use Rattle.ql_lex.specs.Lexemes.{stands, is_sign, is_word, span_at}
 use Rattle.ocl_parser.specs.Grammar.{form, expr_step, bound}
 use Rattle.ocl_parser.specs.Moves.{move, base_of, reduced, begins_expression, open_levels}
-use Rattle.ocl_parser.specs.declared.symbol.Symbol.TheVariants as symbols
+use Rattle.ql_lex.specs.declared.symbol.Symbol.TheVariants as symbols
 use Rattle.ocl_parser.specs.declared.frame.Base.{Base}
 use Rattle.ocl_parser.specs.declared.frame.Frame.{Frame}
 use Rattle.ocl_parser.specs.declared.frame.Frame.TheVariants as frames

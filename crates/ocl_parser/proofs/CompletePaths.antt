@@ -9,10 +9,11 @@ use Rattle.mof_metamodel.specs.declared.span.Span.{Span}
 use Rattle.ql_lex.specs.Lexed.{Lexeme}
 use Rattle.qv_syntax.specs.declared.name.Name.{Name}
 use Rattle.qv_syntax.specs.declared.name.Path.{Path}
-use Rattle.ocl_parser.specs.Pieces.{Piece, ◌▸◌, stands, sign, is_sign, name, is_name, name_text, is_same_span, span_at, start_of, only, each, separated}
+use Rattle.ocl_parser.specs.Pieces.{Piece, ◌▸◌, sign, name, only, each, separated}
+use Rattle.ql_lex.specs.Lexemes.{stands, is_sign, is_name, name_text, is_same_span, span_at, start_of}
 use Rattle.ocl_parser.specs.Grammar.{names, path}
 use Rattle.ocl_parser.specs.Moves.{move, to, open_levels, state_levels, path_of, extended, from_to}
-use Rattle.ocl_parser.specs.declared.symbol.Symbol.TheVariants as symbols
+use Rattle.ql_lex.specs.declared.symbol.Symbol.TheVariants as symbols
 use Rattle.ocl_parser.specs.declared.frame.Frame.{Frame}
 use Rattle.ocl_parser.specs.declared.state.State.{State}
 use Rattle.ocl_parser.proofs.CompleteRuns.{going, there, span_of, step}

@@ -4,7 +4,8 @@ use Rattle.std.specs.Prelude.{option_and_then, ◌==◌, if◌then◌else◌}
 use Rattle.std.proofs.lemmas.Bool.Decides.{nat_tests}
 use Rattle.mof_metamodel.specs.declared.span.Span.{Span}
 use Rattle.ql_lex.specs.Lexed.{Lexeme}
-use Rattle.ocl_parser.specs.Pieces.{Piece, ◌▸◌, stands, token, nested, only, spanned, span_at, is_same_span}
+use Rattle.ocl_parser.specs.Pieces.{Piece, ◌▸◌, token, nested, only, spanned}
+use Rattle.ql_lex.specs.Lexemes.{stands, span_at, is_same_span}
 
 some_is : (i j : ℕ) → Option.Some i ≡ Option.Some j → i ≡ j
 some_is i j e = cc

@@ -6,12 +6,13 @@ use Rattle.std.specs.Prelude.{if◌then◌else◌}
 use Rattle.std.proofs.lemmas.List.{drop_more}
 use Rattle.std.proofs.lemmas.Option.{slice_get_within, get_or_from_slice_get}
 use Rattle.ql_lex.specs.Lexed.{Lexeme}
-use Rattle.ocl_parser.specs.Pieces.{stands, span_at}
-use Rattle.ocl_parser.specs.Symbols.{symbol_of}
+use Rattle.ql_lex.specs.Lexemes.{stands, span_at}
+use Rattle.ql_lex.specs.Symbols.{symbol_of}
 use Rattle.ocl_parser.specs.Moves.{Move, move, to, open_levels, state_levels}
-use Rattle.ocl_parser.specs.Runs.{Answer, Tree, Stuck, Deep, run, go_on, ended_by, nowhere}
-use Rattle.ocl_parser.specs.declared.symbol.Symbol.{Symbol}
-use Rattle.ocl_parser.specs.declared.symbol.Symbol.TheVariants as symbols
+use Rattle.ocl_parser.specs.Runs.{Answer, Tree, Stuck, Deep, run, go_on, ended_by}
+use Rattle.ql_lex.specs.Symbols.{nowhere}
+use Rattle.ql_lex.specs.declared.symbol.Symbol.{Symbol}
+use Rattle.ql_lex.specs.declared.symbol.Symbol.TheVariants as symbols
 use Rattle.ocl_parser.specs.declared.frame.Frame.{Frame}
 use Rattle.ocl_parser.specs.declared.state.State.{State}
 use Rattle.ocl_parser.specs.declared.state.Action.{Action}

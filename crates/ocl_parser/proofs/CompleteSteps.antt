@@ -12,10 +12,11 @@ use Rattle.qv_syntax.specs.declared.expr.Infix.{Infix}
 use Rattle.qv_syntax.specs.declared.expr.Postfix.{Postfix}
 use Rattle.qv_syntax.specs.declared.expr.Args.{Args}
 use Rattle.qv_syntax.specs.declared.expr.Args.TheOpen as of
-use Rattle.ocl_parser.specs.Pieces.{Piece, ◌▸◌, stands, token, sign, name, is_sign, is_name, span_at, nested, spanned, only}
+use Rattle.ocl_parser.specs.Pieces.{Piece, ◌▸◌, token, sign, name, nested, spanned, only}
+use Rattle.ql_lex.specs.Lexemes.{stands, is_sign, is_name, span_at}
 use Rattle.ocl_parser.specs.Grammar.{Form, InfixForm, Given, form, infix_form, postfix_piece, given, args_step, expr_step, postfix_step, infix_step}
 use Rattle.ocl_parser.specs.Moves.{move, base_of, reduced, open_levels}
-use Rattle.ocl_parser.specs.declared.symbol.Symbol.TheVariants as symbols
+use Rattle.ql_lex.specs.declared.symbol.Symbol.TheVariants as symbols
 use Rattle.ocl_parser.specs.declared.frame.Base.{Base}
 use Rattle.ocl_parser.specs.declared.frame.Frame.{Frame}
 use Rattle.ocl_parser.specs.declared.frame.Frame.TheVariants as frames

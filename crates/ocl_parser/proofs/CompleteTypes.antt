@@ -10,13 +10,14 @@ use Rattle.qv_syntax.specs.declared.type_tree.Kind.{Kind}
 use Rattle.qv_syntax.specs.declared.type_tree.TypeTree.{TypeTree, fold-roll-TypeTree, roll-TypeTree, map-TypeTree, ind-TypeTree}
 use Rattle.qv_syntax.specs.declared.type_tree.TypeTree.TheOpen as types
 use Rattle.qv_syntax.specs.declared.type_tree.TypeTree.TheVariants.{Str, Int, Bool as Boolean, Named, Coll, rolls-Str, rolls-Int, rolls-Bool, rolls-Named, rolls-Coll}
-use Rattle.ocl_parser.specs.Pieces.{Piece, ◌▸◌, word, sign, is_sign, is_word, nested, spanned, span_at}
+use Rattle.ocl_parser.specs.Pieces.{Piece, ◌▸◌, word, sign, nested, spanned}
+use Rattle.ql_lex.specs.Lexemes.{is_sign, is_word, span_at}
 use Rattle.ocl_parser.specs.Grammar.{class_path as class_piece, named_path, kind_word, type_of, type_step}
 use Rattle.ocl_parser.specs.Moves.{move, to, from_to, path_by, plain_type, type_end, open_levels}
-use Rattle.ocl_parser.specs.declared.symbol.Symbol.{Symbol}
-use Rattle.ocl_parser.specs.declared.symbol.Symbol.TheVariants as symbols
-use Rattle.ocl_parser.specs.declared.symbol.PlainType.{PlainType}
-use Rattle.ocl_parser.specs.declared.symbol.PlainType.TheVariants as plain
+use Rattle.ql_lex.specs.declared.symbol.Symbol.{Symbol}
+use Rattle.ql_lex.specs.declared.symbol.Symbol.TheVariants as symbols
+use Rattle.ql_lex.specs.declared.symbol.PlainType.{PlainType}
+use Rattle.ql_lex.specs.declared.symbol.PlainType.TheVariants as plain
 use Rattle.ocl_parser.specs.declared.frame.CallHead.{CallHead}
 use Rattle.ocl_parser.specs.declared.frame.Frame.{Frame}
 use Rattle.ocl_parser.specs.declared.frame.Frame.TheVariants as frames

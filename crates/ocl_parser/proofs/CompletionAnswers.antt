@@ -5,18 +5,19 @@ use Rattle.std.proofs.lemmas.List.{take-append-drop}
 use Rattle.std.proofs.lemmas.Option.{slice_get_past}
 use Rattle.ql_lex.specs.Lexed.{Lexeme}
 use Rattle.qv_syntax.specs.declared.expr.Expr.{Expr}
-use Rattle.ocl_parser.specs.Pieces.{stands}
+use Rattle.ql_lex.specs.Lexemes.{stands}
 use Rattle.ocl_parser.specs.Grammar.{form, spelled}
-use Rattle.ocl_parser.specs.Symbols.{symbol_of}
+use Rattle.ql_lex.specs.Symbols.{symbol_of}
 use Rattle.ocl_parser.specs.Moves.{Move, move, reduced, open_levels, state_levels}
-use Rattle.ocl_parser.specs.Runs.{Answer, Tree, Stuck, Deep, run, ended_by, nowhere, answer}
+use Rattle.ocl_parser.specs.Runs.{Answer, Tree, Stuck, Deep, run, ended_by, answer}
+use Rattle.ql_lex.specs.Symbols.{nowhere}
 use Rattle.ocl_parser.specs.Beginnings.{BeginsWithin, Begins, IsLongest, IsShallow, IsTree, IsStuck, IsDeep, opens}
-use Rattle.ocl_parser.specs.declared.symbol.Symbol.TheVariants as symbols
+use Rattle.ql_lex.specs.declared.symbol.Symbol.TheVariants as symbols
 use Rattle.ocl_parser.specs.declared.frame.Frame.{Frame}
 use Rattle.ocl_parser.specs.declared.state.State.{State}
 use Rattle.ocl_parser.specs.declared.state.Action.{Action}
 use Rattle.ocl_parser.specs.declared.state.Action.TheVariants as actions
-use Rattle.ocl_parser.proofs.TokenLaws.{stands_none}
+use Rattle.ql_lex.proofs.TokenLaws.{stands_none}
 use Rattle.ocl_parser.proofs.CompleteRuns.{going}
 use Rattle.ocl_parser.proofs.CompleteForms.{closing}
 use Rattle.ocl_parser.proofs.Complete.{expr_read, complete}

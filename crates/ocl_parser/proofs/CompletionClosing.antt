@@ -13,12 +13,13 @@ use Rattle.qv_syntax.specs.declared.expr.Expr.TheVariants as exprs
 use Rattle.qv_syntax.specs.declared.expr.Infix.{Infix}
 use Rattle.qv_syntax.specs.declared.expr.Args.TheVariants as args
 use Rattle.qv_syntax.specs.Operators.{level_of}
-use Rattle.ocl_parser.specs.Symbols.{symbol_of}
+use Rattle.ql_lex.specs.Symbols.{symbol_of}
 use Rattle.ocl_parser.specs.Moves.{Move, Reduced, move, to, from_to, base_of, subtree_of, with_args, with_body, chained, reduced, closed, open_levels}
-use Rattle.ocl_parser.specs.Runs.{Tree, run, ended_by, nowhere}
+use Rattle.ocl_parser.specs.Runs.{Tree, run, ended_by}
+use Rattle.ql_lex.specs.Symbols.{nowhere}
 use Rattle.ocl_parser.specs.Completion.{Ends, closing, reserved, mark, null, closes, are_expressions}
-use Rattle.ocl_parser.specs.declared.symbol.Symbol.{Symbol}
-use Rattle.ocl_parser.specs.declared.symbol.Symbol.TheVariants as symbols
+use Rattle.ql_lex.specs.declared.symbol.Symbol.{Symbol}
+use Rattle.ql_lex.specs.declared.symbol.Symbol.TheVariants as symbols
 use Rattle.ocl_parser.specs.declared.frame.Subtree.{Subtree}
 use Rattle.ocl_parser.specs.declared.frame.Base.{Base}
 use Rattle.ocl_parser.specs.declared.frame.CallHead.{CallHead}

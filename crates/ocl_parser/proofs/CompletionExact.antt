@@ -6,18 +6,19 @@ use Rattle.std.proofs.lemmas.Option.{slice_get-get_or}
 use Rattle.ql_lex.specs.Lexed.{Lexeme}
 use Rattle.qv_syntax.specs.declared.expr.Expr.{Expr}
 use Rattle.ocl_parser.specs.Grammar.{spelled}
-use Rattle.ocl_parser.specs.Symbols.{symbol_of}
+use Rattle.ql_lex.specs.Symbols.{symbol_of}
 use Rattle.ocl_parser.specs.Moves.{Move, move, open_levels, state_levels}
-use Rattle.ocl_parser.specs.Runs.{Answer, Tree, Stuck, Deep, run, ended_by, nowhere, answer}
+use Rattle.ocl_parser.specs.Runs.{Answer, Tree, Stuck, Deep, run, ended_by, answer}
+use Rattle.ql_lex.specs.Symbols.{nowhere}
 use Rattle.ocl_parser.specs.Beginnings.{BeginsWithin, Begins, IsLongest, IsShallow, IsTree, IsDeep, opens}
 use Rattle.ocl_parser.specs.Completion.{Reading, Reaches, reads, completion, opening_levels}
-use Rattle.ocl_parser.specs.declared.symbol.Symbol.TheVariants as symbols
+use Rattle.ql_lex.specs.declared.symbol.Symbol.TheVariants as symbols
 use Rattle.ocl_parser.specs.declared.frame.Frame.{Frame}
 use Rattle.ocl_parser.specs.declared.state.State.{State}
 use Rattle.ocl_parser.specs.declared.state.State.TheVariants as states
 use Rattle.ocl_parser.specs.declared.state.Action.{Action}
 use Rattle.ocl_parser.specs.declared.state.Action.TheVariants as actions
-use Rattle.ocl_parser.proofs.TokenLaws.{stands_some}
+use Rattle.ql_lex.proofs.TokenLaws.{stands_some}
 use Rattle.ocl_parser.proofs.SoundRuns.{Sound, answer_sound}
 use Rattle.ocl_parser.proofs.CompletionSteps.{by_move, run-step}
 use Rattle.ocl_parser.proofs.CompletionReads.{FirstRead, first_read, reads_by, reads-step, reads_fit, reached_ends, answer_run}

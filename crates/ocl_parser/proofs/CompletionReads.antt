@@ -4,7 +4,7 @@ use Rattle.std.proofs.lemmas.Bool.Decides.{nat_tests}
 use Rattle.std.proofs.lemmas.List.{drop-append-le, length-take-le}
 use Rattle.ql_lex.specs.Lexed.{Lexeme}
 use Rattle.qv_syntax.specs.declared.expr.Expr.{Expr}
-use Rattle.ocl_parser.specs.Symbols.{symbol_of}
+use Rattle.ql_lex.specs.Symbols.{symbol_of}
 use Rattle.ocl_parser.specs.Moves.{Move, move, open_levels, state_levels}
 use Rattle.ocl_parser.specs.Runs.{Tree, run, answer}
 use Rattle.ocl_parser.specs.Completion.{Reading, Reaches, Ends, reads, is_open, completion, opening_levels}

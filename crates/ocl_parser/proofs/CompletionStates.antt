@@ -13,14 +13,14 @@ use Rattle.qv_syntax.specs.declared.expr.Postfix.TheVariants as postfixes
 use Rattle.qv_syntax.specs.declared.expr.Args.TheVariants as args
 use Rattle.ocl_parser.specs.Grammar.{takes_class}
 use Rattle.std.specs.Str.{chars}
-use Rattle.ocl_parser.specs.Pieces.{name_text}
-use Rattle.ocl_parser.specs.Symbols.{symbol_of}
+use Rattle.ql_lex.specs.Lexemes.{name_text}
+use Rattle.ql_lex.specs.Symbols.{symbol_of}
 use Rattle.ocl_parser.specs.Moves.{move, to, from_to, base_of, subtree_of, with_postfix, with_args, path_of, extended, path_by, reduced, closed, type_end, arrow_call, iterated_of, open_levels}
-use Rattle.ocl_parser.specs.Runs.{nowhere}
+use Rattle.ql_lex.specs.Symbols.{nowhere}
 use Rattle.ocl_parser.specs.Completion.{Ends, closing, completion, needed_levels, reserved, mark, null, some_name, closes, are_expressions, is_type, is_open}
-use Rattle.ocl_parser.specs.declared.symbol.Symbol.{Symbol}
-use Rattle.ocl_parser.specs.declared.symbol.Symbol.TheVariants as symbols
-use Rattle.ocl_parser.specs.declared.symbol.PlainType.TheVariants as plain
+use Rattle.ql_lex.specs.declared.symbol.Symbol.{Symbol}
+use Rattle.ql_lex.specs.declared.symbol.Symbol.TheVariants as symbols
+use Rattle.ql_lex.specs.declared.symbol.PlainType.TheVariants as plain
 use Rattle.ocl_parser.specs.declared.frame.Base.{Base}
 use Rattle.ocl_parser.specs.declared.frame.CallHead.{CallHead}
 use Rattle.ocl_parser.specs.declared.frame.Iterated.{Iterated}

@@ -4,13 +4,13 @@ use Rattle.std.specs.Prelude.{codes}
 use Rattle.std.proofs.lemmas.Bool.Decides.{nat_tests}
 use Rattle.ql_lex.specs.Lexed.{Lexeme}
 use Rattle.qv_syntax.specs.declared.operator.Operator.TheVariants as operators
-use Rattle.ocl_parser.specs.Symbols.{symbol_of, symbol_among}
+use Rattle.ql_lex.specs.Symbols.{symbol_of, symbol_among}
 use Rattle.ocl_parser.specs.Moves.{Move, move, to, open_levels, state_levels}
 use Rattle.ocl_parser.specs.Runs.{Answer, Tree, Stuck, run, go_on}
 use Rattle.ocl_parser.specs.Completion.{Ends, reserved, mark, null, closes}
-use Rattle.ocl_parser.specs.declared.symbol.Symbol.{Symbol}
-use Rattle.ocl_parser.specs.declared.symbol.Symbol.TheVariants as symbols
-use Rattle.ocl_parser.specs.declared.symbol.PlainType.TheVariants as plain
+use Rattle.ql_lex.specs.declared.symbol.Symbol.{Symbol}
+use Rattle.ql_lex.specs.declared.symbol.Symbol.TheVariants as symbols
+use Rattle.ql_lex.specs.declared.symbol.PlainType.TheVariants as plain
 use Rattle.ocl_parser.specs.declared.frame.Frame.{Frame}
 use Rattle.ocl_parser.specs.declared.state.State.{State}
 use Rattle.ocl_parser.specs.declared.state.Action.TheVariants as actions

@@ -11,8 +11,8 @@ use Rattle.qv_syntax.specs.declared.expr.Postfix.TheVariants as postfixes
 use Rattle.qv_syntax.specs.Operators.{level_of}
 use Rattle.ocl_parser.specs.Grammar.{takes_class}
 use Rattle.ocl_parser.specs.Moves.{Move, Reduced, move, to, refused, base_of, subtree_of, with_postfix, path_of, reduced, operator_on, close_by, behind, operand, after, arguments, call_of, infixed, after_path, path_by, on_path, dotted, arrow_call, arrow_first, arrow_second, class_path, type_end}
-use Rattle.ocl_parser.specs.declared.symbol.Symbol.{Symbol}
-use Rattle.ocl_parser.specs.declared.symbol.Symbol.TheVariants as symbols
+use Rattle.ql_lex.specs.declared.symbol.Symbol.{Symbol}
+use Rattle.ql_lex.specs.declared.symbol.Symbol.TheVariants as symbols
 use Rattle.ocl_parser.specs.declared.frame.Subtree.{Subtree}
 use Rattle.ocl_parser.specs.declared.frame.Base.{Base}
 use Rattle.ocl_parser.specs.declared.frame.Before.TheVariants as before

@@ -16,9 +16,10 @@ use Rattle.qv_syntax.specs.declared.expr.Infix.{Infix}
 use Rattle.qv_syntax.specs.declared.expr.Postfix.{Postfix}
 use Rattle.qv_syntax.specs.declared.expr.Args.{Args}
 use Rattle.qv_syntax.specs.declared.expr.Args.TheOpen as of
-use Rattle.ocl_parser.specs.Pieces.{Piece, stands, is_sign, is_word, is_name, is_number, is_string, span_at}
+use Rattle.ocl_parser.specs.Pieces.{Piece}
+use Rattle.ql_lex.specs.Lexemes.{stands, is_sign, is_word, is_name, is_number, is_string, span_at}
 use Rattle.ocl_parser.specs.Grammar.{Form, InfixForm, Given, form, infix_form, postfix_piece, given, args_step, expr_step, postfix_step, infix_step, binding, spelled, spelled_infixes, spelled_postfixes, spelled_args, spelled_list, are_of_level, is_of_level, is_chain, chain_level, path, kind_word, bound, constant}
-use Rattle.ocl_parser.proofs.TokenLaws.{same_span}
+use Rattle.ql_lex.proofs.TokenLaws.{same_span}
 use Rattle.ocl_parser.proofs.PieceLaws.{nested_at}
 
 rolled : (ts : List Lexeme) (d : of.Expr-F Args Expr Postfix Infix) (e : Expr) → roll-Expr d ≡ e → form ts e ≡ expr_step ts (map-Expr Args Expr Postfix Infix Given Form Piece InfixForm (given ts) (form ts) (postfix_piece ts) (infix_form ts) d)

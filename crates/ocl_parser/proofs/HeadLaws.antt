@@ -4,7 +4,7 @@ use Rattle.std.specs.Prelude.{codes}
 use Rattle.ql_lex.specs.Lexed.{Lexeme}
 use Rattle.qv_syntax.specs.declared.name.Name.{Name}
 use Rattle.qv_syntax.specs.declared.type_tree.TypeTree.{TypeTree}
-use Rattle.ocl_parser.specs.Pieces.{stands, is_sign, is_name}
+use Rattle.ql_lex.specs.Lexemes.{stands, is_sign, is_name}
 use Rattle.ocl_parser.specs.Grammar.{type_of, bound, optional_type, declared_variable}
 
 pub bound_spelled : (ts : List Lexeme) (x : Name) (ty : TypeTree) (n j k l o p : ℕ) → stands (is_name x) ts j ≡ true → k ≡ j + 1 → stands (is_sign (codes ":")) ts k ≡ true → l ≡ k + 1 → type_of ts ty n l ≡ Some o

@@ -1,5 +1,3 @@
-pub mod TokenLaws
-pub mod TableLaws
 pub mod StackLaws
 pub mod PartLaws
 pub mod ReduceLaws
@@ -7,7 +5,6 @@ pub mod ClosingLaws
 pub mod PathLaws
 pub mod MoveLaws
 pub mod RunLaws
-pub mod DigitLaws
 pub mod PieceLaws
 pub mod TypeLaws
 pub mod HeadLaws
@@ -52,3 +49,4 @@ pub mod Complete
 pub mod LocalPieces
 pub mod Local
 pub mod AnswerLaws
+pub mod ReadingLaws

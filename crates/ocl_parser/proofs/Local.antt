@@ -14,7 +14,8 @@ use Rattle.qv_syntax.specs.declared.expr.Infix.{Infix, roll-Infix, map-Infix, fo
 use Rattle.qv_syntax.specs.declared.expr.Postfix.{Postfix, roll-Postfix, map-Postfix, fold-roll-Postfix}
 use Rattle.qv_syntax.specs.declared.expr.Args.{Args, roll-Args, map-Args, fold-roll-Args}
 use Rattle.qv_syntax.specs.declared.expr.Args.TheOpen as of
-use Rattle.ocl_parser.specs.Pieces.{Piece, ◌▸◌, token, name, sign, word, is_sign, is_word, is_name, is_number, is_string, nested, only, spanned, each, separated}
+use Rattle.ocl_parser.specs.Pieces.{Piece, ◌▸◌, token, name, sign, word, nested, only, spanned, each, separated}
+use Rattle.ql_lex.specs.Lexemes.{is_sign, is_word, is_name, is_number, is_string}
 use Rattle.ocl_parser.specs.Grammar.{Form, InfixForm, Given, form, infix_form, postfix_piece, given}
 use Rattle.ocl_parser.specs.Grammar.{args_step, expr_step, postfix_step, infix_step, chain_level, is_of_level, is_chain}
 use Rattle.ocl_parser.specs.Grammar.{is_same, takes_class, args_for, constant, is_operator, spelled, names}

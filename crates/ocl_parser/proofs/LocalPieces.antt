@@ -6,8 +6,9 @@ use Rattle.std.proofs.lemmas.Option.{slice_get_within, slice_get_cases, slice_ge
 use Rattle.std.proofs.lemmas.List.{length-take, get_or-take}
 use Rattle.mof_metamodel.specs.declared.span.Span.{Span}
 use Rattle.ql_lex.specs.Lexed.{Lexeme}
-use Rattle.ocl_parser.specs.Pieces.{Piece, ◌▸◌, empty, token, sign, stands, is_sign, span_at, start_of, end_of, nested, only, spanned, each, separated}
-use Rattle.ocl_parser.proofs.TokenLaws.{stands_some}
+use Rattle.ocl_parser.specs.Pieces.{Piece, ◌▸◌, empty, token, sign, nested, only, spanned, each, separated}
+use Rattle.ql_lex.specs.Lexemes.{stands, is_sign, span_at, start_of, end_of}
+use Rattle.ql_lex.proofs.TokenLaws.{stands_some}
 use Rattle.ocl_parser.proofs.PieceLaws.{token_taken, both, inside, with_span}
 use Rattle.ocl_parser.proofs.CompleteRuns.{there}
 use Rattle.ocl_parser.proofs.CompletePieces.{parts, taken, within, held, at_span}

@@ -3,7 +3,7 @@ use Rattle.std.proofs.Common.{◌≡◌, Bool, true, false, if◌then◌else◌,
 use Rattle.mof_metamodel.specs.declared.span.Span.{Span}
 use Rattle.ocl_parser.specs.Moves.{Move, move}
 use Rattle.ocl_parser.specs.Answers.{made}
-use Rattle.ocl_parser.specs.declared.symbol.Symbol.{Symbol}
+use Rattle.ql_lex.specs.declared.symbol.Symbol.{Symbol}
 use Rattle.ocl_parser.specs.declared.frame.Frame.{Frame}
 use Rattle.ocl_parser.specs.declared.state.State.{State}
 use Rattle.ocl_parser.specs.declared.state.Action.{Action}

@@ -5,9 +5,10 @@ use Rattle.std.proofs.lemmas.List.{map-append, length-map}
 use Rattle.std.proofs.lemmas.Bool.Decides.{nat_tests}
 use Rattle.ql_lex.specs.Lexed.{Lexeme}
 use Rattle.qv_syntax.specs.declared.name.Name.{Name}
-use Rattle.ocl_parser.specs.Pieces.{Piece, ◌▸◌, stands, token, sign, is_sign, name, is_name, nested, spanned, span_at, each, separated}
+use Rattle.ocl_parser.specs.Pieces.{Piece, ◌▸◌, token, sign, name, nested, spanned, each, separated}
+use Rattle.ql_lex.specs.Lexemes.{stands, is_sign, is_name, span_at}
 use Rattle.ocl_parser.specs.Grammar.{names, path}
-use Rattle.ocl_parser.proofs.TokenLaws.{same_span}
+use Rattle.ql_lex.proofs.TokenLaws.{same_span}
 
 -- one token
 pub token_taken : (passes : Lexeme → Bool) (ts : List Lexeme) (n i : ℕ) → stands passes ts i ≡ true → token passes ts n i ≡ Some (i + 1)

@@ -4,12 +4,15 @@ use Rattle.std.proofs.lemmas.List.{drop_more}
 use Rattle.std.proofs.lemmas.Option.{slice_get_within, get_or_from_slice_get, slice_get_cases, slice_get_past}
 use Rattle.ql_lex.specs.Lexed.{Lexeme, LexedText}
 use Rattle.qv_syntax.specs.declared.expr.Expr.{Expr}
-use Rattle.ocl_parser.specs.Symbols.{symbol_of}
+use Rattle.ql_lex.specs.Symbols.{symbol_of}
 use Rattle.ocl_parser.specs.Moves.{Move, move}
-use Rattle.ocl_parser.specs.Runs.{Answer, ended_by, nowhere, run}
-use Rattle.ocl_parser.specs.Answers.{Answers, Passed, made, step_answer, terminal_of}
-use Rattle.ocl_parser.specs.declared.symbol.Symbol.TheVariants as symbols
-use Rattle.ocl_parser.specs.declared.error.ParseError.{ParseError}
+use Rattle.ocl_parser.specs.Runs.{Answer, ended_by, run}
+use Rattle.ql_lex.specs.Symbols.{nowhere}
+use Rattle.ocl_parser.specs.Answers.{Passed, made, step_answer}
+use Rattle.ql_lex.specs.Symbols.{terminal_of}
+use Rattle.ql_lex.specs.declared.symbol.Symbol.TheVariants as symbols
+use Rattle.ocl_parser.specs.Readings.{Gives, read_by}
+use Rattle.ocl_parser.specs.declared.halt.Halt.{Halt}
 use Rattle.ocl_parser.specs.declared.frame.Frame.{Frame}
 use Rattle.ocl_parser.specs.declared.state.State.{State}
 use Rattle.ocl_parser.specs.declared.state.Action.{Action}
@@ -56,8 +59,8 @@ no_token levels ts at stack more state action h n =
     let m : made more action ≡ move stack state symbols.Other nowhere = n.made ∙ ap (λ (o : Option Lexeme). move stack state (terminal_of o).symbol (terminal_of o).span) (slice_get_past ts at h) in
     sym (run_nil levels stack state at ∙ ap (λ (x : Move). ended_by x.action at) (sym m))
 
-pub passed_so : (text : LexedText) (at : ℕ) (stack : List Frame) (state : State) (a b : Answer) (result : Option (Result (Expr × ℕ) ParseError)) → a ≡ b → Passed text at stack state a result → Passed text at stack state b result
-passed_so text at stack state a b result e h = let P : Answer → Type 0 = λ x. Passed text at stack state x result in subst P e h
+pub passed_so : (text : LexedText) (levels at : ℕ) (stack : List Frame) (state : State) (a b : Answer) (result : Option (Result (Expr × ℕ) Halt)) → a ≡ b → Passed text levels at stack state a result → Passed text levels at stack state b result
+passed_so text levels at stack state a b result e h = let P : Answer → Type 0 = λ x. Passed text levels at stack state x result in subst P e h
 
-pub answers_so : (text : LexedText) (a b : Answer) (result : Result (Expr × ℕ) ParseError) → a ≡ b → Answers text a result → Answers text b result
-answers_so text a b result e h = let P : Answer → Type 0 = λ x. Answers text x result in subst P e h
+pub reads_so : (a b : Answer) (result : Result (Expr × ℕ) Halt) → a ≡ b → Gives result (read_by a) → Gives result (read_by b)
+reads_so a b result e h = let P : Answer → Type 0 = λ x. Gives result (read_by x) in subst P e h

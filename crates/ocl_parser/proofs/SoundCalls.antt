@@ -7,8 +7,8 @@ use Rattle.qv_syntax.specs.declared.name.Path.{Path}
 use Rattle.qv_syntax.specs.declared.expr.Args.TheVariants as args
 use Rattle.ocl_parser.specs.Grammar.{takes_class}
 use Rattle.ocl_parser.specs.Moves.{refused, path_of, operand, on_path, on_arrow_parenthesis, arrow_first, arrow_second, arrow_call, class_path}
-use Rattle.ocl_parser.specs.declared.symbol.Symbol.{Symbol}
-use Rattle.ocl_parser.specs.declared.symbol.Symbol.TheVariants as symbols
+use Rattle.ql_lex.specs.declared.symbol.Symbol.{Symbol}
+use Rattle.ql_lex.specs.declared.symbol.Symbol.TheVariants as symbols
 use Rattle.ocl_parser.specs.declared.frame.Base.{Base}
 use Rattle.ocl_parser.specs.declared.frame.Before.TheVariants as before
 use Rattle.ocl_parser.specs.declared.frame.CallHead.{CallHead}

@@ -13,11 +13,11 @@ use Rattle.qv_syntax.specs.declared.expr.Infix.{Infix}
 use Rattle.qv_syntax.specs.declared.expr.Postfix.TheVariants as postfixes
 use Rattle.qv_syntax.specs.declared.expr.Args.TheVariants as args
 use Rattle.qv_syntax.specs.Operators.{level_of}
-use Rattle.ocl_parser.specs.Pieces.{stands, end_of}
+use Rattle.ql_lex.specs.Lexemes.{stands, end_of}
 use Rattle.ocl_parser.specs.Grammar.{binding, spelled, are_of_level}
 use Rattle.ocl_parser.specs.Moves.{Move, Reduced, reduced, from_to, infixed, operator_on, close_by, closed, behind, after, subtree_of, open_levels, state_levels}
-use Rattle.ocl_parser.specs.declared.symbol.Symbol.{Symbol}
-use Rattle.ocl_parser.specs.declared.symbol.Symbol.TheVariants as symbols
+use Rattle.ql_lex.specs.declared.symbol.Symbol.{Symbol}
+use Rattle.ql_lex.specs.declared.symbol.Symbol.TheVariants as symbols
 use Rattle.ocl_parser.specs.declared.frame.Subtree.{Subtree}
 use Rattle.ocl_parser.specs.declared.frame.Base.{Base}
 use Rattle.ocl_parser.specs.declared.frame.CallHead.{CallHead}

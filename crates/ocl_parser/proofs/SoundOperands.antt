@@ -11,11 +11,12 @@ use Rattle.qv_syntax.specs.declared.expr.Expr.{Expr}
 use Rattle.qv_syntax.specs.declared.expr.Expr.TheVariants as exprs
 use Rattle.qv_syntax.specs.declared.expr.Postfix.TheVariants as postfixes
 use Rattle.qv_syntax.specs.declared.expr.Args.TheVariants as args
-use Rattle.ocl_parser.specs.Pieces.{stands, is_name, start_of, end_of, span_at, each, separated}
+use Rattle.ocl_parser.specs.Pieces.{each, separated}
+use Rattle.ql_lex.specs.Lexemes.{stands, is_name, start_of, end_of, span_at}
 use Rattle.ocl_parser.specs.Grammar.{names, path, binding, spelled, takes_class}
 use Rattle.ocl_parser.specs.Moves.{to, from_to, base_of, with_postfix, behind_base, begins_expression, let_on, none_in_parentheses, none_in_braces, operand, arguments, call_of, after_path, path_by, on_path, dotted}
-use Rattle.ocl_parser.specs.declared.symbol.Symbol.{Symbol}
-use Rattle.ocl_parser.specs.declared.symbol.Symbol.TheVariants as symbols
+use Rattle.ql_lex.specs.declared.symbol.Symbol.{Symbol}
+use Rattle.ql_lex.specs.declared.symbol.Symbol.TheVariants as symbols
 use Rattle.ocl_parser.specs.declared.frame.Base.{Base}
 use Rattle.ocl_parser.specs.declared.frame.Before.TheVariants as before
 use Rattle.ocl_parser.specs.declared.frame.CallHead.{CallHead}

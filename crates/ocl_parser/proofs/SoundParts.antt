@@ -14,7 +14,7 @@ use Rattle.qv_syntax.specs.declared.expr.Expr.TheVariants as exprs
 use Rattle.qv_syntax.specs.declared.expr.Postfix.{Postfix}
 use Rattle.qv_syntax.specs.declared.expr.Postfix.TheVariants as postfixes
 use Rattle.qv_syntax.specs.declared.expr.Args.{Args}
-use Rattle.ocl_parser.specs.Pieces.{stands, is_name, is_same_span, name_text, start_of, end_of, span_at}
+use Rattle.ql_lex.specs.Lexemes.{stands, is_name, is_same_span, name_text, start_of, end_of, span_at}
 use Rattle.ocl_parser.specs.Grammar.{binding, spelled, spelled_postfix, spelled_postfixes, spelled_args, spelled_list}
 use Rattle.ocl_parser.specs.Moves.{from_to, base_of, with_postfix, subtree_by, subtree_of, path_of, extended, called_by, with_args}
 use Rattle.ocl_parser.specs.declared.frame.Subtree.{Subtree}

@@ -13,7 +13,7 @@ use Rattle.qv_syntax.specs.declared.expr.Expr.{Expr}
 use Rattle.qv_syntax.specs.declared.expr.Expr.TheVariants as exprs
 use Rattle.qv_syntax.specs.declared.expr.Infix.{Infix}
 use Rattle.qv_syntax.specs.Operators.{level_of}
-use Rattle.ocl_parser.specs.Pieces.{is_sign, is_word, start_of, end_of, span_at}
+use Rattle.ql_lex.specs.Lexemes.{is_sign, is_word, start_of, end_of, span_at}
 use Rattle.ocl_parser.specs.Grammar.{binding, spelled, spelled_infixes}
 use Rattle.ocl_parser.specs.Moves.{Reduced, reduced, from_to, chained, infixed, begins_expression, open_levels, frame_levels}
 use Rattle.ocl_parser.specs.declared.frame.Subtree.{Subtree}

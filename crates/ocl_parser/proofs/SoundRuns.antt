@@ -8,17 +8,18 @@ use Rattle.mof_metamodel.specs.declared.span.Span.{Span}
 use Rattle.ql_lex.specs.Lexed.{Lexeme}
 use Rattle.qv_syntax.specs.declared.expr.Expr.{Expr}
 use Rattle.ocl_parser.specs.Grammar.{spelled}
-use Rattle.ocl_parser.specs.Symbols.{symbol_of}
+use Rattle.ql_lex.specs.Symbols.{symbol_of}
 use Rattle.ocl_parser.specs.Moves.{Move, move, path_of, extended, open_levels, state_levels}
-use Rattle.ocl_parser.specs.Runs.{Answer, Tree, Stuck, Deep, ended_by, go_on, nowhere, run, answer}
-use Rattle.ocl_parser.specs.declared.symbol.Symbol.{Symbol}
-use Rattle.ocl_parser.specs.declared.symbol.Symbol.TheVariants as symbols
+use Rattle.ocl_parser.specs.Runs.{Answer, Tree, Stuck, Deep, ended_by, go_on, run, answer}
+use Rattle.ql_lex.specs.Symbols.{nowhere}
+use Rattle.ql_lex.specs.declared.symbol.Symbol.{Symbol}
+use Rattle.ql_lex.specs.declared.symbol.Symbol.TheVariants as symbols
 use Rattle.ocl_parser.specs.declared.frame.Frame.{Frame}
 use Rattle.ocl_parser.specs.declared.state.State.{State}
 use Rattle.ocl_parser.specs.declared.state.State.TheVariants as states
 use Rattle.ocl_parser.specs.declared.state.Action.{Action}
 use Rattle.ocl_parser.specs.declared.state.Action.TheVariants as actions
-use Rattle.ocl_parser.proofs.TokenLaws.{stands_some}
+use Rattle.ql_lex.proofs.TokenLaws.{stands_some}
 use Rattle.ocl_parser.proofs.SymbolLaws.{test_of, tested}
 use Rattle.ocl_parser.proofs.SoundStacks.{here, IsNamed, StateAt}
 use Rattle.ocl_parser.proofs.SoundParts.{path_one, path_longer}

@@ -10,7 +10,7 @@ use Rattle.qv_syntax.specs.declared.type_tree.TypeTree.{TypeTree}
 use Rattle.qv_syntax.specs.declared.expr.Expr.{Expr}
 use Rattle.qv_syntax.specs.declared.expr.Infix.{Infix}
 use Rattle.qv_syntax.specs.Operators.{level_of}
-use Rattle.ocl_parser.specs.Pieces.{stands, is_sign, is_word, is_name, start_of, end_of, span_at}
+use Rattle.ql_lex.specs.Lexemes.{stands, is_sign, is_word, is_name, start_of, end_of, span_at}
 use Rattle.ocl_parser.specs.Grammar.{names, type_of, binding, spelled, spelled_infixes, spelled_postfixes, spelled_list, are_of_level, is_operator, kind_word, bound, declared_variable, takes_class}
 use Rattle.ocl_parser.specs.declared.frame.Subtree.{Subtree}
 use Rattle.ocl_parser.specs.declared.frame.Base.{Base}

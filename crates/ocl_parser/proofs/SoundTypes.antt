@@ -9,13 +9,13 @@ use Rattle.qv_syntax.specs.declared.operator.Operator.TheVariants as operators
 use Rattle.qv_syntax.specs.declared.type_tree.Kind.{Kind}
 use Rattle.qv_syntax.specs.declared.type_tree.TypeTree.{TypeTree}
 use Rattle.qv_syntax.specs.declared.type_tree.TypeTree.TheVariants as types
-use Rattle.ocl_parser.specs.Pieces.{end_of}
+use Rattle.ql_lex.specs.Lexemes.{end_of}
 use Rattle.ocl_parser.specs.Grammar.{type_of}
 use Rattle.ocl_parser.specs.Moves.{from_to, plain_type, type_begin, type_end, type_path, on_name, on_colon, on_brace, on_type_parenthesis, open_levels, state_levels}
-use Rattle.ocl_parser.specs.declared.symbol.Symbol.{Symbol}
-use Rattle.ocl_parser.specs.declared.symbol.Symbol.TheVariants as symbols
-use Rattle.ocl_parser.specs.declared.symbol.PlainType.{PlainType}
-use Rattle.ocl_parser.specs.declared.symbol.PlainType.TheVariants as plain
+use Rattle.ql_lex.specs.declared.symbol.Symbol.{Symbol}
+use Rattle.ql_lex.specs.declared.symbol.Symbol.TheVariants as symbols
+use Rattle.ql_lex.specs.declared.symbol.PlainType.{PlainType}
+use Rattle.ql_lex.specs.declared.symbol.PlainType.TheVariants as plain
 use Rattle.ocl_parser.specs.declared.frame.Iterated.{Iterated}
 use Rattle.ocl_parser.specs.declared.frame.Frame.{Frame}
 use Rattle.ocl_parser.specs.declared.frame.Frame.TheVariants as frames

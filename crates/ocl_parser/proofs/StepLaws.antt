@@ -19,9 +19,10 @@ use Rattle.qv_syntax.specs.declared.expr.Postfix.TheVariants.{Property, Dot, Arr
 use Rattle.qv_syntax.specs.declared.expr.Args.{Args, roll-Args, map-Args, fold-roll-Args}
 use Rattle.qv_syntax.specs.declared.expr.Args.TheVariants.{Values, Class, rolls-Values, rolls-Class}
 use Rattle.qv_syntax.specs.declared.expr.Args.TheOpen as of
-use Rattle.ocl_parser.specs.Pieces.{Piece, token, stands, is_sign, is_name, span_at, each, separated}
+use Rattle.ocl_parser.specs.Pieces.{Piece, token, each, separated}
+use Rattle.ql_lex.specs.Lexemes.{stands, is_sign, is_name, span_at}
 use Rattle.ocl_parser.specs.Grammar.{Form, InfixForm, Given, form, infix_form, postfix_piece, given, args_step, expr_step, postfix_step, infix_step, binding, spelled, spelled_infixes, spelled_postfix, spelled_postfixes, spelled_args, spelled_list, are_of_level, is_of_level, is_operator, path, declared_variable, takes_class}
-use Rattle.ocl_parser.proofs.TokenLaws.{same_span}
+use Rattle.ql_lex.proofs.TokenLaws.{same_span}
 use Rattle.ocl_parser.proofs.PieceLaws.{nested_at, token_taken, both, each_none, each_more, separated_none, separated_one, separated_more}
 
 -- ---- operators with the parts behind them

@@ -16,15 +16,15 @@ use Rattle.qv_syntax.specs.declared.operator.Operator.{Operator}
 use Rattle.qv_syntax.specs.declared.operator.Operator.TheVariants as operators
 use Rattle.qv_syntax.specs.declared.type_tree.Kind.{Kind}
 use Rattle.qv_syntax.specs.declared.type_tree.Kind.TheVariants as collections
-use Rattle.ocl_parser.specs.Pieces.{is_same_span, is_sign, is_word, is_name, is_string, is_number, integer_of, name_text}
+use Rattle.ql_lex.specs.Lexemes.{is_same_span, is_sign, is_word, is_name, is_string, is_number, integer_of, name_text}
 use Rattle.ocl_parser.specs.Grammar.{is_operator, kind_word, constant}
-use Rattle.ocl_parser.specs.Symbols.{symbol_of, symbol_by, symbol_among, words, signs, number_symbol, string_symbol, name_symbol}
-use Rattle.ocl_parser.specs.Unquoting.{unquoted}
-use Rattle.ocl_parser.specs.declared.symbol.Symbol.{Symbol}
-use Rattle.ocl_parser.specs.declared.symbol.Symbol.TheVariants as symbols
-use Rattle.ocl_parser.specs.declared.symbol.PlainType.{PlainType}
-use Rattle.ocl_parser.specs.declared.symbol.PlainType.TheVariants as plain
-use Rattle.ocl_parser.proofs.TokenLaws.{same_text, same_span}
+use Rattle.ql_lex.specs.Symbols.{symbol_of, symbol_by, symbol_among, words, signs, number_symbol, string_symbol, name_symbol}
+use Rattle.ql_lex.specs.Unquoting.{unquoted}
+use Rattle.ql_lex.specs.declared.symbol.Symbol.{Symbol}
+use Rattle.ql_lex.specs.declared.symbol.Symbol.TheVariants as symbols
+use Rattle.ql_lex.specs.declared.symbol.PlainType.{PlainType}
+use Rattle.ql_lex.specs.declared.symbol.PlainType.TheVariants as plain
+use Rattle.ql_lex.proofs.TokenLaws.{same_text, same_span}
 
 -- the word of a type that is no collection and no class
 abbrev pub plain_word : PlainType → List ℕ

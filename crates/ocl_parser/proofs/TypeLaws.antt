@@ -8,9 +8,10 @@ use Rattle.qv_syntax.specs.declared.type_tree.Kind.{Kind}
 use Rattle.qv_syntax.specs.declared.type_tree.TypeTree.{TypeTree, fold-roll-TypeTree, roll-TypeTree, map-TypeTree}
 use Rattle.qv_syntax.specs.declared.type_tree.TypeTree.TheOpen as types
 use Rattle.qv_syntax.specs.declared.type_tree.TypeTree.TheVariants.{Str, Int, Bool, Named, Coll, rolls-Str, rolls-Int, rolls-Bool, rolls-Named, rolls-Coll}
-use Rattle.ocl_parser.specs.Pieces.{Piece, stands, is_sign, is_word, span_at}
+use Rattle.ocl_parser.specs.Pieces.{Piece}
+use Rattle.ql_lex.specs.Lexemes.{stands, is_sign, is_word, span_at}
 use Rattle.ocl_parser.specs.Grammar.{path, kind_word, type_of, type_step}
-use Rattle.ocl_parser.proofs.TokenLaws.{same_span}
+use Rattle.ql_lex.proofs.TokenLaws.{same_span}
 use Rattle.ocl_parser.proofs.PieceLaws.{nested_at}
 
 rolled : (ts : List Lexeme) (d : types.TypeTree-F TypeTree) (t : TypeTree) → roll-TypeTree d ≡ t → type_of ts t ≡ type_step ts (map-TypeTree TypeTree Piece (type_of ts) d)

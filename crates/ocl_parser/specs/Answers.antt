@@ -1,19 +1,17 @@
 -- What the parser answers, and its steps, as they are stated of the code.
-use Rattle.std.specs.Prelude.{◌≡◌, ℕ, ◌+◌, ◌==◌, nat_le, Bool, true, false, List, drop, slice_get, Option, Some, None, Result, Ok, Err}
-use Rattle.std.specs.Option.{option_map_or}
-use Rattle.mof_metamodel.specs.declared.limits.TheConstants.{MAX_NESTING}
+use Rattle.std.specs.Prelude.{◌≡◌, ℕ, ◌+◌, ◌==◌, nat_le, Bool, true, false, List, drop, Option, Some, None, Result, Ok, Err}
 use Rattle.ql_lex.specs.Lexed.{Lexeme, LexedText}
 use Rattle.qv_syntax.specs.declared.expr.Expr.{Expr}
 use Rattle.qv_syntax.specs.declared.expr.Expr.TheVariants as exprs
 use Rattle.qv_syntax.specs.Operators.{level_of}
-use Rattle.ocl_parser.specs.Symbols.{symbol_of}
 use Rattle.ocl_parser.specs.Moves.{Move, Reduced, chained, from_to}
 use Rattle.ocl_parser.specs.Beginnings.{IsTree, IsStuck, IsDeep}
-use Rattle.ocl_parser.specs.Runs.{Answer, go_on, run, Tree, Stuck, Deep, nowhere}
+use Rattle.ocl_parser.specs.Places.{place_of}
+use Rattle.ocl_parser.specs.Readings.{Gives, read_by}
+use Rattle.ocl_parser.specs.declared.halt.Halt.{Halt}
+use Rattle.ocl_parser.specs.Runs.{Answer, go_on, run, Tree, Stuck, Deep}
 use Rattle.ocl_parser.specs.declared.error.ParseError.{ParseError}
 use Rattle.ocl_parser.specs.declared.error.ParseError.TheVariants as errors
-use Rattle.ocl_parser.specs.declared.symbol.Symbol.TheVariants as symbols
-use Rattle.ocl_parser.specs.declared.symbol.Terminal.{Terminal}
 use Rattle.ocl_parser.specs.declared.frame.Subtree.{Subtree}
 use Rattle.ocl_parser.specs.declared.frame.Frame.{Frame}
 use Rattle.ocl_parser.specs.declared.frame.Frame.TheVariants as frames
@@ -28,11 +26,6 @@ made stack action = record { stack = stack; action = action }
 -- the stack and the part that are left
 abbrev pub left : List Frame → Subtree → Reduced
 left stack subtree = record { stack = stack; subtree = subtree }
-
--- the symbol that a token is, and where it stands; nothing stands behind the last one
-abbrev pub terminal_of : Option Lexeme → Terminal
-terminal_of (Some l) = record { symbol = symbol_of l; span = l.token.span }
-terminal_of None = record { symbol = symbols.Other; span = nowhere }
 
 -- whether a construct ends before an operator of the level below this one
 abbrev pub ends : ℕ → Frame → Bool
@@ -49,10 +42,6 @@ wrapped (frames.Negated start) subtree = record { tree = exprs.Negated subtree.t
 wrapped (frames.Row first rest operator) subtree = chained first rest operator subtree
 wrapped (frames.In start name ty value) subtree = record { tree = exprs.Let name ty value subtree.tree (from_to start subtree.span.end); span = from_to start subtree.span.end }
 wrapped frame subtree = subtree
-
--- where the token of this number begins, or the text ends
-abbrev pub place_of : LexedText → ℕ → ℕ
-place_of text at = option_map_or (λ l. l.token.span.start) (slice_get text.lexemes at) text.end
 
 abbrev pub result_of : LexedText → Answer → Result (Expr × ℕ) ParseError
 result_of text (Tree tree end) = Ok (tree, end)
@@ -77,9 +66,9 @@ step_answer levels behind at m = elim m.action [
 ]
 
 -- the token before this number was read, and what stands from there on has the answer, or this is the answer
-abbrev pub Passed : LexedText → ℕ → List Frame → State → Answer → Option (Result (Expr × ℕ) ParseError) → Type 0
-Passed text at stack state expected None = run MAX_NESTING (drop at text.lexemes) stack state at ≡ expected
-Passed text at stack state expected (Some result) = Answers text expected result
+abbrev pub Passed : LexedText → ℕ → ℕ → List Frame → State → Answer → Option (Result (Expr × ℕ) Halt) → Type 0
+Passed text levels at stack state expected None = run levels (drop at text.lexemes) stack state at ≡ expected
+Passed text levels at stack state expected (Some result) = Gives result (read_by expected)
 
 -- What is answered is what stands: the longest list of tokens with which an expression begins is one, or is none, or nests
 -- too deep; unless memory could not be had.

@@ -2,7 +2,7 @@
 use Rattle.std.specs.Prelude.{◌≡◌, ◌≤◌, ◌<◌, ◌+◌, ◌⊎◌, ℕ, Bool, true, ◌||◌, List, ◌++◌, length, take, Some, codes}
 use Rattle.ql_lex.specs.Lexed.{Lexeme}
 use Rattle.qv_syntax.specs.declared.expr.Expr.{Expr}
-use Rattle.ocl_parser.specs.Pieces.{stands, is_sign, is_word}
+use Rattle.ql_lex.specs.Lexemes.{stands, is_sign, is_word}
 use Rattle.ocl_parser.specs.Grammar.{spelled}
 
 -- Some tokens behind those before number k make them an expression, which begins at number `from` and nests to at most so

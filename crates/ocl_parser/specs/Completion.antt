@@ -4,9 +4,10 @@ use Rattle.ql_lex.specs.declared.token.TokenKind.{TokenKind}
 use Rattle.ql_lex.specs.declared.token.TokenKind.TheVariants as kinds
 use Rattle.ql_lex.specs.Lexed.{Lexeme}
 use Rattle.qv_syntax.specs.declared.expr.Expr.{Expr}
-use Rattle.ocl_parser.specs.Symbols.{symbol_of}
+use Rattle.ql_lex.specs.Symbols.{symbol_of}
 use Rattle.ocl_parser.specs.Moves.{move, open_levels, state_levels}
-use Rattle.ocl_parser.specs.Runs.{Tree, run, nowhere}
+use Rattle.ocl_parser.specs.Runs.{Tree, run}
+use Rattle.ql_lex.specs.Symbols.{nowhere}
 use Rattle.ocl_parser.specs.declared.frame.Frame.{Frame}
 use Rattle.ocl_parser.specs.declared.frame.Frame.TheVariants as frames
 use Rattle.ocl_parser.specs.declared.state.State.{State}

@@ -18,7 +18,8 @@ use Rattle.qv_syntax.specs.declared.expr.Postfix.{Postfix, fold-Postfix}
 use Rattle.qv_syntax.specs.declared.expr.Args.{Args, fold-Args}
 use Rattle.qv_syntax.specs.declared.expr.Args.TheOpen as of
 use Rattle.qv_syntax.specs.Operators.{level_of}
-use Rattle.ocl_parser.specs.Pieces.{Piece, ◌▸◌, empty, token, sign, word, name, is_sign, is_word, is_string, is_number, nested, only, spanned, each, separated}
+use Rattle.ocl_parser.specs.Pieces.{Piece, ◌▸◌, empty, token, sign, word, name, nested, only, spanned, each, separated}
+use Rattle.ql_lex.specs.Lexemes.{is_sign, is_word, is_string, is_number}
 
 -- ---- paths and types
 

@@ -1,10 +1,10 @@
-pub mod Unquoting
 pub mod Pieces
 pub mod Grammar
-pub mod Symbols
 pub mod Moves
 pub mod Runs
 pub mod Beginnings
+pub mod Places
+pub mod Readings
 pub mod Answers
 pub mod Completion
 pub mod Words

@@ -1,11 +1,10 @@
 -- What reading an expression answers: the tokens are read one by one, up to the first with which no expression begins.
 use Rattle.std.specs.Prelude.{ℕ, ◌+◌, nat_lt, if◌then◌else◌, List, [], ◌∷◌, drop}
-use Rattle.mof_metamodel.specs.declared.span.Span.{Span}
 use Rattle.ql_lex.specs.Lexed.{Lexeme}
 use Rattle.qv_syntax.specs.declared.expr.Expr.{Expr}
-use Rattle.ocl_parser.specs.Symbols.{symbol_of}
-use Rattle.ocl_parser.specs.Moves.{move, from_to, open_levels, state_levels}
-use Rattle.ocl_parser.specs.declared.symbol.Symbol.TheVariants as symbols
+use Rattle.ql_lex.specs.Symbols.{symbol_of, nowhere}
+use Rattle.ocl_parser.specs.Moves.{move, open_levels, state_levels}
+use Rattle.ql_lex.specs.declared.symbol.Symbol.TheVariants as symbols
 use Rattle.ocl_parser.specs.declared.frame.Frame.{Frame}
 use Rattle.ocl_parser.specs.declared.state.State.{State}
 use Rattle.ocl_parser.specs.declared.state.State.TheVariants as states
@@ -26,9 +25,6 @@ ended_by action at = Stuck at
 -- the answer of the tokens behind one that was read, unless that opens too many levels
 abbrev pub go_on : ℕ → List Frame → State → ℕ → Answer → Answer
 go_on levels stack state at rest = if nat_lt levels (open_levels stack + state_levels state) then Deep at else rest
-
-abbrev pub nowhere : Span
-nowhere = from_to 0 0
 
 -- of the tokens from the one of number `at` on, with what was read before them
 unfoldable pub run : ℕ → List Lexeme → List Frame → State → ℕ → Answer

@@ -3,7 +3,7 @@ ghost use Rattle.ocl_parser.specs.Moves.{after as after_move, behind as behind_m
 ghost use Rattle.ocl_parser.specs.Answers.{made};
 ghost use Rattle.ocl_parser.specs.declared.frame.Frame.TheVariants as frames;
 ghost use Rattle.ocl_parser.specs.declared.state.State.TheVariants as states;
-ghost use Rattle.ocl_parser.specs.declared.symbol.Symbol.TheVariants as symbols;
+ghost use Rattle.ql_lex.specs.declared.symbol.Symbol.TheVariants as symbols;
 
 use crate::frame::{Base, Frame, Row, Subtree};
 use crate::parts::{behind_base, behind_body, behind_call, infixed, subtree_of};
@@ -11,8 +11,8 @@ use crate::reducing::reduce;
 use crate::shifting::{open, refuse};
 use crate::stack::Stack;
 use crate::state::{Action, State};
-use crate::symbol::{Symbol, Terminal};
 use mof_metamodel::{NoMemory, Seq, Span};
+use ql_lex::{Symbol, Terminal};
 use qv_syntax::{Args, Expr, Infix, Operator};
 use std::alloc::Global;
 

@@ -12,9 +12,9 @@ use crate::paths::{arrow_first, arrow_second, class_path, dotted, on_path};
 use crate::shifting::{open, open_type};
 use crate::stack::Stack;
 use crate::state::{Action, State};
-use crate::symbol::{Symbol, Terminal};
 use crate::types::{type_begin, type_end, type_path};
 use mof_metamodel::{NoMemory, Seq};
+use ql_lex::{Symbol, Terminal};
 use qv_syntax::{Kind, Name, Path};
 use std::alloc::Global;
 

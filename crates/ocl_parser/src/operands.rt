@@ -2,15 +2,15 @@ ghost use Rattle.std.specs.Prelude.{◌≡◌, ◌∷◌, List, IfOk};
 ghost use Rattle.ocl_parser.specs.Moves.{begins_expression, let_on, none_in_braces, none_in_parentheses, operand as operand_move};
 ghost use Rattle.ocl_parser.specs.Answers.{made};
 ghost use Rattle.ocl_parser.specs.declared.frame.Frame.{Frame as AnyFrame};
-ghost use Rattle.ocl_parser.specs.declared.symbol.Symbol.TheVariants as symbols;
+ghost use Rattle.ql_lex.specs.declared.symbol.Symbol.TheVariants as symbols;
 
 use crate::frame::Frame;
 use crate::parts::{behind_base, behind_call, path_of};
 use crate::shifting::{open, refuse};
 use crate::stack::Stack;
 use crate::state::{Action, State};
-use crate::symbol::{Symbol, Terminal};
 use mof_metamodel::{NoMemory, Span};
+use ql_lex::{Symbol, Terminal};
 use qv_syntax::{Args, Expr, Operator};
 use std::alloc::Global;
 

@@ -3,16 +3,18 @@ ghost use Rattle.qv_syntax.specs.declared.expr.Expr.{Expr as AnyExpr};
 ghost use Rattle.ocl_parser.specs.Beginnings.{IsDeep, IsStuck, IsTree};
 ghost use Rattle.ocl_parser.specs.Moves.{move as next_move, open_levels, state_levels as levels_of};
 ghost use Rattle.ocl_parser.specs.Runs.{answer, ended_by, run};
-ghost use Rattle.ocl_parser.specs.Answers.{Answers, IsAnswered, Tells, Passed, made, place_of, step_answer, terminal_of};
+ghost use Rattle.ocl_parser.specs.Answers.{Answers, IsAnswered, Tells, Passed, made, step_answer};
+ghost use Rattle.ocl_parser.specs.Places.{place_of};
+ghost use Rattle.ocl_parser.specs.Readings.{Gives, expr_read, halted_at, read_by};
+ghost use Rattle.ql_lex.specs.Symbols.{terminal_of};
 
 use crate::error::ParseError;
-use crate::look::peek;
+use crate::halt::{Halt, Stop};
 use crate::moves::move_on;
 use crate::stack::Stack;
 use crate::state::{Action, State};
-use crate::terminals::symbol_at;
 use mof_metamodel::{MAX_NESTING, NoMemory};
-use ql_lex::Tokens;
+use ql_lex::{Tokens, peek, symbol_at};
 use qv_syntax::Expr;
 use std::alloc::Global;
 
@@ -39,22 +41,12 @@ fn state_levels(state: &State) -> usize
     }
 }
 
-/// Where the token of this number begins, or the text ends.
-fn place_at(tokens: &Tokens<'_>, at: usize) -> usize
-    ensures { result ≡ place_of tokens.now at }
-{
-    match peek(tokens, at) {
-        Some((token, _)) => token.span.start,
-        None => tokens.end(),
-    }
-}
-
 /// Whether more levels are open than may be.
-fn is_deep(stack: &Stack, state: &State) -> bool
-    ensures { result ≡ nat_lt MAX_NESTING (open_levels stack.now + levels_of state.now) }
+fn is_deep(stack: &Stack, state: &State, levels: usize) -> bool
+    ensures { result ≡ nat_lt levels (open_levels stack.now + levels_of state.now) }
 {
-    let levels = stack.levels();
-    levels > MAX_NESTING || state_levels(state) > MAX_NESTING - levels
+    let open = stack.levels();
+    open > levels || state_levels(state) > levels - open
 }
 
 /// What comes of the symbol of this number.
@@ -73,27 +65,24 @@ fn next(
 
 /// Goes on behind a token that was read, or answers.
 fn judge(
-    tokens: &Tokens<'_>,
+    _tokens: &Tokens<'_>,
     at: usize,
     reading: &mut Reading,
     action: Action,
-) -> Option<Result<(Expr, usize), ParseError>>
-    ensures { Passed tokens.now (at + 1) reading.new.stack reading.new.state (step_answer MAX_NESTING (drop (at + 1) tokens.now.lexemes) at (made reading.old.stack action)) result }
+    levels: usize,
+) -> Option<Result<(Expr, usize), Halt>>
+    ensures { Passed _tokens.now levels (at + 1) reading.new.stack reading.new.state (step_answer levels (drop (at + 1) _tokens.now.lexemes) at (made reading.old.stack action)) result }
 {
     match action {
         Action::Read(state) => {
-            if is_deep(&reading.stack, &state) {
-                let at = place_at(tokens, at);
-                return Some(Err(ParseError::Limit { at }));
+            if is_deep(&reading.stack, &state, levels) {
+                return Some(Err(Halt::Stop(Stop::Deep { at })));
             }
             reading.state = state;
             None
         }
         Action::Whole(tree) => Some(Ok((tree, at))),
-        Action::Refused => {
-            let at = place_at(tokens, at);
-            Some(Err(ParseError::Parse { at }))
-        }
+        Action::Refused => Some(Err(Halt::Stop(Stop::Stuck { at }))),
     }
 }
 
@@ -103,25 +92,24 @@ fn pass(
     tokens: &Tokens<'_>,
     at: usize,
     reading: &mut Reading,
-) -> Option<Result<(Expr, usize), ParseError>>
+    levels: usize,
+) -> Option<Result<(Expr, usize), Halt>>
     requires { at < length tokens.now.lexemes }
-    ensures { Passed tokens.now (at + 1) reading.new.stack reading.new.state (run MAX_NESTING (drop at tokens.now.lexemes) reading.old.stack reading.old.state at) result }
+    ensures { Passed tokens.now levels (at + 1) reading.new.stack reading.new.state (run levels (drop at tokens.now.lexemes) reading.old.stack reading.old.state at) result }
 {
     match next(alloc, tokens, at, reading) {
-        Ok(action) => judge(tokens, at, reading, action),
-        Err(_) => Some(Err(ParseError::NoMemory)),
+        Ok(action) => judge(tokens, at, reading, action, levels),
+        Err(_) => Some(Err(Halt::NoMemory)),
     }
 }
 
 /// The answer by what comes of the end of the text.
-fn judge_end(tokens: &Tokens<'_>, at: usize, action: Action) -> Result<(Expr, usize), ParseError>
-    ensures { Answers tokens.now (ended_by action at) result }
+fn judge_end(at: usize, action: Action) -> Result<(Expr, usize), Halt>
+    ensures { Gives result (read_by (ended_by action at)) }
 {
     match action {
         Action::Whole(tree) => Ok((tree, at)),
-        _ => Err(ParseError::Parse {
-            at: place_at(tokens, at),
-        }),
+        _ => Err(Halt::Stop(Stop::Stuck { at })),
     }
 }
 
@@ -130,13 +118,14 @@ fn end(
     alloc: Global,
     tokens: &Tokens<'_>,
     reading: &mut Reading,
-) -> Result<(Expr, usize), ParseError>
-    ensures { Answers tokens.now (run MAX_NESTING [] reading.old.stack reading.old.state (length tokens.now.lexemes)) result }
+    _levels: usize,
+) -> Result<(Expr, usize), Halt>
+    ensures { Gives result (read_by (run _levels [] reading.old.stack reading.old.state (length tokens.now.lexemes))) }
 {
     let at = tokens.len();
     match next(alloc, tokens, at, reading) {
-        Ok(action) => judge_end(tokens, at, action),
-        Err(_) => Err(ParseError::NoMemory),
+        Ok(action) => judge_end(at, action),
+        Err(_) => Err(Halt::NoMemory),
     }
 }
 
@@ -146,29 +135,81 @@ fn read(
     tokens: &Tokens<'_>,
     from: usize,
     reading: &mut Reading,
-) -> Result<(Expr, usize), ParseError>
+    levels: usize,
+) -> Result<(Expr, usize), Halt>
     requires { from ≤ length tokens.now.lexemes }
-    ensures { Answers tokens.now (run MAX_NESTING (drop from tokens.now.lexemes) reading.old.stack reading.old.state from) result }
+    ensures { Gives result (read_by (run levels (drop from tokens.now.lexemes) reading.old.stack reading.old.state from)) }
 {
     for at in from..tokens.len() {
-        if let Some(answer) = pass(alloc, tokens, at, reading) {
+        if let Some(answer) = pass(alloc, tokens, at, reading, levels) {
             return answer;
         }
     }
-    end(alloc, tokens, reading)
+    end(alloc, tokens, reading, levels)
 }
 
-/// What the automaton answers from the token of this number on.
-#[tactic(auto, unfolding(crate::specs::Runs::answer))]
-fn answer_from(alloc: Global, tokens: &Tokens<'_>, from: usize) -> Result<(Expr, usize), ParseError>
+/// Reads an expression where so many levels of nesting are left: the tree of the longest list of tokens from the one of
+/// number `from` on with which some expression begins, and the number of the token behind the list.
+///
+/// # Errors
+///
+/// A `Stop` as `answers_are_exact` says, and `NoMemory`.
+#[tactic(auto, unfolding(crate::specs::Runs::answer, crate::specs::Readings::expr_read))]
+pub fn read_expr(
+    alloc: Global,
+    tokens: &Tokens<'_>,
+    from: usize,
+    levels: usize,
+) -> Result<(Expr, usize), Halt>
     requires { from ≤ length tokens.now.lexemes }
-    ensures { Answers tokens.now (answer tokens.now.lexemes MAX_NESTING from) result }
+    ensures { Gives result (expr_read tokens.now.lexemes levels from) }
 {
     let mut reading = Reading {
         stack: Stack::new(alloc),
         state: State::Operand,
     };
-    read(alloc, tokens, from, &mut reading)
+    read(alloc, tokens, from, &mut reading, levels)
+}
+
+/// Where the token of this number begins, or the text ends.
+fn place_at(tokens: &Tokens<'_>, at: usize) -> usize
+    ensures { result ≡ place_of tokens.now at }
+{
+    match peek(tokens, at) {
+        Some((token, _)) => token.span.start,
+        None => tokens.end(),
+    }
+}
+
+/// What is told of a reading that ended without a tree.
+pub fn error_of(tokens: &Tokens<'_>, halt: Halt) -> ParseError
+    ensures { result ≡ halted_at tokens.now halt }
+{
+    match halt {
+        Halt::Stop(Stop::Stuck { at }) => ParseError::Parse {
+            at: place_at(tokens, at),
+        },
+        Halt::Stop(Stop::Deep { at }) => ParseError::Limit {
+            at: place_at(tokens, at),
+        },
+        Halt::NoMemory => ParseError::NoMemory,
+    }
+}
+
+/// What the automaton answers from the token of this number on.
+fn answer_from(
+    alloc: Global,
+    tokens: &Tokens<'_>,
+    from: usize,
+    levels: usize,
+) -> Result<(Expr, usize), ParseError>
+    requires { from ≤ length tokens.now.lexemes }
+    ensures { Answers tokens.now (answer tokens.now.lexemes levels from) result }
+{
+    match read_expr(alloc, tokens, from, levels) {
+        Ok(found) => Ok(found),
+        Err(halt) => Err(error_of(tokens, halt)),
+    }
 }
 
 /// Reads an expression from the token of number `from` on (OCL 2.4, chapter 9): the tree of the longest list of tokens
@@ -193,5 +234,5 @@ pub fn parse_expr(
     ensures stuck { (k : ℕ) → IsStuck tokens.now.lexemes from MAX_NESTING k → IsAnswered (Err (ParseError.Parse (place_of tokens.now k))) result }
     ensures deep { (k : ℕ) → IsDeep tokens.now.lexemes from MAX_NESTING k → IsAnswered (Err (ParseError.Limit (place_of tokens.now k))) result }
 {
-    answer_from(alloc, tokens, from)
+    answer_from(alloc, tokens, from, MAX_NESTING)
 }

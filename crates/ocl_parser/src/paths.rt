@@ -4,7 +4,7 @@ ghost use Rattle.ocl_parser.specs.Moves.{after_path as after_path_move, argument
 ghost use Rattle.ocl_parser.specs.Answers.{made};
 ghost use Rattle.ocl_parser.specs.declared.frame.Frame.{Frame as AnyFrame};
 ghost use Rattle.ocl_parser.specs.declared.frame.Frame.TheVariants as frames;
-ghost use Rattle.ocl_parser.specs.declared.symbol.Symbol.TheVariants as symbols;
+ghost use Rattle.ql_lex.specs.declared.symbol.Symbol.TheVariants as symbols;
 
 use crate::closing::after;
 use crate::frame::{Base, Before, CallHead, Frame, Iterated, PostfixHead};
@@ -14,8 +14,8 @@ use crate::parts::{base_of, behind_call, only_name, path_of, with_postfix};
 use crate::shifting::{open, open_type};
 use crate::stack::Stack;
 use crate::state::{Action, State};
-use crate::symbol::{Symbol, Terminal};
 use mof_metamodel::{NoMemory, Seq, Span, Text};
+use ql_lex::{Symbol, Terminal};
 use qv_syntax::{Args, Expr, Name, Path, Postfix};
 use std::alloc::Global;
 

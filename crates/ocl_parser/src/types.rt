@@ -3,7 +3,7 @@ ghost use Rattle.ocl_parser.specs.Moves.{plain_type as plain_meant, type_begin a
 ghost use Rattle.ocl_parser.specs.Answers.{made};
 ghost use Rattle.qv_syntax.specs.declared.operator.Operator.TheVariants as operators;
 ghost use Rattle.ocl_parser.specs.declared.frame.Frame.{Frame as AnyFrame};
-ghost use Rattle.ocl_parser.specs.declared.symbol.Symbol.TheVariants as symbols;
+ghost use Rattle.ql_lex.specs.declared.symbol.Symbol.TheVariants as symbols;
 
 use crate::frame::Frame;
 use crate::names::CLASS_NAMES;
@@ -11,13 +11,13 @@ use crate::parts::path_of;
 use crate::shifting::{open, refuse};
 use crate::stack::Stack;
 use crate::state::{Action, State};
-use crate::symbol::{PlainType, Symbol, Terminal};
 use mof_metamodel::{Boxed, NoMemory, Span};
+use ql_lex::{PlainType, Symbol, Terminal};
 use qv_syntax::{Operator, Path, TypeTree};
 use std::alloc::Global;
 
 /// A type of one word.
-fn plain_type(ty: PlainType, span: Span) -> TypeTree
+pub(crate) fn plain_type(ty: PlainType, span: Span) -> TypeTree
     ensures { result ≡ plain_meant ty span }
 {
     match ty {

@@ -4,3 +4,6 @@ pub mod RunLaws
 pub mod FormLaws
 pub mod StandsLaws
 pub mod LexLaws
+pub mod DigitLaws
+pub mod TableLaws
+pub mod TokenLaws

@@ -4,3 +4,6 @@ pub mod Answers
 pub mod Places
 pub mod Words
 pub mod Tokens
+pub mod Unquoting
+pub mod Lexemes
+pub mod Symbols

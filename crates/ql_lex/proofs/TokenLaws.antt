@@ -10,7 +10,7 @@ use Rattle.std.proofs.lemmas.Option.{slice_get-map}
 use Rattle.mof_metamodel.specs.declared.span.Span.{Span}
 use Rattle.ql_lex.specs.declared.token.Token.{Token}
 use Rattle.ql_lex.specs.Lexed.{Lexeme}
-use Rattle.ocl_parser.specs.Pieces.{stands, is_same_span}
+use Rattle.ql_lex.specs.Lexemes.{stands, is_same_span}
 
 parted : (l : Option Lexeme) (token : Token) (text : List ℕ) → option_map (λ (l : Lexeme). l.token) l ≡ Some token → option_map (λ (l : Lexeme). l.text) l ≡ Some text
     → l ≡ Some (record { token = token; text = text })

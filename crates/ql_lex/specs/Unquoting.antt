@@ -1,6 +1,6 @@
 -- What strings and quoted names stand for.
 use Rattle.std.specs.Prelude.{ℕ, true, false, not, ◌==◌, if◌then◌else◌, List, [], ◌∷◌, ◌++◌, fold}
-use Rattle.ocl_parser.specs.declared.texts.Unquoted.{Unquoted}
+use Rattle.ql_lex.specs.declared.unquoting.Unquoted.{Unquoted}
 
 -- the character that a character stands for behind a `\`
 abbrev pub meaning : ℕ → ℕ

@@ -1,10 +1,11 @@
 ghost use Rattle.std.specs.Prelude.{◌≡◌, ◌≤◌, true, None, Some, pos, IfOk, OnOk, MatchOption};
 ghost use Rattle.std.specs.Str.{chars};
-ghost use Rattle.ocl_parser.specs.Pieces.{integer_of};
-ghost use Rattle.ocl_parser.specs.Unquoting.{meaning as meaning_of, passed, unquoted};
+ghost use Rattle.ql_lex.specs.Lexemes.{integer_of, name_text as text_of_name};
+ghost use Rattle.ql_lex.specs.Unquoting.{meaning as meaning_of, passed, unquoted};
 
+use crate::limits::MAX_INTEGER;
+use crate::token::TokenKind;
 use mof_metamodel::{NoMemory, Text};
-use ql_lex::MAX_INTEGER;
 use std::alloc::Global;
 
 /// What a string or a quoted name was found to stand for, from its first character on.
@@ -61,6 +62,18 @@ pub(crate) fn unquote(alloc: Global, token: &str) -> Result<Text, NoMemory>
         pass(&mut so_far, c)?;
     }
     Ok(so_far.text)
+}
+
+/// The text of a name, in quotes or not.
+#[tactic(auto, unfolding(crate::specs::Lexemes::name_text))]
+pub fn name_text(alloc: Global, kind: TokenKind, text: &str) -> Result<Option<Text>, NoMemory>
+    ensures { IfOk result (λ o. o ≡ text_of_name kind text.now) }
+{
+    match kind {
+        TokenKind::Name => Ok(Some(Text::new(alloc, text)?)),
+        TokenKind::Quoted => Ok(Some(unquote(alloc, text)?)),
+        TokenKind::Reserved | TokenKind::Number | TokenKind::Str | TokenKind::Sign => Ok(None),
+    }
 }
 
 /// The number that digits write, if all are digits and it is an Integer.

@@ -7,7 +7,7 @@ use Rattle.std.proofs.lemmas.List.{drop_more, drop_all}
 use Rattle.ql_lex.specs.declared.limits.TheConstants.{MAX_INTEGER}
 use Rattle.ql_lex.specs.Forms.{decimal}
 use Rattle.ql_lex.proofs.Laws.{decimal-step}
-use Rattle.ocl_parser.specs.Pieces.{integer_of}
+use Rattle.ql_lex.specs.Lexemes.{integer_of}
 
 pub integer : (text : List ℕ) (v : ℕ) → list_all is_ascii_digit text ≡ true → decimal 0 text ≡ v → v ≤ MAX_INTEGER → integer_of text ≡ Some (pos v)
 unfolding integer_of

@@ -3,9 +3,9 @@ use Rattle.std.proofs.lemmas.Str.{chars-nil}
 use Rattle.std.proofs.lemmas.List.{map-id}
 use Rattle.std.proofs.lemmas.Iterator.{YieldsList-from_chars}
 use Rattle.std.proofs.lemmas.Iterator.Consumers.{YieldsList-end}
-use Rattle.ocl_parser.specs.declared.texts.Unquoted.{Unquoted}
-use Rattle.ocl_parser.specs.Unquoting.{passed, unquoted}
-use Rattle.ocl_parser.proofs.texts.unquote.Goals as goal
+use Rattle.ql_lex.specs.declared.unquoting.Unquoted.{Unquoted}
+use Rattle.ql_lex.specs.Unquoting.{passed, unquoted}
+use Rattle.ql_lex.proofs.unquoting.unquote.Goals as goal
 
 pub loop-c-init : goal.loop-c-init
 loop-c-init c = ap (λ (t : List ℕ). record { text = t; opened = false; escaped = false }) (c.in_ok-new.ensures.characters ∙ chars-nil)

@@ -1,7 +1,7 @@
 use Rattle.std.proofs.Common.{List, ℕ, ap, sym}
-use Rattle.ocl_parser.specs.Symbols.{symbol_among, signs}
-use Rattle.ocl_parser.proofs.TableLaws.{absent}
-use Rattle.ocl_parser.proofs.terminals.sign_symbol.Goals as goal
+use Rattle.ql_lex.specs.Symbols.{symbol_among, signs}
+use Rattle.ql_lex.proofs.TableLaws.{absent}
+use Rattle.ql_lex.proofs.terminals.sign_symbol.Goals as goal
 
 pub returns-in-text : goal.returns-in-text
 unfolding symbol_among

@@ -1,16 +1,15 @@
 ghost use Rattle.std.specs.Prelude.{◌≡◌, slice_get, IfOk};
 ghost use Rattle.std.specs.Str.{chars};
-ghost use Rattle.ocl_parser.specs.Pieces.{integer_of, name_text as text_of_name};
-ghost use Rattle.ocl_parser.specs.Unquoting.{unquoted};
-ghost use Rattle.ocl_parser.specs.Symbols.{name_symbol as name_meant, number_symbol as number_meant, signs, string_symbol as string_meant, symbol_among, symbol_by, words};
-ghost use Rattle.ocl_parser.specs.Answers.{terminal_of};
+ghost use Rattle.ql_lex.specs.Lexemes.{integer_of, name_text as text_of_name};
+ghost use Rattle.ql_lex.specs.Unquoting.{unquoted};
+ghost use Rattle.ql_lex.specs.Symbols.{name_symbol as name_meant, number_symbol as number_meant, signs, string_symbol as string_meant, symbol_among, symbol_by, terminal_of, words};
 
 use crate::look::peek;
-use crate::names::name_text;
 use crate::symbol::{PlainType, Symbol, Terminal};
-use crate::texts::{integer_value, unquote};
+use crate::token::{Token, TokenKind};
+use crate::tokens::Tokens;
+use crate::unquoting::{integer_value, name_text, unquote};
 use mof_metamodel::{NoMemory, Span};
-use ql_lex::{Token, TokenKind, Tokens};
 use qv_syntax::{Kind, Literal, Name, Operator};
 use std::alloc::Global;
 
@@ -118,7 +117,7 @@ fn token_symbol(alloc: Global, token: Token, text: &str) -> Result<Symbol, NoMem
 }
 
 /// The symbol of the token of this number, and where it stands. Behind the last token nothing stands.
-pub(crate) fn symbol_at(alloc: Global, tokens: &Tokens<'_>, at: usize) -> Result<Terminal, NoMemory>
+pub fn symbol_at(alloc: Global, tokens: &Tokens<'_>, at: usize) -> Result<Terminal, NoMemory>
     ensures { IfOk result (λ t. t ≡ terminal_of (slice_get tokens.now.lexemes at)) }
 {
     match peek(tokens, at) {

@@ -3,8 +3,8 @@ use Rattle.std.specs.Char.{is_ascii_digit}
 use Rattle.std.proofs.lemmas.List.Folds.{list_all_at}
 use Rattle.ql_lex.specs.declared.limits.TheConstants.{MAX_INTEGER}
 use Rattle.ql_lex.proofs.Laws.{decimal-over}
-use Rattle.ocl_parser.proofs.DigitLaws.{digits-step, value-step, digits-none, value-none, integer, no_digits, too_great}
-use Rattle.ocl_parser.proofs.texts.decimal_value.Goals as goal
+use Rattle.ql_lex.proofs.DigitLaws.{digits-step, value-step, digits-none, value-none, integer, no_digits, too_great}
+use Rattle.ql_lex.proofs.unquoting.decimal_value.Goals as goal
 
 pub loop-d-preserved : goal.loop-d-preserved
 loop-d-preserved c =

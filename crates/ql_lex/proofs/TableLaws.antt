@@ -5,10 +5,9 @@ use Rattle.std.specs.Cmp.Lexicographic.{bytes_decides}
 use Rattle.std.proofs.lemmas.Bool.{cases_Bool, cond-false}
 use Rattle.ql_lex.specs.declared.token.Token.{Token}
 use Rattle.ql_lex.specs.Lexed.{Lexeme}
-use Rattle.ocl_parser.specs.Symbols.{symbol_among, symbol_by, symbol_of}
-use Rattle.ocl_parser.specs.Answers.{terminal_of}
-use Rattle.ocl_parser.specs.declared.symbol.Symbol.{Symbol}
-use Rattle.ocl_parser.specs.declared.symbol.Symbol.TheVariants as symbols
+use Rattle.ql_lex.specs.Symbols.{symbol_among, symbol_by, symbol_of, terminal_of}
+use Rattle.ql_lex.specs.declared.symbol.Symbol.{Symbol}
+use Rattle.ql_lex.specs.declared.symbol.Symbol.TheVariants as symbols
 
 abbrev pub IsNone : List ℕ → List (List ℕ × Symbol) → Type 0
 IsNone text [] = Unit {0}

@@ -8,11 +8,12 @@ use Rattle.ql_lex.specs.declared.token.TokenKind.TheVariants as kinds
 use Rattle.ql_lex.specs.Lexed.{Lexeme}
 use Rattle.qv_syntax.specs.declared.operator.Operator.TheVariants as operators
 use Rattle.qv_syntax.specs.declared.type_tree.Kind.TheVariants as collections
-use Rattle.ocl_parser.specs.Pieces.{integer_of, name_text}
-use Rattle.ocl_parser.specs.Unquoting.{unquoted}
-use Rattle.ocl_parser.specs.declared.symbol.Symbol.{Symbol}
-use Rattle.ocl_parser.specs.declared.symbol.Symbol.TheVariants as symbols
-use Rattle.ocl_parser.specs.declared.symbol.PlainType.TheVariants as plain
+use Rattle.ql_lex.specs.Lexemes.{integer_of, name_text}
+use Rattle.ql_lex.specs.Unquoting.{unquoted}
+use Rattle.ql_lex.specs.declared.symbol.Symbol.{Symbol}
+use Rattle.ql_lex.specs.declared.symbol.Symbol.TheVariants as symbols
+use Rattle.ql_lex.specs.declared.symbol.PlainType.TheVariants as plain
+use Rattle.ql_lex.specs.declared.symbol.Terminal.{Terminal}
 
 -- the first of these texts that a text is stands for its symbol
 unfoldable pub symbol_among : List ℕ → List (List ℕ × Symbol) → Symbol
@@ -65,3 +66,11 @@ symbol_by kinds.Sign text span = symbol_among text signs
 -- the symbol that a token is
 unfoldable pub symbol_of : Lexeme → Symbol
 symbol_of l = symbol_by l.token.kind l.text l.token.span
+
+abbrev pub nowhere : Span
+nowhere = record { start = 0; end = 0 }
+
+-- the symbol that a token is, and where it stands; nothing stands behind the last one
+abbrev pub terminal_of : Option Lexeme → Terminal
+terminal_of (Some l) = record { symbol = symbol_of l; span = l.token.span }
+terminal_of None = record { symbol = symbols.Other; span = nowhere }

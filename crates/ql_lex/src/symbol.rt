@@ -3,7 +3,7 @@ use qv_syntax::{Kind, Literal, Name, Operator};
 
 /// A token as the grammar sees it.
 #[derive(Drop)]
-pub(crate) enum Symbol {
+pub enum Symbol {
     Let,
     In,
     If,
@@ -36,7 +36,7 @@ pub(crate) enum Symbol {
 
 /// `String`, `Integer` and `Boolean`.
 #[derive(Clone, Copy)]
-pub(crate) enum PlainType {
+pub enum PlainType {
     Str,
     Int,
     Bool,
@@ -44,7 +44,7 @@ pub(crate) enum PlainType {
 
 /// A symbol and where it stands.
 #[derive(Drop)]
-pub(crate) struct Terminal {
-    pub(crate) symbol: Symbol,
-    pub(crate) span: Span,
+pub struct Terminal {
+    pub symbol: Symbol,
+    pub span: Span,
 }
