@@ -10,3 +10,6 @@ pub mod IterationLaws
 pub mod TypeLaws
 pub mod UpperLaws
 pub mod TypingLaws
+pub mod JudgedLaws
+pub mod RuleLaws
+pub mod TypingDecides

@@ -7,7 +7,7 @@ use Rattle.mof_metamodel.specs.declared.desc.ClassId.{ClassId}
 pub use Rattle.mof_metamodel.specs.NameTables.{NamesWith, number_of, value_of, with_value}
 use Rattle.mof_metamodel.specs.Metamodels.{class_count, enum_count}
 use Rattle.mof_metamodel.specs.MetaFaults.{WellMeta}
-use Rattle.qv_syntax.specs.declared.ty.Ty.{Ty, fold-Ty}
+use Rattle.qv_syntax.specs.declared.ty.Ty.{Ty, fold-Ty, out-Ty}
 use Rattle.qv_syntax.specs.declared.ty.Ty.TheOpen as of
 use Rattle.qv_syntax.specs.declared.query.ModelSlot.{ModelSlot}
 use Rattle.ocl_types.specs.declared.limits.TheConstants.{MAX_NUMBERED}
@@ -51,22 +51,35 @@ is_over_step metas of.Null = true
 abbrev pub is_over : List MetaDesc → Ty → Bool
 is_over metas = fold-Ty Bool (is_over_step metas)
 
--- the type of null is no part of the type
-abbrev pub has_no_null_step : of.Ty-F Bool → Bool
-has_no_null_step of.Str = true
-has_no_null_step of.Int = true
-has_no_null_step of.Bool = true
-has_no_null_step (of.Enum m e) = true
-has_no_null_step (of.Class m c) = true
-has_no_null_step (of.Coll kind inner) = inner
-has_no_null_step of.Null = false
+-- a String, an Integer, a Boolean, a literal of an enumeration or an object
+abbrev pub single_step : of.Ty-F Bool → Bool
+single_step of.Str = true
+single_step of.Int = true
+single_step of.Bool = true
+single_step (of.Enum m e) = true
+single_step (of.Class m c) = true
+single_step (of.Coll kind inner) = false
+single_step of.Null = false
 
-abbrev pub has_no_null : Ty → Bool
-has_no_null = fold-Ty Bool has_no_null_step
+abbrev pub is_single_value : Ty → Bool
+is_single_value = fold-Ty Bool single_step
+
+-- a single value, or a collection of these: no collection holds collections
+abbrev pub is_flat_layer : of.Ty-F Ty → Bool
+is_flat_layer of.Str = true
+is_flat_layer of.Int = true
+is_flat_layer of.Bool = true
+is_flat_layer (of.Enum m e) = true
+is_flat_layer (of.Class m c) = true
+is_flat_layer (of.Coll kind inner) = is_single_value inner
+is_flat_layer of.Null = false
+
+abbrev pub is_flat : Ty → Bool
+is_flat ty = is_flat_layer (out-Ty ty)
 
 -- a type that a variable may have
 abbrev pub is_type : List MetaDesc → Ty → Bool
-is_type metas ty = is_over metas ty && has_no_null ty
+is_type metas ty = is_over metas ty && is_flat ty
 
 -- the number of the metamodel and the class of a class type
 abbrev pub class_step : of.Ty-F (Option (ℕ × ClassId)) → Option (ℕ × ClassId)

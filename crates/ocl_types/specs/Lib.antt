@@ -18,3 +18,6 @@ pub mod TypingSteps
 pub mod TypingCollections
 pub mod Typing
 pub mod Forms
+pub mod Judged
+pub mod TypeRules
+pub mod HasType

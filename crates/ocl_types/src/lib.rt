@@ -35,7 +35,10 @@ mod written;
 
 pub use env::Env;
 pub use fault::{TypeError, TypeFault};
-pub use laws::{conformance_is_told, types_agree_on_a_top, types_are_told_apart};
+pub use laws::{
+    conformance_is_told, one_type_is_had, types_agree_on_a_top, types_are_told_apart,
+    typing_is_told,
+};
 pub use limits::MAX_NUMBERED;
 pub use metas::Metas;
 pub use naming::{path_text, type_text};

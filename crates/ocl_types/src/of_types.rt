@@ -1,5 +1,5 @@
 ghost use Rattle.std.specs.Prelude.{◌≡◌};
-ghost use Rattle.ocl_types.specs.Environments.{is_over as over, has_no_null as no_null, class_of as class, is_type as typed, are_types as all_typed};
+ghost use Rattle.ocl_types.specs.Environments.{is_over as over, is_single_value as single, is_flat as flat, class_of as class, is_type as typed, are_types as all_typed};
 
 use mof_metamodel::{ClassId, MetaModel};
 use qv_syntax::Ty;
@@ -22,12 +22,22 @@ pub(crate) fn is_over(metas: &[MetaModel], ty: &Ty) -> bool
     }
 }
 
-/// Whether the type of null is no part of the type.
-pub(crate) fn has_no_null(ty: &Ty) -> bool
-    ensures { result ≡ no_null ty.now }
+/// Whether values of the type are single ones: no collections, and not null alone.
+pub(crate) fn is_single_value(ty: &Ty) -> bool
+    ensures { result ≡ single ty.now }
 {
     match ty {
-        Ty::Coll(_, of) => has_no_null(of.get()),
+        Ty::Coll(_, _) | Ty::Null => false,
+        _ => true,
+    }
+}
+
+/// Whether values of the type are single ones or collections of these.
+pub(crate) fn is_flat(ty: &Ty) -> bool
+    ensures { result ≡ flat ty.now }
+{
+    match ty {
+        Ty::Coll(_, of) => is_single_value(of.get()),
         Ty::Null => false,
         _ => true,
     }
@@ -37,7 +47,7 @@ pub(crate) fn has_no_null(ty: &Ty) -> bool
 pub(crate) fn is_type(metas: &[MetaModel], ty: &Ty) -> bool
     ensures { result ≡ typed metas.now ty.now }
 {
-    is_over(metas, ty) && has_no_null(ty)
+    is_over(metas, ty) && is_flat(ty)
 }
 
 /// The number of the metamodel and the class of a class type.

@@ -1,0 +1,218 @@
+-- The rules of typing (OCL 2.4, chapters 7, 9 and 11): what each form asks of its parts, which have types, and what it is then. Each
+-- demand stands with the fault of where it isn't met, and demands have no order.
+use Rattle.std.specs.Prelude.{◌≡◌, ℕ, Bool, true, false, List, [], ◌∷◌, Option, None, Some, IsTrue, length, codes, encode_utf8_all}
+use Rattle.mof_metamodel.specs.declared.desc.MetaDesc.{MetaDesc}
+use Rattle.qv_syntax.specs.declared.name.Path.{Path}
+use Rattle.qv_syntax.specs.declared.operator.Operator.{Operator}
+use Rattle.qv_syntax.specs.declared.operator.Operator.TheVariants as operators
+use Rattle.qv_syntax.specs.declared.operation.CollectionOperation.{CollectionOperation}
+use Rattle.qv_syntax.specs.declared.operation.CollectionOperation.TheVariants as collections
+use Rattle.qv_syntax.specs.declared.ty.Ty.{Ty}
+use Rattle.qv_syntax.specs.declared.ty.Ty.TheVariants as types
+use Rattle.qv_syntax.specs.declared.type_tree.Kind.{Kind}
+use Rattle.qv_syntax.specs.declared.type_tree.TypeTree.{TypeTree}
+use Rattle.qv_syntax.specs.declared.typed.Call.TheVariants as calls
+use Rattle.qv_syntax.specs.declared.typed.Node.TheVariants as nodes
+use Rattle.ocl_types.specs.declared.fault.TypeFault.TheVariants.{UnknownName, DuplicateName, WrongCount, ModelMix}
+use Rattle.ocl_types.specs.declared.part.TypedPart.{TypedPart}
+use Rattle.ocl_types.specs.declared.part.CallsSoFar.{CallsSoFar}
+use Rattle.ocl_types.specs.declared.part.Chained.{Chained}
+use Rattle.ocl_types.specs.declared.variable.Variable.{Variable}
+use Rattle.ocl_types.specs.Environments.{Environment, is_bound, number_of, value_of, only_model, class_of}
+use Rattle.ocl_types.specs.Naming.{names_of, joined_names, path_text, kind_text}
+use Rattle.ocl_types.specs.Classifiers.{named_literal, named_class}
+use Rattle.ocl_types.specs.Conformance.{TypeConforms}
+use Rattle.ocl_types.specs.Navigation.{navigated}
+use Rattle.ocl_types.specs.Operations.{operation_row, class_row, collection_row, iterator_row, operation_named, class_operation_named, collection_operation_named, iterator_named}
+use Rattle.ocl_types.specs.Signatures.{is_receiver, parameter_count, parameter_type, result_type, argument_count, is_of_kind, collected_kind}
+use Rattle.ocl_types.specs.Outcomes.{wrong_type}
+use Rattle.ocl_types.specs.Agreement.{collection_parts, model_for, same_type, joined_models}
+use Rattle.ocl_types.specs.Parts.{tree_of, trees_of, types_of, plain_part, with_models, one_model, and_called}
+use Rattle.ocl_types.specs.TypingScopes.{declared_type}
+use Rattle.ocl_types.specs.TypingOperators.{are_comparable, branches, literal_type, and_linked}
+use Rattle.ocl_types.specs.TypingSteps.{property_of, called_with, is_of_meta, tested, extent_part, query_part}
+use Rattle.ocl_types.specs.TypingCollections.{kind_of, element_of, given_types, operated_on, iterated}
+use Rattle.ocl_types.specs.Judged.{Judged, gives, tells, asks, finds, taking, both}
+
+-- this very type is asked for
+abbrev pub being : {X : Type 0} → List MetaDesc → Ty → Ty → Judged X → Judged X
+being metas wanted found rest = asks (found ≡ wanted) (wrong_type metas wanted found) rest
+
+-- a type that conforms to another is asked for
+abbrev pub conforming : {X : Type 0} → List MetaDesc → Ty → Ty → Judged X → Judged X
+conforming metas wanted found rest = asks (TypeConforms metas found wanted) (wrong_type metas wanted found) rest
+
+-- ---- names (section 9.4)
+
+-- a variable that is in reach
+abbrev pub variable_judged : Environment → List ℕ → Judged TypedPart
+variable_judged env name =
+    finds (number_of env.variables name) (UnknownName name) (λ number.
+    finds (value_of env.variables name) (UnknownName name) (λ v.
+    gives (record { ty = v.ty; model = v.model; node = nodes.Variable number })))
+
+-- a literal of an enumeration
+abbrev pub literal_judged : Environment → List (List ℕ) → Judged TypedPart
+literal_judged env names = finds (named_literal env names) (UnknownName (joined_names names)) (λ l. gives (plain_part (types.Enum l.0 l.1) (nodes.EnumLiteral l.0 l.1 l.2)))
+
+abbrev pub names_judged : Environment → List (List ℕ) → Judged TypedPart
+names_judged env (name ∷ []) = variable_judged env name
+names_judged env names = literal_judged env names
+
+-- ---- operators (sections 7.4.7 and 11.5)
+
+-- both sides have the one type, and what comes has the other
+abbrev pub sides : List MetaDesc → Ty → Ty → Ty → Ty → Judged Ty
+sides metas wanted left right to = being metas wanted left (being metas wanted right (gives to))
+
+-- two Strings or two Integers, as the left side is
+abbrev pub added_judged : List MetaDesc → Ty → Ty → Bool → Judged Ty
+added_judged metas a b true = sides metas types.Str a b types.Str
+added_judged metas a b false = sides metas types.Int a b types.Int
+
+-- the type of what an operator gives
+abbrev pub operator_judged : List MetaDesc → Operator → Ty → Ty → Judged Ty
+operator_judged metas operators.Implies a b = sides metas types.Bool a b types.Bool
+operator_judged metas operators.Xor a b = sides metas types.Bool a b types.Bool
+operator_judged metas operators.Or a b = sides metas types.Bool a b types.Bool
+operator_judged metas operators.And a b = sides metas types.Bool a b types.Bool
+operator_judged metas operators.Equal a b = asks (IsTrue (are_comparable metas a b)) (wrong_type metas a b) (gives types.Bool)
+operator_judged metas operators.NotEqual a b = asks (IsTrue (are_comparable metas a b)) (wrong_type metas a b) (gives types.Bool)
+operator_judged metas operators.Less a b = sides metas types.Int a b types.Bool
+operator_judged metas operators.Greater a b = sides metas types.Int a b types.Bool
+operator_judged metas operators.AtMost a b = sides metas types.Int a b types.Bool
+operator_judged metas operators.AtLeast a b = sides metas types.Int a b types.Bool
+operator_judged metas operators.Plus a b = added_judged metas a b (same_type a types.Str)
+operator_judged metas operators.Minus a b = sides metas types.Int a b types.Int
+operator_judged metas operators.Times a b = sides metas types.Int a b types.Int
+
+-- what stands before, an operator, and the part behind it
+abbrev pub linked_judged : List MetaDesc → Chained → Operator → TypedPart → Judged Chained
+linked_judged metas c operator right = taking (operator_judged metas operator c.ty right.ty) (λ ty. gives (and_linked c operator right ty))
+
+abbrev pub not_judged : List MetaDesc → TypedPart → Judged TypedPart
+not_judged metas p = being metas types.Bool p.ty (gives (plain_part types.Bool (nodes.Not (tree_of p))))
+
+abbrev pub negated_judged : List MetaDesc → TypedPart → Judged TypedPart
+negated_judged metas p = being metas types.Int p.ty (gives (plain_part types.Int (nodes.Negated (tree_of p))))
+
+-- ---- if (section 7.5.5): a condition, branches that go together, and objects of one model
+
+abbrev pub if_judged : List MetaDesc → TypedPart → TypedPart → TypedPart → Judged TypedPart
+if_judged metas c a b =
+    being metas types.Bool c.ty (
+    taking (both (tells (branches metas a.ty b.ty)) (tells (one_model (codes "if") (joined_models a.model b.model)))) (λ t.
+    gives (record { ty = t.0; model = t.1; node = nodes.If (tree_of c) (tree_of a) (tree_of b) })))
+
+-- ---- collection literals (section 7.5.5): elements that go together, and objects of one model
+
+abbrev pub collection_judged : List MetaDesc → Kind → List TypedPart → Judged TypedPart
+collection_judged metas kind elements =
+    taking (both (tells (literal_type metas (types_of elements))) (tells (one_model (kind_text kind) (with_models None elements)))) (λ t.
+    gives (record { ty = types.Coll kind t.0; model = t.1; node = nodes.Coll kind (trees_of elements) }))
+
+-- ---- let (section 7.4.3)
+
+-- a name that is free: variables hide nothing
+abbrev pub free_judged : {X : Type 0} → Environment → List ℕ → Judged X → Judged X
+free_judged env name rest = asks (is_bound env name ≡ false) (DuplicateName name) rest
+
+-- the type that is written for a variable of a name that is free
+abbrev pub let_judged : Environment → List ℕ → TypeTree → Judged Ty
+let_judged env name tree = free_judged env name (tells (declared_type env tree))
+
+-- the variable, of its type and a value
+abbrev pub bound_judged : List MetaDesc → Ty → TypedPart → Judged Variable
+bound_judged metas ty value = conforming metas ty value.ty (gives (record { ty = ty; model = value.model }))
+
+-- ---- queries, with arguments that conform to the types of the parameters
+
+abbrev pub arguments_judged : List MetaDesc → List Ty → List TypedPart → Judged TypedPart → Judged TypedPart
+arguments_judged metas [] args rest = rest
+arguments_judged metas (ty ∷ more) [] rest = rest
+arguments_judged metas (ty ∷ more) (p ∷ ps) rest = conforming metas ty p.ty (arguments_judged metas more ps rest)
+
+abbrev pub query_judged : Environment → List ℕ → List TypedPart → Judged TypedPart
+query_judged env name args =
+    finds (number_of env.queries name) (UnknownName name) (λ number.
+    finds (value_of env.queries name) (UnknownName name) (λ signature.
+    asks (length args ≡ length signature.params) (WrongCount name) (
+    arguments_judged env.metas signature.params args (gives (query_part number signature args)))))
+
+-- ---- extents (section 11.3.1): of the one model that has the metamodel of the class
+
+abbrev pub extent_judged : Environment → Path → Judged TypedPart
+extent_judged env path =
+    finds (named_class env (names_of path)) (UnknownName (path_text path)) (λ class.
+    finds (only_model env.models class.0) (ModelMix (path_text path)) (λ model.
+    gives (extent_part class model)))
+
+-- ---- properties (section 7.5.3), of an object or of each object of a collection
+
+abbrev pub property_judged_by : List MetaDesc → List ℕ → CallsSoFar → Option (Kind × Ty) → Judged CallsSoFar
+property_judged_by metas name c None = finds (property_of metas c.ty name) (UnknownName name) (λ p.
+    gives (and_called c (calls.Property p.0 p.1) (navigated p.1 p.2) (model_for p.2 c.model)))
+property_judged_by metas name c (Some parts) = finds (property_of metas parts.1 name) (UnknownName name) (λ p.
+    gives (and_called c (calls.CollectProperty p.0 p.1) (types.Coll (collected_kind parts.0) p.2) (model_for p.2 c.model)))
+
+abbrev pub property_judged : List MetaDesc → List ℕ → CallsSoFar → Judged CallsSoFar
+property_judged metas name c = property_judged_by metas name c (collection_parts c.ty)
+
+-- ---- operations on single values (sections 11.3 and 11.5)
+
+abbrev pub exact_judged : List MetaDesc → Ty → List TypedPart → Judged CallsSoFar → Judged CallsSoFar
+exact_judged metas wanted [] rest = rest
+exact_judged metas wanted (p ∷ ps) rest = being metas wanted p.ty (exact_judged metas wanted ps rest)
+
+abbrev pub operation_judged : List MetaDesc → List ℕ → CallsSoFar → List TypedPart → Judged CallsSoFar
+operation_judged metas name c args =
+    finds (operation_named (encode_utf8_all name)) (UnknownName name) (λ operation.
+    asks (IsTrue (is_receiver (operation_row operation).receivers c.ty)) (UnknownName name) (
+    asks (length args ≡ parameter_count (operation_row operation).parameters) (WrongCount name) (
+    exact_judged metas (parameter_type (operation_row operation).parameters) args (
+    gives (called_with c (calls.Operation operation (trees_of args)) (result_type (operation_row operation).result c.ty))))))
+
+-- a type test or a cast, with a class of the object's metamodel
+abbrev pub class_operation_judged : Environment → List ℕ → Path → CallsSoFar → Judged CallsSoFar
+class_operation_judged env name path c =
+    finds (class_operation_named (encode_utf8_all name)) (UnknownName name) (λ operation.
+    finds (named_class env (names_of path)) (UnknownName (path_text path)) (λ class.
+    asks (IsTrue (is_of_meta class.0 (class_of c.ty))) (wrong_type env.metas (types.Class class.0 class.1) c.ty) (
+    gives (called_with c (calls.Class operation class.1) (tested (class_row operation).result class)))))
+
+-- ---- operations on collections (section 11.7)
+
+-- `sum` asks for Integers
+abbrev pub summed_judged : List MetaDesc → CollectionOperation → Ty → Judged CallsSoFar → Judged CallsSoFar
+summed_judged metas collections.Sum of rest = being metas types.Int of rest
+summed_judged metas operation of rest = rest
+
+abbrev pub collection_operation_judged : List MetaDesc → List ℕ → CallsSoFar → List TypedPart → Judged CallsSoFar
+collection_operation_judged metas name c args =
+    finds (collection_operation_named (encode_utf8_all name)) (UnknownName name) (λ operation.
+    asks (IsTrue (is_of_kind (collection_row operation).kinds (kind_of c.ty))) (UnknownName name) (
+    asks (length args ≡ argument_count (collection_row operation).argument) (WrongCount name) (
+    summed_judged metas operation (element_of c.ty) (
+    taking (both (tells (given_types metas (collection_row operation).argument (kind_of c.ty) (element_of c.ty) args)) (tells (one_model name (with_models c.model args)))) (λ t.
+    gives (operated_on c operation args (kind_of c.ty) (element_of c.ty) t.0 t.1))))))
+
+-- ---- iterators (section 11.9)
+
+-- the type of the variable: that of the elements, or a written one to which this conforms
+abbrev pub variable_type_judged : Environment → Option TypeTree → Ty → Judged Ty
+variable_type_judged env None of = gives of
+variable_type_judged env (Some tree) of = taking (tells (declared_type env tree)) (λ ty. conforming env.metas ty of (gives ty))
+
+abbrev pub iterator_variable_judged : Environment → List ℕ → Option TypeTree → CallsSoFar → Judged Variable
+iterator_variable_judged env name tree c = free_judged env name (taking (variable_type_judged env tree (element_of c.ty)) (λ ty. gives (record { ty = ty; model = c.model })))
+
+-- a body that is a condition is a Boolean
+abbrev pub condition_judged : List MetaDesc → Bool → Ty → Judged CallsSoFar → Judged CallsSoFar
+condition_judged metas true ty rest = being metas types.Bool ty rest
+condition_judged metas false ty rest = rest
+
+abbrev pub iterator_judged : List MetaDesc → List ℕ → ℕ → CallsSoFar → TypedPart → Judged CallsSoFar
+iterator_judged metas name number c body =
+    finds (iterator_named (encode_utf8_all name)) (UnknownName name) (λ iterator.
+    condition_judged metas (iterator_row iterator).conditional body.ty (
+    gives (iterated c iterator number body)))
