@@ -1,5 +1,5 @@
 -- The definitions computed on examples: what they give is what OCL's tables say.
-use Rattle.std.specs.Prelude.{◌≡◌, ℕ, Bool, true, false, ℤ, pos, negsuc, List, [], ◌∷◌, codes, None, Some}
+use Rattle.std.specs.Prelude.{◌≡◌, ℕ, Bool, true, false, ℤ, pos, negsuc, List, [], ◌∷◌, codes}
 use Rattle.std.proofs.Common.{refl}
 use Rattle.object_tables.specs.declared.value.Value.TheVariants as values
 use Rattle.qv_syntax.specs.declared.operator.Operator.TheVariants as operators
@@ -9,13 +9,12 @@ use Rattle.qv_syntax.specs.declared.operation.IteratorKind.TheVariants as iterat
 use Rattle.qv_syntax.specs.declared.type_tree.Kind.{Kind}
 use Rattle.qv_syntax.specs.declared.type_tree.Kind.TheVariants as kinds
 use Rattle.qvtr_semantics.specs.declared.datum.Datum.{Datum}
-use Rattle.qvtr_semantics.specs.declared.datum.Datum.TheVariants.{Obj, Val}
+use Rattle.qvtr_semantics.specs.declared.datum.Datum.TheVariants.{Val}
 use Rattle.qvtr_semantics.specs.declared.out.Out.{Out}
 use Rattle.qvtr_semantics.specs.declared.out.Out.TheVariants as outs
 use Rattle.qvtr_semantics.specs.Outs.{Collection}
-use Rattle.qvtr_semantics.specs.Collections.{collection}
 use Rattle.qvtr_semantics.specs.Iterators.{iterated}
-use Rattle.qvtr_semantics.specs.Expressions.{operation, operated, negated, literal, on_collection}
+use Rattle.qvtr_semantics.specs.Expressions.{operation, operated, literal, on_collection}
 
 abbrev number : ℕ → Datum
 number n = Val 0 (values.Int (pos n))

@@ -1,7 +1,7 @@
 -- What an expression of a form is, by its parts.
 use Rattle.std.specs.Prelude.{◌≡◌, ℕ, List}
 use Rattle.qv_syntax.specs.declared.ty.Ty.{Ty}
-use Rattle.qv_syntax.specs.declared.typed.Typed.{Typed, fold-roll-Typed}
+use Rattle.qv_syntax.specs.declared.typed.Typed.{fold-roll-Typed}
 use Rattle.qv_syntax.specs.declared.typed.Node.{Node, roll-Node, fold-Node, fold-roll-Node}
 use Rattle.qv_syntax.specs.declared.typed.Call.TheOpen as of
 use Rattle.qvtr_semantics.specs.Objects.{Setting}

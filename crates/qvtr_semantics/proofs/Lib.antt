@@ -2,3 +2,11 @@ pub mod Examples
 pub mod TemplateLaws
 pub mod ExpressionLaws
 pub mod Rows
+pub mod MeaningLaws
+pub mod QueryLaws
+pub mod RowParts
+pub mod RowAnswers
+pub mod CallAnswers
+pub mod StrataLaws
+pub mod WellFormedAnswers
+pub mod WhereAnswers

@@ -1,33 +1,13 @@
 -- Source and target of two relations computed on small models: packages with classes, and schemas with tables.
-use Rattle.std.specs.Prelude.{◌≡◌, ℕ, Bool, true, false, ◌&&◌, List, [], ◌∷◌, map, length, codes, Option, None, Some}
+use Rattle.std.specs.Prelude.{◌≡◌, ℕ, Bool, true, false, ◌&&◌, List, [], ◌∷◌, map, length, codes, None}
 use Rattle.std.proofs.Common.{refl, ap, ◌∙◌}
-use Rattle.mof_metamodel.specs.declared.desc.MetaDesc.{MetaDesc}
-use Rattle.mof_metamodel.specs.declared.desc.ClassDesc.{ClassDesc}
-use Rattle.mof_metamodel.specs.declared.desc.PropDesc.{PropDesc}
-use Rattle.mof_metamodel.specs.declared.desc.OppDesc.{OppDesc}
-use Rattle.object_tables.specs.declared.value.Value.{Value}
-use Rattle.object_tables.specs.declared.value.Value.TheVariants as values
-use Rattle.object_tables.specs.Objects.{Object, Slot}
-use Rattle.object_tables.specs.Models.{ModelData}
-use Rattle.qv_syntax.specs.declared.program.Program.{Program}
 use Rattle.qv_syntax.specs.declared.program.Rel.{Rel}
-use Rattle.qv_syntax.specs.declared.program.Var.{Var}
-use Rattle.qv_syntax.specs.declared.program.Dom.{Dom}
-use Rattle.qv_syntax.specs.declared.program.Marker.TheVariants.{Checkonly, Enforce}
-use Rattle.qv_syntax.specs.declared.program.Tmpl.{Tmpl, roll-Tmpl}
 use Rattle.qv_syntax.specs.declared.program.Item.{Item}
 use Rattle.qv_syntax.specs.declared.program.ItemValue.{ItemValue, roll-ItemValue}
 use Rattle.qv_syntax.specs.declared.program.ItemValue.TheOpen as items
-use Rattle.qv_syntax.specs.declared.program.Conj.{Conj}
-use Rattle.qv_syntax.specs.declared.program.Conj.TheVariants as conjuncts
-use Rattle.qv_syntax.specs.declared.query.ModelSlot.{ModelSlot}
-use Rattle.qv_syntax.specs.declared.ty.Ty.{Ty}
 use Rattle.qv_syntax.specs.declared.ty.Ty.TheVariants as types
-use Rattle.qv_syntax.specs.declared.typed.Typed.{Typed}
-use Rattle.qv_syntax.specs.declared.typed.Node.{Node, roll-Node}
+use Rattle.qv_syntax.specs.declared.typed.Node.{roll-Node}
 use Rattle.qv_syntax.specs.declared.typed.Call.TheOpen as nodes
-use Rattle.qvtr_semantics.specs.declared.datum.Datum.{Datum}
-use Rattle.qvtr_semantics.specs.declared.datum.Datum.TheVariants.{Obj, Val}
 use Rattle.qvtr_semantics.specs.Outs.{datum_of}
 use Rattle.qvtr_semantics.specs.Objects.{Setting}
 use Rattle.qvtr_semantics.specs.Expressions.{Meaning, Queries, setting, queries_within, scope_of, node_meaning}
@@ -35,159 +15,17 @@ use Rattle.qvtr_semantics.specs.Templates.{Values, SlotMeaning, ItemMeaning, Pat
 use Rattle.qvtr_semantics.proofs.TemplateLaws.{slot_of, item_of, template_is, item_is, slot_expr, slot_nested}
 use Rattle.qvtr_semantics.proofs.ExpressionLaws.{typed_is, variable_is, string_is}
 use Rattle.qvtr_semantics.specs.Bindings.{have_values, meets_source, meets_target}
-
--- ---- metamodels: Named (abstract), and two classes of which the first contains the second
-
-abbrev text_prop : List ℕ → PropDesc
-text_prop name = record { name = name; type_name = codes "String"; lower = 0; upper = Some 1; composite = false; ordered = false; opposite = None }
-
-abbrev parts_prop : List ℕ → List ℕ → List ℕ → PropDesc
-parts_prop name class back = record { name = name; type_name = class; lower = 0; upper = None; composite = true; ordered = false; opposite = Some (record { class = class; prop = back }) }
-
-abbrev whole_prop : List ℕ → List ℕ → List ℕ → PropDesc
-whole_prop name class back = record { name = name; type_name = class; lower = 0; upper = Some 1; composite = false; ordered = false; opposite = Some (record { class = class; prop = back }) }
-
-abbrev metamodel : List ℕ → List ℕ → List ℕ → List ℕ → List ℕ → MetaDesc
-metamodel name outer inner parts whole = record {
-  name = name;
-  classes = record { name = codes "Named"; is_abstract = true; supers = []; props = text_prop (codes "name") ∷ [] }
-      ∷ record { name = outer; is_abstract = false; supers = codes "Named" ∷ []; props = parts_prop parts inner whole ∷ [] }
-      ∷ record { name = inner; is_abstract = false; supers = codes "Named" ∷ []; props = whole_prop whole outer parts ∷ text_prop (codes "kind") ∷ [] } ∷ [];
-  enums = [];
-}
-
-abbrev cls : MetaDesc
-cls = metamodel (codes "Cls") (codes "Package") (codes "Class") (codes "classes") (codes "owner")
-
-abbrev rdb : MetaDesc
-rdb = metamodel (codes "Rdb") (codes "Schema") (codes "Table") (codes "tables") (codes "schema")
-
--- ---- models: a package `a` with the class `Order`, and a package `b`; a schema `a` with the table `Order`
-
-abbrev value_slot : List ℕ → Slot
-value_slot text = record { values = values.Str text ∷ []; partners = [] }
-
-abbrev link_slot : List ℕ → Slot
-link_slot partners = record { values = []; partners = partners }
-
-abbrev outer_object : List ℕ → List ℕ → List ℕ → Option Object
-outer_object id name parts = Some (record { class = 1; id = id; slots = value_slot name ∷ link_slot parts ∷ [] })
-
-abbrev inner_object : List ℕ → List ℕ → ℕ → List ℕ → Option Object
-inner_object id name whole kind = Some (record { class = 2; id = id; slots = value_slot name ∷ link_slot (whole ∷ []) ∷ value_slot kind ∷ [] })
-
-abbrev uml_model : ModelData
-uml_model = record { meta = cls; objects = outer_object (codes "p1") (codes "a") (1 ∷ []) ∷ inner_object (codes "c1") (codes "Order") 0 (codes "persistent") ∷ outer_object (codes "p2") (codes "b") [] ∷ [] }
-
-abbrev rdb_model : ModelData
-rdb_model = record { meta = rdb; objects = outer_object (codes "s1") (codes "a") (1 ∷ []) ∷ inner_object (codes "t1") (codes "Order") 0 (codes "") ∷ [] }
-
-abbrev models : List ModelData
-models = uml_model ∷ rdb_model ∷ []
-
--- ---- the program
-
-abbrev var : ℕ → Ty → Typed
-var number ty = record { ty = ty; node = roll-Node (nodes.Variable number) }
-
-abbrev written : List ℕ → Typed
-written text = record { ty = types.Str; node = roll-Node (nodes.Str text) }
-
-abbrev class : ℕ → ℕ → Ty
-class meta number = types.Class meta (record { 0 = number })
-
-abbrev item : ℕ → ItemValue → Item
-item prop value = record { prop = record { 0 = prop }; value = value }
-
-abbrev name_item : ℕ → Item
-name_item number = item 0 (roll-ItemValue (items.Expr (var number types.Str)))
-
-abbrev template : ℕ → ℕ → List Item → Tmpl
-template number c its = roll-Tmpl (record { var = number; class = record { 0 = c }; items = its })
-
-abbrev data_var : List ℕ → Var
-data_var name = record { name = name; ty = types.Str; model = None }
-
-abbrev object_var : List ℕ → ℕ → ℕ → Var
-object_var name model c = record { name = name; ty = class model c; model = Some model }
-
--- top relation PackageToSchema { pn : String; checkonly domain uml p : Package {name = pn}; enforce domain rdb s : Schema {name = pn}; }
-abbrev package_to_schema : Rel
-package_to_schema = record {
-  name = codes "PackageToSchema";
-  top = true;
-  in_direction = true;
-  stratum = 0;
-  vars = data_var (codes "pn") ∷ object_var (codes "p") 0 1 ∷ object_var (codes "s") 1 1 ∷ [];
-  universal = 0 ∷ 1 ∷ [];
-  existential = 2 ∷ [];
-  domains = record { model = Some 0; marker = Checkonly; root = 1; template = Some (template 1 1 (name_item 0 ∷ [])) }
-      ∷ record { model = Some 1; marker = Enforce; root = 2; template = Some (template 2 1 (name_item 0 ∷ [])) } ∷ [];
-  whens = [];
-  wheres = [];
-}
-
-abbrev persistent_item : Item
-persistent_item = item 3 (roll-ItemValue (items.Expr (written (codes "persistent"))))
-
-abbrev class_items : List Item
-class_items = item 2 (roll-ItemValue (items.Nested (template 2 1 []))) ∷ persistent_item ∷ name_item 0 ∷ []
-
-abbrev class_tmpl : Tmpl
-class_tmpl = template 1 2 class_items
-
-abbrev table_items : List Item
-table_items = item 2 (roll-ItemValue (items.Nested (template 4 1 []))) ∷ name_item 0 ∷ []
-
-abbrev table_tmpl : Tmpl
-table_tmpl = template 3 2 table_items
-
--- top relation ClassToTable { cn : String;
---   checkonly domain uml c : Class {owner = p : Package {}, kind = 'persistent', name = cn};
---   enforce domain rdb t : Table {schema = s : Schema {}, name = cn};
---   when { PackageToSchema(p, s); } }
-abbrev class_to_table : Rel
-class_to_table = record {
-  name = codes "ClassToTable";
-  top = true;
-  in_direction = true;
-  stratum = 1;
-  vars = data_var (codes "cn") ∷ object_var (codes "c") 0 2 ∷ object_var (codes "p") 0 1 ∷ object_var (codes "t") 1 2 ∷ object_var (codes "s") 1 1 ∷ [];
-  universal = 0 ∷ 1 ∷ 2 ∷ 4 ∷ [];
-  existential = 3 ∷ [];
-  domains = record { model = Some 0; marker = Checkonly; root = 1; template = Some class_tmpl }
-      ∷ record { model = Some 1; marker = Enforce; root = 3; template = Some table_tmpl } ∷ [];
-  whens = conjuncts.Call 0 (var 2 (class 0 1) ∷ var 4 (class 1 1) ∷ []) ∷ [];
-  wheres = [];
-}
-
-abbrev program : Program
-program = record {
-  name = codes "Cls2Rdb";
-  models = record { name = codes "uml"; meta = 0 } ∷ record { name = codes "rdb"; meta = 1 } ∷ [];
-  target = 1;
-  keys = [];
-  rels = package_to_schema ∷ class_to_table ∷ [];
-  queries = [];
-}
-
--- ---- bindings
-
-abbrev text : List ℕ → Option Datum
-text s = Some (Val 0 (values.Str s))
-
-abbrev object : ℕ → ℕ → Option Datum
-object model o = Some (Obj model (record { 0 = o }))
+use Rattle.qvtr_semantics.specs.SmallModels.{models, var, written, item, name_item, template, package_to_schema, persistent_item, class_items, class_tmpl, table_items, table_tmpl, class_to_table, program, text, object}
 
 -- ---- what the templates ask, by their parts
 
-abbrev sets : Setting
+abbrev pub sets : Setting
 sets = setting program models
 
-abbrev queries : Queries
+abbrev pub queries : Queries
 queries = queries_within program.queries sets (length program.queries)
 
-abbrev held : Meaning → SlotMeaning
+abbrev pub held : Meaning → SlotMeaning
 held m values slot = has slot (datum_of (m (scope_of values)))
 
 slot_of_variable : (number : ℕ) → slot_of program models (roll-ItemValue (items.Expr (var number types.Str))) ≡ held (node_meaning sets queries (nodes.Variable number))
@@ -196,19 +34,19 @@ slot_of_variable number = slot_expr program models (var number types.Str) ∙ ap
 slot_of_text : (text : List ℕ) → slot_of program models (roll-ItemValue (items.Expr (written text))) ≡ held (node_meaning sets queries (nodes.Str text))
 slot_of_text text = slot_expr program models (written text) ∙ ap held (typed_is sets queries types.Str (roll-Node (nodes.Str text)) ∙ string_is sets queries text)
 
-abbrev asks : ℕ → SlotMeaning → ItemMeaning
+abbrev pub asks : ℕ → SlotMeaning → ItemMeaning
 asks prop m = item_meaning sets (record { prop = record { 0 = prop }; value = m })
 
 item_asks : (prop : ℕ) (value : ItemValue) (m : SlotMeaning) → slot_of program models value ≡ m → item_of program models (item prop value) ≡ asks prop m
 item_asks prop value m h = item_is program models (record { 0 = prop }) value ∙ ap (asks prop) h
 
-abbrev matching : ℕ → ℕ → List ItemMeaning → Pattern
+abbrev pub matching : ℕ → ℕ → List ItemMeaning → Pattern
 matching number c ms = tmpl_meaning sets (record { var = number; class = record { 0 = c }; items = ms })
 
 template_asks : (number c : ℕ) (its : List Item) (ms : List ItemMeaning) → map (item_of program models) its ≡ ms → pattern program models (template number c its) ≡ matching number c ms
 template_asks number c its ms h = template_is program models number (record { 0 = c }) its ∙ ap (matching number c) h
 
-abbrev named : ℕ → ItemMeaning
+abbrev pub named : ℕ → ItemMeaning
 named number = asks 0 (held (node_meaning sets queries (nodes.Variable number)))
 
 names : (number : ℕ) → item_of program models (name_item number) ≡ named number
@@ -218,7 +56,7 @@ names number = item_asks 0 (roll-ItemValue (items.Expr (var number types.Str))) 
 named_template : (number c name : ℕ) → pattern program models (template number c (name_item name ∷ [])) ≡ matching number c (named name ∷ [])
 named_template number c name = template_asks number c (name_item name ∷ []) (named name ∷ []) (ap (λ m. m ∷ []) (names name))
 
-abbrev nested : ℕ → ItemMeaning
+abbrev pub nested : ℕ → ItemMeaning
 nested number = asks 2 (slot_meaning program models (items.Nested (matching number 1 [])))
 
 -- an item whose value is a template that asks for nothing
@@ -226,7 +64,7 @@ nested_asks : (number : ℕ) → item_of program models (item 2 (roll-ItemValue 
 nested_asks number = item_asks 2 (roll-ItemValue (items.Nested (template number 1 []))) (slot_meaning program models (items.Nested (matching number 1 [])))
     (slot_nested program models (template number 1 []) ∙ ap (λ p. slot_meaning program models (items.Nested p)) (template_asks number 1 [] [] refl))
 
-abbrev persistent : ItemMeaning
+abbrev pub persistent : ItemMeaning
 persistent = asks 3 (held (node_meaning sets queries (nodes.Str (codes "persistent"))))
 
 class_template : pattern program models class_tmpl ≡ matching 1 2 (nested 2 ∷ persistent ∷ named 0 ∷ [])
@@ -241,10 +79,10 @@ table_template = template_asks 3 2 table_items (nested 4 ∷ named 0 ∷ [])
 
 -- ---- source and target of PackageToSchema: the package a has a partner, the package b has none, and no other pair meets the source
 
-abbrev source_by : Pattern → Rel → Values → Bool
+abbrev pub source_by : Pattern → Rel → Values → Bool
 source_by p rel b = have_values program models rel rel.universal b && (p.matches b && true) && true
 
-abbrev target_by : Pattern → Rel → Values → Bool
+abbrev pub target_by : Pattern → Rel → Values → Bool
 target_by p rel g = have_values program models rel rel.existential g && (p.matches g && true) && true
 
 package_source : (b : Values) (answer : Bool) → source_by (matching 1 1 (named 0 ∷ [])) package_to_schema b ≡ answer → source_by (pattern program models (template 1 1 (name_item 0 ∷ []))) package_to_schema b ≡ answer

@@ -1,5 +1,5 @@
 -- Bindings of the variables of a relation: what meets its source, and what meets its target (QVT 1.3, sections 7.2, 7.10.1 and 7.11.1.4).
-use Rattle.std.specs.Prelude.{◌≡◌, ◌⊎◌, ℕ, Bool, true, false, ◌&&◌, ◌||◌, not, ◌==◌, List, [], ◌∷◌, length, Option, None, Some, slice_get, Contains, IsTrue}
+use Rattle.std.specs.Prelude.{◌≡◌, ◌⊎◌, ℕ, Bool, true, false, ◌&&◌, ◌||◌, not, ◌==◌, List, length, Option, None, Some, slice_get, Contains, IsTrue}
 use Rattle.std.specs.List.{list_all}
 use Rattle.object_tables.specs.declared.value.Value.{Value}
 use Rattle.object_tables.specs.declared.value.Value.TheVariants as values

@@ -1,8 +1,7 @@
 -- Calls between relations (QVT 1.3, sections 7.3 and 7.10.2). In a when clause a call asks for a match: some binding of the called
 -- relation has these roots. In a where clause it asks that the called relation holds for these roots. By recursion on the calls in
 -- when clauses that may still be made within one another (the strata), and on the calls in where clauses.
-use Rattle.std.specs.Prelude.{◌≡◌, ℕ, zero, suc, Bool, true, false, List, [], ◌∷◌, map, length, replicate, Option, None, Some, slice_get, slice_set, All}
-use Rattle.std.specs.List.{filter_map}
+use Rattle.std.specs.Prelude.{ℕ, zero, suc, List, [], ◌∷◌, map, length, replicate, Option, None, Some, slice_get, slice_set}
 use Rattle.mof_metamodel.specs.declared.limits.TheConstants.{MAX_CALLS}
 use Rattle.object_tables.specs.Models.{ModelData}
 use Rattle.qv_syntax.specs.declared.program.Program.{Program}
@@ -12,7 +11,7 @@ use Rattle.qv_syntax.specs.declared.program.Conj.{Conj}
 use Rattle.qv_syntax.specs.declared.program.Conj.TheVariants as conjuncts
 use Rattle.qv_syntax.specs.declared.typed.Typed.{Typed}
 use Rattle.qvtr_semantics.specs.declared.datum.Datum.{Datum}
-use Rattle.qvtr_semantics.specs.Outs.{and_then, datum_of, all_given}
+use Rattle.qvtr_semantics.specs.Outs.{datum_of, all_given}
 use Rattle.qvtr_semantics.specs.Expressions.{value_for}
 use Rattle.qvtr_semantics.specs.Templates.{Values}
 use Rattle.qvtr_semantics.specs.Bindings.{Source, Target}

@@ -1,6 +1,6 @@
 -- Which relations a check comes to, and the chains of calls in where clauses (QVT 1.3, section 7.10.2; that chains which come back to
 -- a call or grow too long are refused is this engine's own).
-use Rattle.std.specs.Prelude.{◌≡◌, ◌≢◌, ◌⊎◌, ℕ, suc, List, [], ◌∷◌, ◌++◌, length, Option, None, Some, slice_get, Contains, AllPairs}
+use Rattle.std.specs.Prelude.{◌≡◌, ◌≢◌, ◌⊎◌, ℕ, suc, List, [], ◌∷◌, ◌++◌, length, Some, slice_get, Contains, AllPairs}
 use Rattle.mof_metamodel.specs.declared.limits.TheConstants.{MAX_CALLS}
 use Rattle.object_tables.specs.Models.{ModelData}
 use Rattle.qv_syntax.specs.declared.program.Program.{Program}
@@ -34,15 +34,25 @@ pub data Role : Type 0 where
   as_match : Role
   as_called : Role
 
-pub data Reached (program : Program) (models : List ModelData) : Role → RelationCall → Type 0 where
-  top : (number : ℕ) (rel : Rel) → IsTop program number rel → Reached program models as_top (record { rel = number; roots = free rel })
-  by_when : (role : Role) (from to : RelationCall) → Reached program models role from → AsksWhen program models from to → Reached program models as_match to
-  by_where : (role : Role) (from to : RelationCall) → Reached program models role from → CallsWhere program models from to → Reached program models as_called to
+-- what is reached from where a check begins: by calls in when clauses and in where clauses
+pub data ReachedFrom (program : Program) (models : List ModelData) (Starts : Role → RelationCall → Type 0) : Role → RelationCall → Type 0 where
+  start : (role : Role) (c : RelationCall) → Starts role c → ReachedFrom program models Starts role c
+  by_when : (role : Role) (from to : RelationCall) → ReachedFrom program models Starts role from → AsksWhen program models from to
+      → ReachedFrom program models Starts as_match to
+  by_where : (role : Role) (from to : RelationCall) → ReachedFrom program models Starts role from → CallsWhere program models from to
+      → ReachedFrom program models Starts as_called to
+
+-- a check of the relations begins with the top relations of the direction, with free roots
+pub data IsTopCall (program : Program) : Role → RelationCall → Type 0 where
+  top : (number : ℕ) (rel : Rel) → IsTop program number rel → IsTopCall program as_top (record { rel = number; roots = free rel })
+
+abbrev pub Reached : Program → List ModelData → Role → RelationCall → Type 0
+Reached program models = ReachedFrom program models (IsTopCall program)
 
 -- a call at the begin of a chain: by a top relation, or by one that was asked for a match
-pub record Begins (program : Program) (models : List ModelData) (to : RelationCall) : Type 0 where
+pub record BeginsFrom (program : Program) (models : List ModelData) (Starts : Role → RelationCall → Type 0) (to : RelationCall) : Type 0 where
   pub from : RelationCall
-  pub begins : Reached program models as_top from ⊎ Reached program models as_match from
+  pub begins : ReachedFrom program models Starts as_top from ⊎ ReachedFrom program models Starts as_match from
   pub calls : CallsWhere program models from to
 
 -- each call is made by the one before it
@@ -51,9 +61,29 @@ GoesOn program models from [] = Unit {0}
 GoesOn program models from (to ∷ more) = CallsWhere program models from to × GoesOn program models to more
 
 -- a list of calls in where clauses
+abbrev pub ChainFrom : Program → List ModelData → (Role → RelationCall → Type 0) → List RelationCall → Type 0
+ChainFrom program models Starts [] = ⊥
+ChainFrom program models Starts (first ∷ more) = BeginsFrom program models Starts first × GoesOn program models first more
+
 abbrev pub Chain : Program → List ModelData → List RelationCall → Type 0
-Chain program models [] = ⊥
-Chain program models (first ∷ more) = Begins program models first × GoesOn program models first more
+Chain program models = ChainFrom program models (IsTopCall program)
+
+-- one call alone is where a check begins
+pub data IsOnlyCall (role : Role) (c : RelationCall) : Role → RelationCall → Type 0 where
+  only : IsOnlyCall role c role c
+
+-- what a match that is asked for reaches: the chains that begin in the where clause of the relation, or of one that is asked for a match from there
+abbrev pub MatchChain : Program → List ModelData → RelationCall → List RelationCall → Type 0
+MatchChain program models c = ChainFrom program models (IsOnlyCall as_match c)
+
+-- the chain begins with the call
+abbrev pub ChainOf : Program → List ModelData → RelationCall → List RelationCall → Type 0
+ChainOf program models c [] = ⊥
+ChainOf program models c (first ∷ more) = (first ≡ c) × GoesOn program models c more
+
+-- what a call in a where clause reaches: the chains that begin with it, or in the where clause of a relation that is asked for a match from there
+abbrev pub HoldsChain : Program → List ModelData → RelationCall → List RelationCall → Type 0
+HoldsChain program models c chain = ChainOf program models c chain ⊎ ChainFrom program models (IsOnlyCall as_called c) chain
 
 -- the last call is one of the earlier ones, which are distinct
 pub record IsCyclic (chain : List RelationCall) : Type 0 where

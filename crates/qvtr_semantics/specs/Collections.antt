@@ -1,7 +1,7 @@
 -- Collections and their operations (OCL 2.4, sections 11.6 and 11.7). A collection is a kind and the list of its elements; what an
 -- operation gives is told by a list, of which the kind keeps what it keeps.
-use Rattle.std.specs.Prelude.{ℕ, Bool, true, false, ◌==◌, ◌-◌, not, nat_le, pos, ℤ, List, [], ◌∷◌, ◌++◌, length, Option, None, Some, slice_get, is_some, if◌then◌else◌}
-use Rattle.std.specs.List.{filter, list_all, list_any, last_or, count_by}
+use Rattle.std.specs.Prelude.{ℕ, Bool, true, false, ◌==◌, ◌-◌, not, nat_le, pos, ℤ, List, [], ◌∷◌, ◌++◌, length, Option, None, slice_get, if◌then◌else◌}
+use Rattle.std.specs.List.{filter, list_all, last_or, count_by}
 use Rattle.mof_metamodel.specs.declared.limits.TheConstants.{MAX_RESULT}
 use Rattle.qv_syntax.specs.declared.type_tree.Kind.{Kind}
 use Rattle.qv_syntax.specs.declared.type_tree.Kind.TheVariants.{Set, Bag, Sequence, OrderedSet}

@@ -1,6 +1,6 @@
 -- The value of an expression (OCL 2.4, chapter 11 and annex A.2.2): by recursion on the tree, one clause for each form. A part that isn't of
 -- the kind that is asked for gives invalid, and so does a number that names nothing.
-use Rattle.std.specs.Prelude.{ℕ, zero, suc, Bool, true, false, not, int_lt, int_le, ℤ, List, [], ◌∷◌, ◌++◌, map, length, take, Option, None, Some, slice_get, slice_index_or, if◌then◌else◌}
+use Rattle.std.specs.Prelude.{ℕ, zero, suc, Bool, true, false, int_lt, int_le, ℤ, List, [], ◌∷◌, ◌++◌, map, length, take, Option, None, Some, slice_get, slice_index_or}
 use Rattle.std.specs.Option.{option_map}
 use Rattle.object_tables.specs.declared.value.Value.TheVariants as values
 use Rattle.object_tables.specs.Models.{ModelData}
@@ -19,7 +19,7 @@ use Rattle.qv_syntax.specs.declared.type_tree.Kind.TheVariants as kinds
 use Rattle.qv_syntax.specs.declared.typed.Typed.{Typed, fold-Typed}
 use Rattle.qv_syntax.specs.declared.typed.Call.TheOpen as of
 use Rattle.qvtr_semantics.specs.declared.datum.Datum.{Datum}
-use Rattle.qvtr_semantics.specs.declared.datum.Datum.TheVariants.{Obj, Val}
+use Rattle.qvtr_semantics.specs.declared.datum.Datum.TheVariants.{Val}
 use Rattle.qvtr_semantics.specs.declared.out.Out.{Out}
 use Rattle.qvtr_semantics.specs.declared.out.Out.TheVariants as outs
 use Rattle.qvtr_semantics.specs.Outs.{Collection, and_then, given, datum_of, integer_of, string_of, boolean_of, collection_of, boolean, truth, all_given}

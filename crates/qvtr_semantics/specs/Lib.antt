@@ -13,3 +13,5 @@ pub mod Bindings
 pub mod Calls
 pub mod Satisfaction
 pub mod Chains
+pub mod SmallModels
+pub mod Strata

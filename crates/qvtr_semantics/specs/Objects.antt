@@ -1,6 +1,6 @@
 -- Objects of the models: what stands at their properties, their classes, and the objects of a class (OCL 2.4, sections 7.5.3, 11.3.1 and
 -- 7.5.10 (allInstances); MOF 2.5.1, 13.4).
-use Rattle.std.specs.Prelude.{ℕ, Bool, true, false, ◌&&◌, ◌==◌, List, [], ◌∷◌, map, length, Option, None, Some, slice_get, is_some, if◌then◌else◌}
+use Rattle.std.specs.Prelude.{ℕ, Bool, false, ◌==◌, List, [], ◌∷◌, map, length, Option, None, Some, slice_get, if◌then◌else◌}
 use Rattle.std.specs.List.{filter, list_any, range_with_len}
 use Rattle.std.specs.Option.{option_map}
 use Rattle.mof_metamodel.specs.declared.desc.MetaDesc.{MetaDesc}

@@ -1,16 +1,13 @@
 -- When an object template matches (QVT 1.3, sections 7.2.3, 7.3 and 7.11.2): the variable of the template has an object of its class
 -- that is live, and each item holds.
-use Rattle.std.specs.Prelude.{ℕ, Bool, true, false, ◌&&◌, ◌==◌, List, [], ◌∷◌, map, length, Option, None, Some, slice_get, slice_index_or}
+use Rattle.std.specs.Prelude.{ℕ, Bool, false, ◌&&◌, ◌==◌, List, length, Option, None, Some, slice_index_or}
 use Rattle.std.specs.List.{list_all}
 use Rattle.object_tables.specs.Models.{ModelData}
 use Rattle.qv_syntax.specs.declared.program.Program.{Program}
 use Rattle.qv_syntax.specs.declared.program.Tmpl.{Tmpl, fold-Tmpl}
 use Rattle.qv_syntax.specs.declared.program.ItemValue.TheOpen as of
-use Rattle.qv_syntax.specs.declared.typed.Typed.{Typed}
 use Rattle.qvtr_semantics.specs.declared.datum.Datum.{Datum}
-use Rattle.qvtr_semantics.specs.declared.out.Out.{Out}
-use Rattle.qvtr_semantics.specs.declared.out.Out.TheVariants as outs
-use Rattle.qvtr_semantics.specs.Outs.{and_then, datum_of}
+use Rattle.qvtr_semantics.specs.Outs.{datum_of}
 use Rattle.qvtr_semantics.specs.Data.{is_among}
 use Rattle.qvtr_semantics.specs.Objects.{Setting, ObjectClass, held_at, class_of, is_kind_of}
 use Rattle.qvtr_semantics.specs.Expressions.{setting, value_for}

@@ -4,8 +4,13 @@
 
 mod binding;
 mod datum;
+mod laws;
 mod out;
 
 pub use binding::Binding;
 pub use datum::Datum;
+pub use laws::{
+    calls_have_values_of_bodies, small_models_are_told, small_program_is_well_formed,
+    strata_are_enough,
+};
 pub use out::Out;
