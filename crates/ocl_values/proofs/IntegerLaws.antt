@@ -1,6 +1,6 @@
 -- Which numbers are Integers of 64 bits, and what the checked operations on them give.
-use Rattle.std.proofs.Common.{◌≡◌, ◌≤◌, ◌<◌, Bool, true, false, cond, refl, sym, ◌∙◌, ap, subst, arith, Option, None, Some}
-use Rattle.std.specs.Prelude.{◌-◌, ◌^◌, ℕ, zero, suc, ℤ, pos, negsuc, neg_ℤ, ◌+ℤ◌, List, [], ◌∷◌, nat_le, nat_abs, unsigned_abs, int_le, int_lt, int_div, int_rem, ◌&&◌, ◌%◌, FitsSigned, SomeIff}
+use Rattle.std.proofs.Common.{◌≡◌, ◌<◌, Bool, true, false, cond, refl, sym, ◌∙◌, ap, subst, arith, Option, None, Some}
+use Rattle.std.specs.Prelude.{◌-◌, ℕ, zero, suc, ℤ, pos, negsuc, neg_ℤ, ◌+ℤ◌, List, ◌∷◌, nat_le, nat_abs, unsigned_abs, int_div, ◌&&◌, FitsSigned, SomeIff}
 use Rattle.std.specs.Int.{w64, cast_unsigned, CanDivide}
 use Rattle.std.specs.Ordering.{int_eq}
 use Rattle.std.proofs.lemmas.Bool.Decides.{Decides-int_eq}
@@ -8,7 +8,6 @@ use Rattle.std.proofs.lemmas.Bool.{true≢false, leb-true, le-leb, lt-leb, and_p
 use Rattle.object_tables.specs.declared.value.Value.TheVariants as values
 use Rattle.qvtr_semantics.specs.declared.datum.Datum.{Datum}
 use Rattle.qvtr_semantics.specs.declared.datum.Datum.TheVariants.{Val}
-use Rattle.qvtr_semantics.specs.declared.out.Out.{Out}
 use Rattle.qvtr_semantics.specs.declared.out.Out.TheVariants as outs
 use Rattle.qvtr_semantics.specs.Outs.{given, and_then, integer_of_datum}
 use Rattle.qvtr_semantics.specs.Integers.{is_integer, integer, absolute, quotient, sum_onto}

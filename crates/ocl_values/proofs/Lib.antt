@@ -1,4 +1,9 @@
-pub mod OrderLaws
+pub mod DataOrderLaws
+pub mod UniqueLaws
+pub mod ProgressLaws
+pub mod MetOutLaws
+pub mod ListLaws
+pub mod MetLaws
 pub mod IntegerLaws
 pub mod EqualityLaws
 pub mod StringLaws
@@ -6,3 +11,4 @@ pub mod SpellingLaws
 pub mod SortLaws
 pub mod SetLaws
 pub mod CollectionLaws
+pub mod MemberLaws

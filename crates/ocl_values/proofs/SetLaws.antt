@@ -1,12 +1,12 @@
 -- A list in value order without its repeats is `in_order` of its distinct elements.
-use Rattle.std.proofs.Common.{◌≡◌, ℕ, Bool, true, false, cond, List, [], ◌∷◌, refl, sym, ◌∙◌, ap, subst, true≢false}
+use Rattle.std.proofs.Common.{◌≡◌, Bool, true, false, cond, List, [], ◌∷◌, refl, sym, ◌∙◌, ap, subst, true≢false}
 use Rattle.std.specs.Prelude.{⊤, ◌&&◌, ◌||◌, not}
-use Rattle.std.specs.List.{AllByRecursion, list_any, dedup, dedup_from}
+use Rattle.std.specs.List.{AllByRecursion, dedup, dedup_from}
 use Rattle.qvtr_semantics.specs.declared.datum.Datum.{Datum}
 use Rattle.qvtr_semantics.specs.Data.{same_datum, is_before, is_among, placed, in_order, new_ones, distinct}
 use Rattle.qv_syntax.specs.declared.type_tree.Kind.TheVariants.{Set}
 use Rattle.qvtr_semantics.specs.Collections.{bounded, collection}
-use Rattle.ocl_values.proofs.OrderLaws.{same_decides}
+use Rattle.ocl_values.specs.OrderLaws.{same_decides}
 use Rattle.ocl_values.proofs.SortLaws.{weak, one_of, not_itself, IsRising, rising-in_order, all-placed}
 
 same_itself : (d : Datum) → same_datum d d ≡ true

@@ -1,8 +1,8 @@
 -- A list in value order is determined by its elements, so that a sort gives what `in_order` says; and a list in value order without
 -- its repeats is `in_order` of its distinct elements.
 use Rattle.std.proofs.Common.{◌≡◌, ℕ, suc, ◌+◌, Bool, true, false, cond, List, [], ◌∷◌, refl, sym, ◌∙◌, ap, arith, subst, true≢false}
-use Rattle.std.specs.Prelude.{⊤, ◌&&◌, ◌||◌, not}
-use Rattle.std.specs.List.{AllByRecursion, sum_by, list_any, dedup, dedup_from}
+use Rattle.std.specs.Prelude.{⊤}
+use Rattle.std.specs.List.{AllByRecursion, sum_by}
 use Rattle.std.specs.List.Sorted.{IsPermutation, IsSortedBy}
 use Rattle.std.specs.Cmp.{IsStrictWeakOrder}
 use Rattle.std.specs.Ordering.{is_lt, is_eq, ordering_reverse}
@@ -11,9 +11,9 @@ use Rattle.std.specs.declared.cmp.Ordering.TheVariants.{Less, Equal, Greater}
 use Rattle.std.proofs.lemmas.List.Sums.{sum_by-cons}
 use Rattle.std.proofs.lemmas.List.Sorted.{ranks_by, sum_by-IsPermutation}
 use Rattle.qvtr_semantics.specs.declared.datum.Datum.{Datum}
-use Rattle.qvtr_semantics.specs.Data.{same_datum, is_before, is_among, placed, in_order, new_ones, distinct}
+use Rattle.qvtr_semantics.specs.Data.{is_before, placed, in_order}
 use Rattle.ocl_values.specs.Order.{datum_order}
-use Rattle.ocl_values.proofs.OrderLaws.{before_by_order, order_total, ties_where_same, same_decides}
+use Rattle.ocl_values.specs.OrderLaws.{before_by_order, order_total, ties_where_same, same_decides}
 
 pub weak : IsStrictWeakOrder is_before
 weak = subst IsStrictWeakOrder (λ i x y. before_by_order x y i) (ranks_by order_total (λ x. x))

@@ -1,6 +1,6 @@
 -- Reading from left to right gives the Integer that the characters spell.
-use Rattle.std.proofs.Common.{◌≡◌, ℕ, zero, suc, ◌+◌, ◌*◌, ◌<◌, ◌≤◌, Bool, true, false, cond, List, [], ◌∷◌, length, refl, sym, ◌∙◌, ap, subst, arith, Option, None, Some, ◌⊎◌, inl, inr}
-use Rattle.std.specs.Prelude.{◌-◌, min, ◌==◌, ◌&&◌, nat_lt, nat_le, ℤ, pos, negsuc, neg_ℤ, ◌-ℤ◌, ◌+ℤ◌, FitsSigned, SomeIff}
+use Rattle.std.proofs.Common.{◌≡◌, ℕ, zero, suc, ◌+◌, ◌*◌, ◌<◌, Bool, true, false, cond, List, [], ◌∷◌, length, refl, sym, ◌∙◌, ap, arith, Option, None, Some, ◌⊎◌, inl, inr}
+use Rattle.std.specs.Prelude.{◌-◌, min, ◌==◌, ◌&&◌, ℤ, pos, negsuc, neg_ℤ, ◌-ℤ◌, ◌+ℤ◌, FitsSigned, SomeIff}
 use Rattle.std.specs.Int.{w64}
 use Rattle.std.specs.List.{fold, list_all}
 use Rattle.std.specs.Option.{option_map}
@@ -12,10 +12,9 @@ use Rattle.qvtr_semantics.specs.declared.out.Out.{Out}
 use Rattle.qvtr_semantics.specs.declared.out.Out.TheVariants as outs
 use Rattle.qvtr_semantics.specs.Outs.{given}
 use Rattle.qvtr_semantics.specs.Integers.{integer}
-use Rattle.qvtr_semantics.specs.Strings.{is_digit, number_onto, spelled_number, spelled_integer, to_integer}
-use Rattle.ocl_values.specs.declared.spelling.Spelling.{Spelling}
+use Rattle.qvtr_semantics.specs.Strings.{is_digit, number_onto, spelled_number, to_integer}
 use Rattle.ocl_values.specs.declared.spelling.Spelling.TheVariants.{Start, Sign, Digits, Other}
-use Rattle.ocl_values.specs.Spellings.{digit_of, capped, further, spelled_on, signed, spelled_out}
+use Rattle.ocl_values.specs.Spellings.{capped, further, spelled_on, signed, spelled_out}
 use Rattle.ocl_values.proofs.IntegerLaws.{checked_integer, unfit}
 
 -- ---- numbers that are kept up to a greatest one

@@ -1,11 +1,11 @@
 -- The characters of words and numbers, and the length of two texts together.
-use Rattle.std.proofs.Common.{◌≡◌, ℕ, ◌+◌, ◌<◌, ◌≤◌, List, [], ◌∷◌, ◌++◌, codes, length, refl, sym, ◌∙◌, ap, arith, length-append, Bool, true, false}
-use Rattle.std.specs.Prelude.{ℤ, nat_le, ◌-◌, FitsSigned}
+use Rattle.std.proofs.Common.{◌≡◌, ℕ, ◌<◌, ◌≤◌, List, ◌++◌, codes, length, refl, arith, length-append, Bool, true, false}
+use Rattle.std.specs.Prelude.{ℤ, nat_le, ◌-◌, ◌&&◌, encode_utf8_all, FitsSigned}
 use Rattle.std.specs.Int.{w64}
 use Rattle.std.specs.Fmt.{signed_decimal}
 use Rattle.std.specs.Str.{chars}
-use Rattle.std.proofs.lemmas.Bool.{le-leb, lt-leb, leb-true, leb-false}
-use Rattle.std.proofs.lemmas.Str.{chars-IsAscii}
+use Rattle.std.proofs.lemmas.Bool.{le-leb, lt-leb, leb-true, leb-false, and_parts}
+use Rattle.std.proofs.lemmas.Str.{chars-IsAscii, length-le-encodes}
 use Rattle.std.proofs.lemmas.Fmt.{IsAscii-signed}
 
 pub true_characters : chars (codes "true") ≡ codes "true"
@@ -19,12 +19,19 @@ false_characters = refl
 pub signed_characters : (z : ℤ) → FitsSigned w64 z → chars (signed_decimal z) ≡ signed_decimal z
 signed_characters z f = chars-IsAscii (signed_decimal z) (IsAscii-signed z f.sfits)
 
-together_by : (s t : List ℕ) (m : ℕ) (b : Bool) → nat_le (length t) (m - length s) ≡ b → length s ≤ m → nat_le (length (s ++ t)) m ≡ b
+together_by : {X : Type 0} (s t : List X) (m : ℕ) (b : Bool) → nat_le (length t) (m - length s) ≡ b → length s ≤ m → nat_le (length (s ++ t)) m ≡ b
 together_by s t m true e h = le-leb (length (s ++ t)) m (omega (arith, length-append s t, leb-true (length t) (m - length s) e, h))
 together_by s t m false e h = lt-leb (length (s ++ t)) m (omega (arith, length-append s t, leb-false (length t) (m - length s) e, h))
 
-pub together : (s t : List ℕ) (m : ℕ) → length s ≤ m → nat_le (length (s ++ t)) m ≡ nat_le (length t) (m - length s)
+pub together : {X : Type 0} (s t : List X) (m : ℕ) → length s ≤ m → nat_le (length (s ++ t)) m ≡ nat_le (length t) (m - length s)
 together s t m h = together_by s t m (nat_le (length t) (m - length s)) refl h
 
-pub first_alone : (s t : List ℕ) (m : ℕ) → m < length s → nat_le (length (s ++ t)) m ≡ false
+pub first_alone : {X : Type 0} (s t : List X) (m : ℕ) → m < length s → nat_le (length (s ++ t)) m ≡ false
 first_alone s t m h = lt-leb (length (s ++ t)) m (omega (arith, length-append s t, h))
+
+-- characters take a byte or more
+pub short_together : (s t : List ℕ) (m : ℕ) → (nat_le (length (encode_utf8_all s)) m && nat_le (length (encode_utf8_all t)) (m - length (encode_utf8_all s))) ≡ true → nat_le (length (s ++ t)) m ≡ true
+short_together s t m h =
+    let both = and_parts (nat_le (length (encode_utf8_all s)) m) (nat_le (length (encode_utf8_all t)) (m - length (encode_utf8_all s))) h in
+    le-leb (length (s ++ t)) m
+    (omega (arith, length-append s t, length-le-encodes s, length-le-encodes t, leb-true (length (encode_utf8_all s)) m both.0, leb-true (length (encode_utf8_all t)) (m - length (encode_utf8_all s)) both.1))

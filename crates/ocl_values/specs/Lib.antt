@@ -1,3 +1,9 @@
+pub mod Counted
+pub mod Lending
+pub mod Operations
 pub mod Order
+pub mod OrderLaws
+pub mod OutOrderLaws
+pub mod Progress
 pub mod Results
 pub mod Spellings

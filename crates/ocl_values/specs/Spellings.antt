@@ -1,5 +1,5 @@
 -- An Integer read from left to right.
-use Rattle.std.specs.Prelude.{ℕ, ◌+◌, ◌-◌, ◌*◌, min, Bool, true, false, ◌==◌, ℤ, pos, neg_ℤ, List, Option, None, Some, if◌then◌else◌}
+use Rattle.std.specs.Prelude.{ℕ, ◌+◌, ◌-◌, ◌*◌, min, Bool, true, false, ◌==◌, ℤ, pos, neg_ℤ, Option, None, Some, if◌then◌else◌}
 use Rattle.qvtr_semantics.specs.declared.out.Out.{Out}
 use Rattle.qvtr_semantics.specs.declared.out.Out.TheVariants as outs
 use Rattle.qvtr_semantics.specs.Integers.{integer}

@@ -1,8 +1,7 @@
 ghost use Rattle.std.specs.Prelude.{◌≡◌};
-ghost use Rattle.std.specs.List.{list_all};
 ghost use Rattle.std.specs.Cmp.Lexicographic.{pointwise};
 ghost use Rattle.qvtr_semantics.specs.Data.{same_datum};
-ghost use Rattle.qvtr_semantics.specs.Equality.{same_kind, equal, unequal, is_defined, is_known_true, all_differ};
+ghost use Rattle.qvtr_semantics.specs.Equality.{same_kind, equal, unequal, is_defined};
 
 use crate::booleans::negation;
 use crate::datum::same_datum;
@@ -71,36 +70,4 @@ pub fn is_defined(x: &Out) -> bool
         Out::Null => false,
         Out::Invalid => false,
     }
-}
-
-fn is_known_true(p: Option<bool>) -> bool
-    ensures { result ≡ is_known_true p }
-{
-    match p {
-        Some(b) => b,
-        None => false,
-    }
-}
-
-fn differs_from_all(x: &Out, others: &[Out]) -> bool
-    ensures { result ≡ list_all (λ y. is_known_true (unequal x.now y)) others.now }
-{
-    for y in others {
-        if !is_known_true(unequal(x, y)) {
-            return false;
-        }
-    }
-    true
-}
-
-/// Whether no two of the list are equal, and none is invalid beside another.
-pub fn all_differ(outs: &[Out]) -> bool
-    ensures { result ≡ all_differ outs.now }
-{
-    for number in 0..outs.len() {
-        if !differs_from_all(&outs[number], &outs[number + 1..]) {
-            return false;
-        }
-    }
-    true
 }

@@ -1,31 +1,52 @@
-//! Operations on the values of expressions (OCL 2.4, chapter 11): on single data, Integers, Strings and Booleans. Each function gives
-//! what its definition in `qvtr_semantics` says.
+//! Operations on the values of expressions (OCL 2.4, chapter 11): on single data, Integers, Strings, Booleans and collections, and what
+//! an iterator gives of the values of its body. Each function gives what its definition in `qvtr_semantics` says; an operation on a
+//! collection is `on_collection`, an iterator a `Progress` that is `advanced` by each value of the body.
+//!
+//! Costs: a function takes the time of the values that it is given, and where a repeat or an order matters (Sets, Bags, OrderedSets,
+//! `includesAll`, `excludesAll`, `isUnique`) that times the logarithm of their number. A result of more elements or characters than
+//! `MAX_RESULT` is invalid. `concatenated` takes the second text alone, unless the two have more bytes together than `MAX_RESULT`: then
+//! it counts the first one's characters too.
 #![tactic(auto)]
 
+pub mod boolean_laws;
 mod booleans;
 pub mod collection_laws;
 pub mod collections;
+pub mod comparing;
 mod datum;
 mod equality;
 mod integers;
+pub mod kinds;
+mod met;
+mod met_outs;
 mod models;
+mod operations;
 mod order;
 mod ordering;
+mod out_order;
 mod outs;
+mod progress;
+mod ranked;
+mod ranked_out;
+mod running;
 mod spelling;
 mod strings;
 
 pub use booleans::{and, implies, negation, or, xor};
 pub use datum::{duplicate_data, duplicate_datum, duplicate_out, same_datum, same_value};
-pub use equality::{all_differ, equal, is_defined, same_kind, unequal};
+pub use equality::{equal, is_defined, same_kind, unequal};
 pub use integers::{
     absolute, integer, maximum, minimum, minus, negated, plus, quotient, remainder, sum, times,
 };
+pub use kinds::literal;
 pub use models::Models;
+pub use operations::on_collection;
 pub use order::{before, datum_order};
 pub use ordering::{in_order, set_in_order};
 pub use outs::{
     boolean, boolean_of, collection_of, datum_of, integer_of, integer_of_datum, string_of, truth,
 };
+pub use progress::{Progress, iterator_result};
+pub use running::Running;
 pub use spelling::to_integer;
 pub use strings::{boolean_text, concatenated, integer_text, size, string, substring};

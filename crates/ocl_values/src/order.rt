@@ -42,7 +42,7 @@ pub fn datum_order(d: &Datum, e: &Datum) -> Ordering
 }
 
 /// Whether a datum stands before another in the order of values: objects first, then Strings, Integers, Booleans and literals.
-#[tactic(auto, using(crate::proofs::OrderLaws::before_by_order))]
+#[tactic(auto, using(crate::specs::OrderLaws::before_by_order))]
 pub fn before(d: &Datum, e: &Datum) -> bool
     ensures { result ≡ is_before d.now e.now }
 {

@@ -1,4 +1,4 @@
-ghost use Rattle.std.specs.Prelude.{◌≡◌, ◌++◌, nat_le, length, take, drop, ◌-◌, IfOk};
+ghost use Rattle.std.specs.Prelude.{◌≡◌, ◌++◌, nat_le, length, take, drop, ◌-◌, ◌&&◌, encode_utf8_all, IfOk};
 ghost use Rattle.qvtr_semantics.specs.Outs.{string};
 ghost use Rattle.qvtr_semantics.specs.Strings.{size, concatenated, part_between, substring, integer_text, boolean_text};
 
@@ -10,7 +10,7 @@ use std::alloc::Global;
 
 /// How many characters a text has.
 #[tactic(auto, using(std::proofs::lemmas::Str::chars_from_encodes))]
-fn character_count(text: &Text) -> usize
+pub(crate) fn character_count(text: &Text) -> usize
     ensures { result ≡ length text.now }
 {
     text.as_str().chars().count()
@@ -47,11 +47,22 @@ pub fn size(text: &Text) -> Out
     }
 }
 
-// whether the two together are no longer than a result may be
-#[tactic(auto, using(crate::proofs::StringLaws::together, crate::proofs::StringLaws::first_alone))]
+// whether the two together are no longer than a result may be, by their bytes
+fn fit_in_bytes(first: &Text, second: &Text) -> bool
+    ensures { result ≡ (nat_le (length (encode_utf8_all first.now)) MAX_RESULT && nat_le (length (encode_utf8_all second.now)) (MAX_RESULT - length (encode_utf8_all first.now))) }
+{
+    let bytes = first.as_str().len();
+    bytes <= MAX_RESULT && second.as_str().len() <= MAX_RESULT - bytes
+}
+
+// whether the two together are no longer than a result may be. A character takes a byte or more, so that short texts aren't counted
+#[tactic(auto, using(crate::proofs::StringLaws::together, crate::proofs::StringLaws::first_alone, crate::proofs::StringLaws::short_together))]
 fn fit_together(first: &Text, second: &Text) -> bool
     ensures { result ≡ nat_le (length (first.now ++ second.now)) MAX_RESULT }
 {
+    if fit_in_bytes(first, second) {
+        return true;
+    }
     let count = character_count(first);
     if count <= MAX_RESULT {
         has_at_most(second, MAX_RESULT - count)

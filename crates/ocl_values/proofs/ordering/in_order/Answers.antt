@@ -1,9 +1,9 @@
-use Rattle.std.proofs.Common.{◌≡◌, ◌∙◌, sym, ap, subst, rules, IsPermutation}
+use Rattle.std.proofs.Common.{◌≡◌, ◌∙◌, ap, rules}
 use Rattle.std.specs.Ordering.{is_lt}
 use Rattle.std.proofs.lemmas.List.Sorted.{answers_always}
 use Rattle.qvtr_semantics.specs.Data.{is_before, in_order}
 use Rattle.ocl_values.specs.Order.{datum_order}
-use Rattle.ocl_values.proofs.OrderLaws.{before_by_order}
+use Rattle.ocl_values.specs.OrderLaws.{before_by_order}
 use Rattle.ocl_values.proofs.SortLaws.{weak, sorted_is_in_order}
 use Rattle.ocl_values.proofs.ordering.in_order.Goals as goal
 

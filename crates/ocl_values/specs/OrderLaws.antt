@@ -1,10 +1,10 @@
 -- The order of data is total, is that of `is_before`, and ties exactly where two data are the same.
 use Rattle.std.proofs.Common.{◌≡◌, ℕ, Bool, true, false, cond, List, [], refl, sym, ◌∙◌, ap, arith, subst}
-use Rattle.std.specs.Prelude.{◌&&◌, ◌||◌, ◌==◌, nat_eq, nat_lt, int_lt, ℤ, pos, not}
+use Rattle.std.specs.Prelude.{◌&&◌, ◌||◌, ◌==◌, nat_lt, int_lt, ℤ, pos, not}
 use Rattle.std.specs.Bool.{beq}
 use Rattle.std.specs.Ordering.{nat_cmp, int_cmp, bool_cmp, int_eq, ordering_then, ordering_reverse, is_lt, is_eq, on, then_cmp, eq_by_cmp}
-use Rattle.std.specs.Cmp.{IsTotalOrder}
-use Rattle.std.specs.Cmp.Lexicographic.{pointwise, bytes_decides}
+use Rattle.std.specs.Cmp.{IsTotalOrder, IsEquivalence, both_ways}
+use Rattle.std.specs.Cmp.Lexicographic.{bytes_decides}
 use Rattle.std.specs.declared.cmp.Ordering.{Ordering}
 use Rattle.std.specs.declared.cmp.Ordering.TheVariants.{Less, Equal, Greater}
 use Rattle.std.proofs.lemmas.Cmp.{on_total, then_total, nat_cmp_total, int_cmp_total}
@@ -59,7 +59,7 @@ lt_signed false false = refl
 apart : (m n : ℕ) → nat_lt m n ≡ true → (m == n) ≡ false
 apart m n h = ne_eqb m n (λ e. absurd (omega (arith, ltb-true m n h, e)))
 
-ties_then : (m n : ℕ) (o : Ordering) → ((m == n) && is_eq o) ≡ is_eq (ordering_then (nat_cmp m n) o)
+pub ties_then : (m n : ℕ) (o : Ordering) → ((m == n) && is_eq o) ≡ is_eq (ordering_then (nat_cmp m n) o)
 ties_then m n o = eq_in_turn (nat_lt m n) (m == n) o (apart m n)
 
 nat_ties : (m n : ℕ) → (m == n) ≡ is_eq (nat_cmp m n)
@@ -295,3 +295,17 @@ same_equal (Val m v) (Val n w) h = let both = and_parts (m == n) (same_value v w
 
 pub same_decides : (d e : Datum) → (same_datum d e ≡ true → d ≡ e) × (d ≡ e → same_datum d e ≡ true)
 same_decides d e = (same_equal d e, λ h. subst (λ x. same_datum d x ≡ true) h (same_itself d))
+
+swapped : (d e : Datum) → same_datum d e ≡ true → same_datum e d ≡ true
+swapped d e h = (same_decides e d).1 (sym ((same_decides d e).0 h))
+
+pub same_swapped : (d e : Datum) → same_datum d e ≡ same_datum e d
+same_swapped d e = both_ways (same_datum d e) (same_datum e d) (swapped d e) (swapped e d)
+
+-- the same data are the same to others
+pub same_equiv : IsEquivalence same_datum
+same_equiv = record {
+  refl = same_itself;
+  symm = same_swapped;
+  congr = λ d e f h. ap (λ x. same_datum x f) ((same_decides d e).0 h);
+}

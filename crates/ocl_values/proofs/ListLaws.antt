@@ -1,0 +1,34 @@
+-- Lists that are gathered from left to right.
+use Rattle.std.proofs.Common.{◌≡◌, true, false, cond, List, [], ◌∷◌, ◌++◌, refl, sym, ◌∙◌, ap, append-nil}
+use Rattle.std.proofs.lemmas.List.{append_assoc}
+use Rattle.std.specs.Prelude.{Option, None, Some}
+use Rattle.std.specs.Option.{option_map}
+use Rattle.qvtr_semantics.specs.declared.datum.Datum.{Datum}
+use Rattle.qvtr_semantics.specs.Data.{is_among, new_ones}
+
+-- behind those so far stand those that follow, if none of these is missing
+abbrev pub given_behind : {X : Type 0} → List X → Option (List X) → Option (List X)
+given_behind so_far rest = option_map (λ ys. so_far ++ ys) rest
+
+-- one more of them
+pub given_further : {X : Type 0} (so_far : List X) (x : X) (rest : Option (List X)) → given_behind (so_far ++ x ∷ []) rest ≡ given_behind so_far (option_map (λ ys. x ∷ ys) rest)
+given_further so_far x None = refl
+given_further so_far x (Some ys) = ap Some (append_assoc so_far (x ∷ []) ys)
+
+pub given_none : {X : Type 0} (rest : Option (List X)) → given_behind [] rest ≡ rest
+given_none None = refl
+given_none (Some ys) = refl
+
+pub given_all : {X : Type 0} (so_far : List X) → given_behind so_far (Some []) ≡ Some so_far
+given_all so_far = ap Some (append-nil so_far)
+
+-- ---- each datum at its first place
+
+pub new_further : (firsts met ds : List Datum) (d : Datum) → is_among d met ≡ false → (firsts ++ d ∷ []) ++ new_ones (d ∷ met) ds ≡ firsts ++ new_ones met (d ∷ ds)
+new_further firsts met ds d h = append_assoc firsts (d ∷ []) (new_ones (d ∷ met) ds) ∙ ap (λ b. firsts ++ cond b (new_ones met ds) (d ∷ new_ones (d ∷ met) ds)) (sym h)
+
+pub old_further : (firsts met ds : List Datum) (d : Datum) → is_among d met ≡ true → firsts ++ new_ones met ds ≡ firsts ++ new_ones met (d ∷ ds)
+old_further firsts met ds d h = ap (λ b. firsts ++ cond b (new_ones met ds) (d ∷ new_ones (d ∷ met) ds)) (sym h)
+
+pub no_more : (ds : List Datum) → ds ++ [] ≡ ds
+no_more ds = append-nil ds
