@@ -1,3 +1,15 @@
 pub mod Small
 pub mod Examples
 pub mod ReadingExamples
+pub mod Literals
+pub mod ListingLaws
+pub mod Prefixes
+pub mod NameLaws
+pub mod ListedDocuments
+pub mod WritingCalls
+pub mod WritingNames
+pub mod WritingModels
+pub mod WritingSteps
+pub mod WritingParts
+pub mod WritingForms
+pub mod WritingTexts

@@ -14,14 +14,14 @@ Attrs = List (List ℕ × List ℕ)
 abbrev pub has_prefix : List ℕ → List ℕ → Bool
 has_prefix prefix name = begins (prefix ++ 58 ∷ []) name
 
--- what stands behind the first colon
-abbrev pub behind_colon : List ℕ → Option (List ℕ)
-behind_colon [] = None
-behind_colon (c ∷ cs) = if c == 58 then Some cs else behind_colon cs
+-- what stands behind the first of these characters
+abbrev pub behind : ℕ → List ℕ → Option (List ℕ)
+behind mark [] = None
+behind mark (c ∷ cs) = if c == mark then Some cs else behind mark cs
 
--- that, or a name without a colon whole
+-- what stands behind the first colon, or a name without a colon whole
 abbrev pub local_part : List ℕ → List ℕ
-local_part name = unwrap_or (behind_colon name) name
+local_part name = unwrap_or (behind 58 name) name
 
 -- Elements of XMI's namespace
 

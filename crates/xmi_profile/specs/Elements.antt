@@ -13,6 +13,9 @@ use Rattle.mof_metamodel.specs.Metamodels.{class_number, class_at, prop_number, 
 use Rattle.object_tables.specs.Models.{is_class_type}
 use Rattle.xmi_text.specs.Trees.{Nodes, Ends, Run, Element, Tree}
 use Rattle.xmi_profile.specs.declared.fault.Externs.{Externs}
+pub use Rattle.xmi_profile.specs.declared.role.ObjectRole.{ObjectRole}
+pub use Rattle.xmi_profile.specs.declared.role.Role.{Role}
+pub use Rattle.xmi_profile.specs.declared.role.Role.TheVariants.{Document, Skipped, AnObject, AValue, AReference, Neither, Alien, Stranger, Misplaced}
 use Rattle.xmi_profile.specs.Attributes.{Attrs, local_part, is_document_name, is_skipped_name, is_alien_name, written_type}
 use Rattle.xmi_profile.specs.References.{Target, element_target}
 use Rattle.xmi_profile.specs.Profile.{class_name}
@@ -38,30 +41,6 @@ type_class_name meta (Some (types.Class c)) = class_name meta c.0
 type_class_name meta type = []
 
 -- What an element is
-
--- an object: its number, the name of its class and the class, if one has the name and isn't abstract, and the object that contains
--- it with the property
-pub record ObjectRole : Type 0 where
-  pub number : ℕ
-  pub named : List ℕ
-  pub class : Option ℕ
-  pub within : Option (ℕ × ℕ)
-
-pub data Role : Type 0 where
-  -- the document, which has top objects
-  Document : Role
-  Skipped : Role
-  AnObject : (object : ObjectRole) → Role
-  -- of an object, at a property: a value, a reference, or neither a reference nor a contained object
-  AValue : (object property : ℕ) → Role
-  AReference : (object property : ℕ) (target : Target) → Role
-  Neither : (object property : ℕ) → Role
-  -- of XMI's namespace, and not of the profile
-  Alien : Role
-  -- in an object, of which it names no property
-  Stranger : (object : ℕ) → Role
-  -- in the element of a value or of a reference
-  Misplaced : (object property : ℕ) → Role
 
 abbrev pub object_role : MetaDesc → ℕ → List ℕ → Option (ℕ × ℕ) → Role
 object_role meta number named within = AnObject (record { number = number; named = named; class = concrete_class meta named; within = within })

@@ -12,3 +12,7 @@ pub mod Judged
 pub mod Faults
 pub mod Content
 pub mod FirstFault
+pub mod Scanning
+pub mod Listing
+pub mod Bytes
+pub mod Writable

@@ -5,15 +5,9 @@ use Rattle.std.specs.Option.{option_map}
 use Rattle.mof_metamodel.specs.Characters.{is_blank, same_name}
 use Rattle.xmi_profile.specs.declared.fault.Externs.{Externs}
 use Rattle.xmi_profile.specs.declared.fault.Externs.TheVariants as externs
+pub use Rattle.xmi_profile.specs.declared.target.Target.{Target}
+pub use Rattle.xmi_profile.specs.declared.target.Target.TheVariants.{Named, Extern, Contained, Nowhere}
 use Rattle.xmi_profile.specs.Attributes.{Attrs, value_where, is_idref_name, is_href_name, written_id}
-
--- what is named: an identifier; a primitive type outside the file, which is added where the file has no such identifier; the object
--- of this number, which is written in place; or nothing, by this text
-pub data Target : Type 0 where
-  Named : (id : List ℕ) → Target
-  Extern : (name : List ℕ) → Target
-  Contained : (object : ℕ) → Target
-  Nowhere : (text : List ℕ) → Target
 
 -- how a target is printed, given the identifiers of the objects
 abbrev pub target_text : (ℕ → List ℕ) → Target → List ℕ
