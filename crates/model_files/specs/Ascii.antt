@@ -1,0 +1,6 @@
+-- Texts of ASCII characters, whose bytes are their characters.
+use Rattle.std.specs.Prelude.{ℕ, Bool, List, nat_lt}
+use Rattle.std.specs.List.{list_all}
+
+abbrev pub is_ascii : List ℕ → Bool
+is_ascii text = list_all (λ b. nat_lt b 128) text
