@@ -1,0 +1,11 @@
+pub mod StandLaws
+pub mod LoopLaws
+pub mod NextLaws
+pub mod PastLaws
+pub mod TemplateLaws
+pub mod AnswerLaws
+pub mod FoundLaws
+pub mod ListLaws
+pub mod TemplateFound
+pub mod Found
+pub mod AnswerFound

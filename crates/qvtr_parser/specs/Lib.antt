@@ -1,0 +1,4 @@
+pub mod Lists
+pub mod ScriptReadings
+pub mod Answers
+pub mod Grammar
