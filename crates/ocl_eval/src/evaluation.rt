@@ -141,11 +141,11 @@ fn eval_calls(
     ensures value { IfOk result (λ out. out ≡ all_called scope.old x (map (postfix_of world.now) calls.now)) }
     ensures scope { OnOk result (scope.new ≡ scope.old) }
 {
-    let mut reached = x;
+    let mut reached = Running::new(x);
     for call in calls {
         reached = eval_call(world, scope, reached, &call.call)?;
     }
-    Ok(reached)
+    Ok(reached.into_out())
 }
 
 /// What the values of the body, one for each element, come to so far.
@@ -219,13 +219,24 @@ fn eval_collection(
 /// What is called on a value.
 #[cycle(evaluation)]
 #[tactic(auto, using(crate::proofs::FormLaws::property_is, crate::proofs::FormLaws::collect_property_is, crate::proofs::FormLaws::operation_is, crate::proofs::FormLaws::class_is, crate::proofs::FormLaws::collection_is, crate::proofs::FormLaws::iterator_is))]
-fn eval_call(world: &World<'_, '_>, scope: &mut Scope, x: Out, call: &Call) -> Result<Out, NoMemory>
+fn eval_call(
+    world: &World<'_, '_>,
+    scope: &mut Scope,
+    x: Running,
+    call: &Call,
+) -> Result<Running, NoMemory>
     ensures value { IfOk result (λ out. out ≡ call_of world.now call.now scope.old x) }
     ensures scope { OnOk result (scope.new ≡ scope.old) }
 {
     match call {
-        Call::Property { prop, values } => property_of(world, *prop, *values, &x),
-        Call::CollectProperty { prop, values } => collect_property(world, *prop, *values, x),
+        Call::Property { prop, values } => {
+            let out = property_of(world, *prop, *values, &x.into_out())?;
+            Ok(Running::new(out))
+        }
+        Call::CollectProperty { prop, values } => {
+            let out = collect_property(world, *prop, *values, x.into_out())?;
+            Ok(Running::new(out))
+        }
         Call::Operation {
             operation: named,
             args,
@@ -233,19 +244,24 @@ fn eval_call(world: &World<'_, '_>, scope: &mut Scope, x: Out, call: &Call) -> R
             let args = eval_all(world, scope, args.as_slice())?;
             operation(world.alloc, *named, x, args.as_slice())
         }
-        Call::Class { operation, class } => Ok(class_operation(world, *operation, *class, x)),
-        Call::Collection { operation, args } => eval_collection(
+        Call::Class { operation, class } => Ok(Running::new(class_operation(
             world,
-            scope,
-            x,
             *operation,
-            args.as_slice(),
-        ),
+            *class,
+            x.into_out(),
+        ))),
+        Call::Collection { operation, args } => {
+            let out = eval_collection(world, scope, x.into_out(), *operation, args.as_slice())?;
+            Ok(Running::new(out))
+        }
         Call::Iterator {
             iterator,
             variable,
             body,
-        } => eval_iterator(world, scope, x, *iterator, *variable, body.get()),
+        } => {
+            let out = eval_iterator(world, scope, x.into_out(), *iterator, *variable, body.get())?;
+            Ok(Running::new(out))
+        }
     }
 }
 

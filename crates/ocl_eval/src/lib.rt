@@ -1,6 +1,6 @@
 //! The values of expressions (OCL 2.4, chapter 11): `eval` gives what `qvtr_semantics` says an expression is, by recursion on
 //! its tree and on the calls of queries. An evaluation takes time linear in what it looks at, with a logarithm for Sets and
-//! Bags, and a stack as deep as the tree and the calls of queries within one another.
+//! Bags, and a stack as deep as the tree and the calls of queries within one another. A chain of `+` or `concat` looks at each part once.
 #![tactic(auto)]
 
 mod classes;

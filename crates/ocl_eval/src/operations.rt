@@ -1,15 +1,15 @@
-ghost use Rattle.std.specs.Prelude.{◌≡◌, ℕ, List, IfOk};
+ghost use Rattle.std.specs.Prelude.{◌≡◌, ◌≢◌, ℕ, List, IfOk};
+ghost use Rattle.qv_syntax.specs.declared.operation.Operation.TheVariants.{Concatenate};
 ghost use Rattle.std.specs.Option.{option_map};
 ghost use Rattle.qvtr_semantics.specs.Outs.{integer_of, string_of, boolean_of, given};
 ghost use Rattle.qvtr_semantics.specs.Integers as integers;
 ghost use Rattle.qvtr_semantics.specs.Strings as strings;
 ghost use Rattle.qvtr_semantics.specs.Expressions.{argument, on_integers, on_strings, operation, is_undefined, is_invalid, singleton, substring, to_string, result as result_of};
 
-use crate::operators::concatenation;
 use mof_metamodel::{NoMemory, Seq};
 use ocl_values::{
-    absolute, boolean, boolean_of, boolean_text, integer_of, integer_text, maximum, minimum,
-    quotient, remainder, size, string_of, substring as part_of, to_integer,
+    Running, absolute, boolean, boolean_of, boolean_text, integer_of, integer_text, maximum,
+    minimum, quotient, remainder, size, string_of, substring as part_of, to_integer,
 };
 use qv_syntax::{Kind, Operation};
 use qvtr_semantics::Out;
@@ -121,12 +121,12 @@ fn integer_in(x: &Out) -> Out
 }
 
 /// `x.concat(s)`
-fn concatenated(x: Out, args: &[Out]) -> Result<Out, NoMemory>
+fn concatenated(x: Running, args: &[Out]) -> Result<Running, NoMemory>
     ensures { IfOk result (λ out. out ≡ result_of (on_strings strings.concatenated x (argument args.now 0))) }
 {
     match args.get(0) {
-        Some(second) => concatenation(x, second),
-        None => Ok(Out::Invalid),
+        Some(second) => x.concatenated(second),
+        None => Ok(Running::new(Out::Invalid)),
     }
 }
 
@@ -186,13 +186,9 @@ fn singleton(alloc: Global, x: Out) -> Result<Out, NoMemory>
     }
 }
 
-/// An operation on a single value (OCL 2.4, sections 11.3.1 and 11.5).
-pub(crate) fn operation(
-    alloc: Global,
-    named: Operation,
-    x: Out,
-    args: &[Out],
-) -> Result<Out, NoMemory>
+/// An operation other than `concat` on a single value (OCL 2.4, sections 11.3.1 and 11.5).
+fn uncounted(alloc: Global, named: Operation, x: Out, args: &[Out]) -> Result<Out, NoMemory>
+    requires { named ≢ Concatenate }
     ensures { IfOk result (λ out. out ≡ operation named x args.now) }
 {
     match named {
@@ -203,11 +199,26 @@ pub(crate) fn operation(
         Operation::Minimum => Ok(lesser(&x, args)),
         Operation::ToString => to_string(alloc, &x),
         Operation::Length => Ok(length(&x)),
-        Operation::Concatenate => concatenated(x, args),
+        Operation::Concatenate => unreachable!(),
         Operation::ToInteger => Ok(integer_in(&x)),
         Operation::Substring => substring(alloc, &x, args),
         Operation::IsUndefined => Ok(is_undefined(&x)),
         Operation::IsInvalid => Ok(is_invalid(&x)),
         Operation::AsSingletonSet => singleton(alloc, x),
+    }
+}
+
+/// An operation on a single value. A chain of `concat` counts the characters of each part once.
+pub(crate) fn operation(
+    alloc: Global,
+    named: Operation,
+    x: Running,
+    args: &[Out],
+) -> Result<Running, NoMemory>
+    ensures { IfOk result (λ out. out ≡ operation named x args.now) }
+{
+    match named {
+        Operation::Concatenate => concatenated(x, args),
+        other => Ok(Running::new(uncounted(alloc, other, x.into_out(), args)?)),
     }
 }

@@ -1,18 +1,15 @@
 ghost use Rattle.std.specs.Prelude.{◌≡◌, ◌≢◌, int_lt, int_le, IfOk};
 ghost use Rattle.qv_syntax.specs.declared.operator.Operator.TheVariants.{Plus};
-ghost use Rattle.qvtr_semantics.specs.Outs.{string_of};
 ghost use Rattle.qvtr_semantics.specs.Integers as integers;
-ghost use Rattle.qvtr_semantics.specs.Strings as strings;
-ghost use Rattle.qvtr_semantics.specs.Expressions.{on_integers, on_strings, operated, negation, negated, result as result_of};
+ghost use Rattle.qvtr_semantics.specs.Expressions.{on_integers, operated, negation, negated, result as result_of};
 
-use mof_metamodel::{NoMemory, Text};
-use object_tables::Value;
+use mof_metamodel::NoMemory;
 use ocl_values::{
-    Running, and, boolean_of, concatenated, equal, implies, integer_of, minus, negated as opposite,
-    negation as not, or, string_of, times, truth, unequal, xor,
+    Running, and, boolean_of, equal, implies, integer_of, minus, negated as opposite,
+    negation as not, or, times, truth, unequal, xor,
 };
 use qv_syntax::Operator;
-use qvtr_semantics::{Datum, Out};
+use qvtr_semantics::Out;
 
 /// `x < y`, of Integers.
 fn less(x: &Out, y: &Out) -> Option<bool>
@@ -89,29 +86,6 @@ fn product(x: &Out, y: &Out) -> Out
             None => Out::Invalid,
         },
         None => Out::Invalid,
-    }
-}
-
-/// The text, if the value is a String.
-fn text_in(x: Out) -> Option<Text>
-    ensures { result ≡ string_of x }
-{
-    match x {
-        Out::One(Datum::Val(_, Value::Str(text))) => Some(text),
-        _ => None,
-    }
-}
-
-/// One String behind another. The first grows in place.
-pub(crate) fn concatenation(x: Out, y: &Out) -> Result<Out, NoMemory>
-    ensures { IfOk result (λ out. out ≡ result_of (on_strings strings.concatenated x y.now)) }
-{
-    match text_in(x) {
-        Some(first) => match string_of(y) {
-            Some(second) => concatenated(first, second),
-            None => Ok(Out::Invalid),
-        },
-        None => Ok(Out::Invalid),
     }
 }
 

@@ -28,10 +28,3 @@ together s t m h = together_by s t m (nat_le (length t) (m - length s)) refl h
 
 pub first_alone : {X : Type 0} (s t : List X) (m : ℕ) → m < length s → nat_le (length (s ++ t)) m ≡ false
 first_alone s t m h = lt-leb (length (s ++ t)) m (omega (arith, length-append s t, h))
-
--- characters take a byte or more
-pub short_together : (s t : List ℕ) (m : ℕ) → (nat_le (length (encode_utf8_all s)) m && nat_le (length (encode_utf8_all t)) (m - length (encode_utf8_all s))) ≡ true → nat_le (length (s ++ t)) m ≡ true
-short_together s t m h =
-    let both = and_parts (nat_le (length (encode_utf8_all s)) m) (nat_le (length (encode_utf8_all t)) (m - length (encode_utf8_all s))) h in
-    le-leb (length (s ++ t)) m
-    (omega (arith, length-append s t, length-le-encodes s, length-le-encodes t, leb-true (length (encode_utf8_all s)) m both.0, leb-true (length (encode_utf8_all t)) (m - length (encode_utf8_all s)) both.1))

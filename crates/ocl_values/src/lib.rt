@@ -4,8 +4,7 @@
 //!
 //! Costs: a function takes the time of the values that it is given, and where a repeat or an order matters (Sets, Bags, OrderedSets,
 //! `includesAll`, `excludesAll`, `isUnique`) that times the logarithm of their number. A result of more elements or characters than
-//! `MAX_RESULT` is invalid. `concatenated` takes the second text alone, unless the two have more bytes together than `MAX_RESULT`: then
-//! it counts the first one's characters too.
+//! `MAX_RESULT` is invalid. A chain of `+` or `concat`, which is a `Running`, takes the time of its parts.
 #![tactic(auto)]
 
 pub mod boolean_laws;
@@ -49,4 +48,4 @@ pub use outs::{
 pub use progress::{Progress, iterator_result};
 pub use running::Running;
 pub use spelling::to_integer;
-pub use strings::{boolean_text, concatenated, integer_text, size, string, substring};
+pub use strings::{boolean_text, integer_text, size, string, substring};

@@ -1,7 +1,7 @@
 ghost use Rattle.std.specs.Prelude.{◌≡◌, length, IfOk};
 ghost use Rattle.qvtr_semantics.specs.Outs.{string_of, and_then, value_of_datum, string_in};
 ghost use Rattle.qvtr_semantics.specs.Strings.{concatenated};
-ghost use Rattle.qvtr_semantics.specs.Expressions.{added};
+ghost use Rattle.qvtr_semantics.specs.Expressions.{added, on_strings, result as result_of};
 ghost use Rattle.ocl_values.specs.Counted.{IsCounted};
 
 use crate::integers::plus;
@@ -11,8 +11,8 @@ use mof_metamodel::{MAX_RESULT, NoMemory, Text};
 use object_tables::Value;
 use qvtr_semantics::{Datum, Out};
 
-/// A value to which `+` may add more. It knows how many characters it has, if it is a String, so that a chain of `+` counts none twice.
-/// Contracts see it as the value.
+/// A value to which `+` or `concat` may add more. It knows how many characters it has, if it is a String, so that a chain of them counts
+/// none twice. Contracts see it as the value.
 #[derive(Drop)]
 pub struct Running {
     out: Out,
@@ -106,17 +106,24 @@ impl Running {
         out
     }
 
-    /// The value `+` another (OCL 2.4, sections 11.5.2 and 11.5.3). It takes the characters of the other alone.
-    pub fn plus(self, other: &Out) -> Result<Running, NoMemory>
-        ensures { IfOk result (λ sum. sum ≡ added self other.now) }
+    /// The value with another String behind it (OCL 2.4, section 11.5.3). It takes the characters of the other alone.
+    pub fn concatenated(self, other: &Out) -> Result<Running, NoMemory>
+        ensures { IfOk result (λ sum. sum ≡ result_of (on_strings concatenated self other.now)) }
     {
         let Running { out, count } = self;
-        if let (Some(i), Some(j)) = (integer_of(&out), integer_of(other)) {
-            return Ok(Running::new(plus(i, j)));
-        }
         match (into_text(out), string_of(other)) {
             (Some(first), Some(second)) => longer(first, count, second),
             _ => Ok(Running::new(Out::Invalid)),
         }
+    }
+
+    /// The value `+` another (OCL 2.4, sections 11.5.2 and 11.5.3). It takes the characters of the other alone.
+    pub fn plus(self, other: &Out) -> Result<Running, NoMemory>
+        ensures { IfOk result (λ sum. sum ≡ added self other.now) }
+    {
+        if let (Some(i), Some(j)) = (integer_of(&self.out), integer_of(other)) {
+            return Ok(Running::new(plus(i, j)));
+        }
+        self.concatenated(other)
     }
 }

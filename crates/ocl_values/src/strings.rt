@@ -1,6 +1,6 @@
-ghost use Rattle.std.specs.Prelude.{◌≡◌, ◌++◌, nat_le, length, take, drop, ◌-◌, ◌&&◌, encode_utf8_all, IfOk};
+ghost use Rattle.std.specs.Prelude.{◌≡◌, nat_le, length, take, drop, IfOk};
 ghost use Rattle.qvtr_semantics.specs.Outs.{string};
-ghost use Rattle.qvtr_semantics.specs.Strings.{size, concatenated, part_between, substring, integer_text, boolean_text};
+ghost use Rattle.qvtr_semantics.specs.Strings.{size, part_between, substring, integer_text, boolean_text};
 
 use crate::integers::integer;
 use mof_metamodel::{MAX_RESULT, NoMemory, Text};
@@ -45,42 +45,6 @@ pub fn size(text: &Text) -> Out
     } else {
         Out::Invalid
     }
-}
-
-// whether the two together are no longer than a result may be, by their bytes
-fn fit_in_bytes(first: &Text, second: &Text) -> bool
-    ensures { result ≡ (nat_le (length (encode_utf8_all first.now)) MAX_RESULT && nat_le (length (encode_utf8_all second.now)) (MAX_RESULT - length (encode_utf8_all first.now))) }
-{
-    let bytes = first.as_str().len();
-    bytes <= MAX_RESULT && second.as_str().len() <= MAX_RESULT - bytes
-}
-
-// whether the two together are no longer than a result may be. A character takes a byte or more, so that short texts aren't counted
-#[tactic(auto, using(crate::proofs::StringLaws::together, crate::proofs::StringLaws::first_alone, crate::proofs::StringLaws::short_together))]
-fn fit_together(first: &Text, second: &Text) -> bool
-    ensures { result ≡ nat_le (length (first.now ++ second.now)) MAX_RESULT }
-{
-    if fit_in_bytes(first, second) {
-        return true;
-    }
-    let count = character_count(first);
-    if count <= MAX_RESULT {
-        has_at_most(second, MAX_RESULT - count)
-    } else {
-        false
-    }
-}
-
-/// `s.concat(t)` and `s + t`. A result of more than [`MAX_RESULT`] characters is invalid, and is not made.
-pub fn concatenated(first: Text, second: &Text) -> Result<Out, NoMemory>
-    ensures { IfOk result (λ out. out ≡ concatenated first second.now) }
-{
-    if !fit_together(&first, second) {
-        return Ok(Out::Invalid);
-    }
-    let mut joined = first;
-    joined.push_str(second.as_str())?;
-    Ok(Out::One(Datum::Val(0, Value::Str(joined))))
 }
 
 // so many characters, after those that are left out

@@ -1,7 +1,7 @@
-use Rattle.std.proofs.Common.{◌≡◌, refl, sym, arith, Some}
+use Rattle.std.proofs.Common.{◌≡◌, refl, sym, arith, Some, ◌∙◌, ap}
 use Rattle.std.specs.Prelude.{slice_get}
 use Rattle.std.proofs.lemmas.Result.{IfOk-weaker}
-use Rattle.ocl_eval.specs.Worlds.{meaning_of}
+use Rattle.ocl_eval.specs.Worlds.{meaning_of, call_of}
 use Rattle.ocl_eval.proofs.FormLaws.{iterator_is}
 use Rattle.ocl_eval.proofs.Measures.{falls_in}
 use Rattle.ocl_eval.proofs.ScopeLaws.{no_query, query_called, iterator_done}
@@ -26,11 +26,13 @@ pub call_query-returns-in-None : goal.call_query-returns-in-None
 call_query-returns-in-None t c =
     no_query c.args.world.now c.args.query c.args.args (sym c.in-None.ensures)
 
-pub eval_call-returns-in-Iterator-clause-value : goal.eval_call-returns-in-Iterator-clause-value
-eval_call-returns-in-Iterator-clause-value t c =
-    IfOk-weaker c.eval_iterator.result _ _
-    (λ out h. iterator_is c.args.world.now c.args.call.now c.args.scope.now c.args.x out c.in-Iterator.iterator c.in-Iterator.variable c.in-Iterator.body c.get.result.now c.in-Iterator.is c.get.ensures h)
-    c.eval_iterator.ensures.value
+pub eval_call-returns-in_ok-out-in-Iterator-clause-value : goal.eval_call-returns-in_ok-out-in-Iterator-clause-value
+eval_call-returns-in_ok-out-in-Iterator-clause-value t c =
+    let w = c.args.world.now in
+    let scope = c.args.scope.now in
+    c.new-in-Iterator.ensures
+    ∙ iterator_is w c.args.call.now scope c.into_out-in-Iterator.result c.in_ok-out-in-Iterator.out c.in-Iterator.iterator c.in-Iterator.variable c.in-Iterator.body c.get.result.now c.in-Iterator.is c.get.ensures c.in_ok-out-in-Iterator.ensures.value
+    ∙ ap (call_of w c.args.call.now scope) c.into_out-in-Iterator.ensures
 
 pub eval_iterator-returns-in-Many-clause-value : goal.eval_iterator-returns-in-Many-clause-value
 eval_iterator-returns-in-Many-clause-value t c =
