@@ -50,3 +50,8 @@ pub mod LocalPieces
 pub mod Local
 pub mod AnswerLaws
 pub mod ReadingLaws
+pub mod EndingLaws
+pub mod FollowLaws
+pub mod TokenApart
+pub mod ReadingFound
+pub mod ReadingComplete

@@ -1,5 +1,5 @@
 -- What is told of a reading.
-use Rattle.std.proofs.Common.{◌≡◌, ℕ, zero, suc, ◌+◌, ◌-◌, Bool, true, false, List, slice_get, Option, Some, None, Result, Ok, Err, ap, sym, ◌∙◌, refl, subst, arith}
+use Rattle.std.proofs.Common.{◌≡◌, ℕ, zero, suc, ◌+◌, ◌-◌, Bool, true, false, List, slice_get, Some, None, Ok, Err, ap, sym, ◌∙◌, refl, subst, arith}
 use Rattle.std.specs.Prelude.{codes}
 use Rattle.mof_metamodel.specs.declared.span.Span.{Span}
 use Rattle.ql_lex.specs.Lexed.{Lexeme, LexedText}

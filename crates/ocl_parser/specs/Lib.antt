@@ -8,3 +8,4 @@ pub mod Readings
 pub mod Answers
 pub mod Completion
 pub mod Words
+pub mod Followers

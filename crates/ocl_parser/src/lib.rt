@@ -18,6 +18,7 @@ mod operands;
 mod parsing;
 mod parts;
 mod paths;
+mod reading_laws;
 mod reducing;
 mod shifting;
 mod stack;
@@ -30,7 +31,8 @@ pub use completion_laws::{answers_are_exact, open_constructs_end, readings_begin
 pub use error::ParseError;
 pub use expecting::{is_sign_at, is_word_at, read_opening, read_sign, read_word, span_between};
 pub use halt::{Halt, Stop};
-pub use local_laws::{one_tree_between, own_tokens_spell};
+pub use local_laws::{expressions_end, one_tree_between, own_tokens_spell};
 pub use names::{read_name, read_path};
 pub use parsing::{error_of, parse_expr, read_expr};
+pub use reading_laws::types_are_read;
 pub use written_types::read_type;

@@ -1,4 +1,4 @@
-use Rattle.std.proofs.Common.{ℕ, ◌+◌, ◌*◌}
+use Rattle.std.proofs.Common.{◌+◌, ◌*◌}
 use Rattle.ocl_parser.proofs.written_types.+read_type.Given as goal
 
 abbrev pub decreases-read_elements : goal.decreases-read_elements
