@@ -1,5 +1,5 @@
 -- What is told of a reading.
-use Rattle.std.proofs.Common.{◌≡◌, ℕ, Result, Ok, Err, ap, sym, ◌∙◌, refl, subst}
+use Rattle.std.proofs.Common.{◌≡◌, ℕ, Ok, Err, ap, sym, subst}
 use Rattle.ql_lex.specs.Lexed.{LexedText}
 use Rattle.qv_syntax.specs.declared.script.Script.{Script}
 use Rattle.ocl_parser.specs.Readings.{Halts, Read, halted_at}

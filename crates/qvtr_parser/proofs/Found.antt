@@ -1,12 +1,9 @@
 -- What is read of a script is spelled, production by production.
-use Rattle.std.proofs.Common.{◌≡◌, ℕ, zero, suc, ◌+◌, ◌-◌, ◌<◌, Bool, true, false, ◌||◌, ◌&&◌, not, List, [], ◌∷◌, ◌++◌, map, length, Option, Some, None, Ok, Err, ap, sym, ◌∙◌, refl, subst, arith, nat_lt}
+use Rattle.std.proofs.Common.{◌≡◌, ℕ, ◌+◌, ◌-◌, Bool, true, false, ◌&&◌, List, [], ◌∷◌, map, length, Option, Some, None, Ok, Err, refl, subst, arith, nat_lt}
 use Rattle.std.specs.Prelude.{codes, if◌then◌else◌, ◌==◌}
 use Rattle.std.proofs.lemmas.Bool.Decides.{nat_tests}
-use Rattle.std.proofs.lemmas.List.{length-map}
 use Rattle.std.proofs.lemmas.Simd.{map-map}
-use Rattle.mof_metamodel.specs.declared.span.Span.{Span}
 use Rattle.qv_syntax.specs.declared.name.Name.{Name}
-use Rattle.qv_syntax.specs.declared.name.Path.{Path}
 use Rattle.qv_syntax.specs.declared.expr.Expr.{Expr}
 use Rattle.qv_syntax.specs.declared.query.QueryTree.{QueryTree}
 use Rattle.qv_syntax.specs.declared.query.ParamTree.{ParamTree}
@@ -20,19 +17,19 @@ use Rattle.qv_syntax.specs.declared.script.VarsTree.{VarsTree}
 use Rattle.qv_syntax.specs.declared.script.DomainTree.{DomainTree}
 use Rattle.qv_syntax.specs.declared.script.BlockTree.{BlockTree}
 use Rattle.ql_lex.specs.Lexed.{Lexeme}
-use Rattle.ql_lex.specs.Lexemes.{is_sign, is_word, span_at, stands}
+use Rattle.ql_lex.specs.Lexemes.{is_sign, is_word, span_at}
 use Rattle.ql_lex.proofs.TokenLaws.{same_span}
-use Rattle.ocl_parser.specs.Pieces.{Piece, ◌▸◌, sign, word, name, nested, only, each, separated}
-use Rattle.ocl_parser.specs.Grammar.{class_path, type_of, spelled}
-use Rattle.ocl_parser.specs.Readings.{Read, and_then, expr_read, name_read, opening_read, path_read, sign_read, type_read, word_read}
+use Rattle.ocl_parser.specs.Pieces.{Piece, ◌▸◌, sign, word, name, nested, each, separated}
+use Rattle.ocl_parser.specs.Grammar.{spelled}
+use Rattle.ocl_parser.specs.Readings.{and_then, expr_read, name_read, opening_read, path_read, sign_read, type_read, word_read}
 use Rattle.ocl_parser.specs.declared.halt.Stop.TheVariants as stops
 use Rattle.qvtr_parser.proofs.FoundLaws.{expr_found, inverted, name_found, opening_found, path_found, same_ok, sign_found, type_found, word_found}
 use Rattle.ocl_parser.proofs.PieceLaws.{both, inside, token_taken}
-use Rattle.qvtr_parser.specs.Grammar.{expr, param, model, key, query, vars, domain, template, conjuncts, block, clause, relation, relation_body, declaration, script, some_with_commas, some_domains, optional_mark, optional_word}
+use Rattle.qvtr_parser.specs.Grammar.{expr, param, model, key, query, vars, domain, conjuncts, block, clause, relation, relation_body, declaration, script, some_with_commas, some_domains, optional_mark, optional_word}
 use Rattle.qvtr_parser.specs.declared.relations.Body.{Body}
 use Rattle.qvtr_parser.specs.Lists.{any_read, each_read, left, some_read}
-use Rattle.qvtr_parser.specs.ScriptReadings.{all_vars_read, begins_declaration, begins_domain, behind_if, block_read, body_read, clause_read, conjunct_read, conjuncts_from, conjuncts_read, declaration_read, declarations_read, domain_read, domains_read, goes_on, is_marked, is_name_at, is_sign_at, is_word_at, key_read, mark_at, model_read, models_read, names_read, param_read, params_read, pattern_read, primitive_read, props_read, query_body_read, query_read, relation_of, relation_read, script_read, template_read, vars_read}
-use Rattle.qvtr_parser.proofs.ListLaws.{any_found, commas_found, each_found, some_found}
+use Rattle.qvtr_parser.specs.ScriptReadings.{all_vars_read, begins_declaration, begins_domain, behind_if, block_read, body_read, clause_read, conjunct_read, conjuncts_from, conjuncts_read, declaration_read, declarations_read, domain_read, domains_read, goes_on, is_marked, is_name_at, is_sign_at, is_word_at, key_read, mark_at, model_read, models_read, names_read, param_read, params_read, pattern_read, primitive_read, props_read, query_body_read, query_read, relation_read, script_read, template_read, vars_read}
+use Rattle.qvtr_parser.proofs.ListLaws.{any_found, commas_found, each_found}
 use Rattle.qvtr_parser.proofs.TemplateFound.{template_found}
 
 -- ---- names, parameters, models and keys

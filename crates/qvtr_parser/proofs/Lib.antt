@@ -9,3 +9,14 @@ pub mod ListLaws
 pub mod TemplateFound
 pub mod Found
 pub mod AnswerFound
+pub mod ApartLaws
+pub mod CompleteLists
+pub mod CompleteTemplates
+pub mod Complete
+pub mod CompleteScripts
+pub mod AnswerComplete
+pub mod Told
+pub mod ToldLists
+pub mod ToldTypes
+pub mod ToldScripts
+pub mod Refused

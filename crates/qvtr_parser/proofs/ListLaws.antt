@@ -1,12 +1,12 @@
 -- Values that are read one behind the other.
-use Rattle.std.proofs.Common.{◌≡◌, ℕ, zero, suc, ◌+◌, ◌-◌, ◌<◌, Bool, true, false, List, [], ◌∷◌, ◌++◌, map, length, Some, Result, Ok, Err, ap, sym, ◌∙◌, refl, subst, arith, nat_lt}
+use Rattle.std.proofs.Common.{◌≡◌, ℕ, zero, suc, ◌+◌, ◌<◌, Bool, true, false, List, [], ◌∷◌, ◌++◌, map, length, Some, Ok, sym, ◌∙◌, refl, subst, arith, nat_lt}
 use Rattle.std.specs.Prelude.{codes, if◌then◌else◌}
 use Rattle.std.proofs.lemmas.Bool.Decides.{nat_tests}
 use Rattle.std.proofs.lemmas.List.{append-nil, append_assoc, length-map}
 use Rattle.std.proofs.lemmas.Simd.{map-map}
 use Rattle.ql_lex.specs.Lexed.{Lexeme}
 use Rattle.ql_lex.specs.Lexemes.{is_sign, stands}
-use Rattle.ocl_parser.specs.Pieces.{Piece, ◌▸◌, sign, only, each, separated}
+use Rattle.ocl_parser.specs.Pieces.{Piece, ◌▸◌, sign, each, separated}
 use Rattle.ocl_parser.specs.Readings.{Read, and_then}
 use Rattle.qvtr_parser.proofs.FoundLaws.{inverted, same_ok}
 use Rattle.ocl_parser.proofs.PieceLaws.{both, each_none, token_taken}

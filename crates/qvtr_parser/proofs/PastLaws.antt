@@ -1,5 +1,5 @@
 -- Behind the last token no expression is read.
-use Rattle.std.proofs.Common.{◌≡◌, ℕ, ◌<◌, ◌≤◌, List, [], drop, length, Err, ap, refl, arith}
+use Rattle.std.proofs.Common.{◌≡◌, ℕ, ◌<◌, ◌≤◌, List, length, Err, ap, refl, arith}
 use Rattle.std.proofs.lemmas.List.{drop_all}
 use Rattle.ql_lex.specs.Lexed.{Lexeme}
 use Rattle.ocl_parser.specs.Moves.{move}

@@ -7,12 +7,12 @@ use Rattle.qv_syntax.specs.declared.name.Name.{Name}
 use Rattle.qv_syntax.specs.declared.name.Path.{Path}
 use Rattle.qv_syntax.specs.declared.script.TemplateTree.{TemplateTree, roll-TemplateTree, fold-roll-TemplateTree}
 use Rattle.qv_syntax.specs.declared.script.ItemTree.{ItemTree, fold-roll-ItemTree}
-use Rattle.qv_syntax.specs.declared.script.ItemValueTree.{ItemValueTree, roll-ItemValueTree, fold-roll-ItemValueTree}
+use Rattle.qv_syntax.specs.declared.script.ItemValueTree.{ItemValueTree, fold-roll-ItemValueTree}
 use Rattle.qv_syntax.specs.declared.script.ItemValueTree.TheOpen as of
 use Rattle.qv_syntax.specs.declared.script.ItemValueTree.TheVariants as values
 use Rattle.qv_syntax.specs.declared.script.ItemValueTree.TheVariants.{rolls-Expr, rolls-Nested}
 use Rattle.ql_lex.specs.Lexed.{Lexeme}
-use Rattle.ql_lex.specs.Lexemes.{is_sign, span_at, stands}
+use Rattle.ql_lex.specs.Lexemes.{span_at}
 use Rattle.ql_lex.proofs.TokenLaws.{same_span}
 use Rattle.ocl_parser.specs.Pieces.{Piece, ◌▸◌, sign, name, nested, spanned, separated}
 use Rattle.ocl_parser.specs.Grammar.{class_path, spelled}
@@ -21,7 +21,6 @@ use Rattle.ocl_parser.specs.declared.halt.Stop.TheVariants as stops
 use Rattle.qvtr_parser.proofs.FoundLaws.{expr_found, inverted, name_found, opening_found, path_found, same_ok, sign_found}
 use Rattle.ocl_parser.proofs.PieceLaws.{inside}
 use Rattle.qvtr_parser.specs.Grammar.{expr, item, item_step, item_value, optional_name, template, template_step, value_step}
-use Rattle.qvtr_parser.specs.Lists.{any_read}
 use Rattle.qvtr_parser.specs.ScriptReadings.{begins_template, is_sign_at, item_by, items_by, nested_read, template_by, template_read, value_read}
 use Rattle.qvtr_parser.proofs.ListLaws.{any_found}
 

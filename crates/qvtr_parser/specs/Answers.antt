@@ -7,6 +7,8 @@ use Rattle.ocl_parser.specs.Readings.{Read}
 use Rattle.ocl_parser.specs.declared.error.ParseError.{ParseError}
 use Rattle.ocl_parser.specs.declared.error.ParseError.TheVariants as errors
 use Rattle.ocl_parser.specs.declared.halt.Stop.TheVariants as stops
+use Rattle.qvtr_parser.specs.Beginnings.{IsRefused, IsTooDeep}
+use Rattle.qvtr_parser.specs.Grammar.{IsScriptWithin}
 
 -- what a reading answers, with the place of the token at which it stops
 abbrev pub result_of : LexedText → Read Script → Result Script ParseError
@@ -22,3 +24,11 @@ IsAnswered expected result = expected ≡ result
 -- the answer of a reading
 abbrev pub Answers : LexedText → Read Script → Result Script ParseError → Type 0
 Answers text read result = IsAnswered (result_of text read) result
+
+-- What is answered is so: the tokens are the script; or they are none, and none begins with those up to and with the token that is told;
+-- or that token opens a level, and none that nests within the levels begins with those up to and with it.
+abbrev pub Tells : LexedText → ℕ → Result Script ParseError → Type 0
+Tells text levels (Ok script) = IsScriptWithin text.lexemes levels script
+Tells text levels (Err (errors.Parse at)) = (k : ℕ) × IsRefused text.lexemes k × (at ≡ place_of text k)
+Tells text levels (Err (errors.Limit at)) = (k : ℕ) × IsTooDeep text.lexemes levels k × (at ≡ place_of text k)
+Tells text levels (Err errors.NoMemory) = Unit {0}

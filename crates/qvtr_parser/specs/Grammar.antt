@@ -1,6 +1,6 @@
 -- The grammar of scripts (QVT 1.3, section 7.13, the concrete syntax): which tokens spell which tree, one clause for each
 -- production. Expressions, types and paths are those of OCL.
-use Rattle.std.specs.Prelude.{◌≡◌, ℕ, ◌+◌, Bool, if◌then◌else◌, nat_lt, List, [], ◌∷◌, map, length, Option, Some, None, codes}
+use Rattle.std.specs.Prelude.{◌≡◌, ℕ, ◌+◌, Bool, if◌then◌else◌, nat_lt, List, [], ◌∷◌, map, length, Option, Some, codes}
 use Rattle.std.specs.Option.{option_map_or}
 use Rattle.mof_metamodel.specs.declared.limits.TheConstants.{MAX_NESTING}
 use Rattle.qv_syntax.specs.declared.name.Name.{Name}

@@ -1,4 +1,5 @@
 pub mod Lists
 pub mod ScriptReadings
-pub mod Answers
 pub mod Grammar
+pub mod Beginnings
+pub mod Answers

@@ -24,7 +24,6 @@ use Rattle.ql_lex.specs.declared.token.TokenKind.TheVariants as kinds
 use Rattle.ql_lex.specs.Lexed.{Lexeme}
 use Rattle.ql_lex.specs.Lexemes.{is_sign, is_word, span_at, stands}
 use Rattle.ocl_parser.specs.Readings.{Read, and_then, expr_read, name_read, opening_read, path_read, sign_read, type_read, word_read}
-use Rattle.ocl_parser.specs.declared.halt.Stop.{Stop}
 use Rattle.ocl_parser.specs.declared.halt.Stop.TheVariants as stops
 use Rattle.qvtr_parser.specs.declared.relations.Body.{Body}
 use Rattle.qvtr_parser.specs.Lists.{any_read, each_read, left, some_read}

@@ -1,6 +1,7 @@
-ghost use Rattle.std.specs.Prelude.{◌≡◌, [], ◌-◌, length, IfOk};
+ghost use Rattle.std.specs.Prelude.{◌≡◌, [], ◌-◌, length, IfOk, Ok};
+ghost use Rattle.qv_syntax.specs.declared.script.Script.{Script as AnyScript};
 ghost use Rattle.ocl_parser.specs.Readings.{Gives};
-ghost use Rattle.qvtr_parser.specs.Answers.{Answers};
+ghost use Rattle.qvtr_parser.specs.Answers.{Answers, IsAnswered, Tells};
 ghost use Rattle.qvtr_parser.specs.Grammar.{IsScript};
 ghost use Rattle.qvtr_parser.specs.Lists.{each_read, left, more_read};
 ghost use Rattle.qvtr_parser.specs.ScriptReadings.{begins_declaration as begins, declaration_read, declarations_read, model_read, models_read, script_read};
@@ -167,13 +168,17 @@ fn answer_of(alloc: Global, tokens: &Tokens<'_>, levels: usize) -> Result<Script
 ///
 /// # Errors
 ///
-/// `Parse` at the start of the token, in bytes, where the production that is being read does not go on, or at the end of the
-/// text; `Limit` at the start of a token that is reached before that and opens a level past `MAX_NESTING`; and `NoMemory`.
+/// `Parse` where no script begins with the tokens up to and with one, at the start of that token, in bytes, or at the end of
+/// the text; `Limit` at the start of a token that is reached before that and opens a level past `MAX_NESTING`; and `NoMemory`.
 pub fn parse_script(alloc: Global, tokens: &Tokens<'_>) -> Result<Script, ParseError>
     // What is answered is what reading the tokens answers, with the place of the token at which it stops.
     ensures reads { Answers tokens.now (script_read tokens.now.lexemes MAX_NESTING) result }
     // What is answered is spelled by all tokens.
     ensures found { IfOk result (λ s. IsScript tokens.now.lexemes s) }
+    // A fault that is answered stands at its token: no script begins with the tokens up to and with it, or none within the levels.
+    ensures tells { Tells tokens.now MAX_NESTING result }
+    // What all tokens spell is answered, unless memory could not be had.
+    ensures only { (s : AnyScript) → IsScript tokens.now.lexemes s → IsAnswered (Ok s) result }
 {
     answer_of(alloc, tokens, MAX_NESTING)
 }

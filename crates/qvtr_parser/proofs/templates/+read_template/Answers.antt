@@ -1,4 +1,4 @@
-use Rattle.std.proofs.Common.{ℕ, length, subst, arith}
+use Rattle.std.proofs.Common.{length, subst, arith}
 use Rattle.std.proofs.lemmas.Result.{err_from_is_err_and}
 use Rattle.ocl_parser.specs.Readings.{Gives, Read}
 use Rattle.qv_syntax.specs.declared.script.TemplateTree.{TemplateTree}

@@ -1,4 +1,4 @@
-use Rattle.std.proofs.Common.{ℕ, ◌+◌, ◌*◌, ◌≡◌, ◌-◌, length}
+use Rattle.std.proofs.Common.{◌+◌, ◌*◌, ◌≡◌, ◌-◌, length}
 use Rattle.qvtr_parser.specs.Lists.{behind_sign, comma_at, each_read, left}
 use Rattle.qvtr_parser.specs.ScriptReadings.{item_read}
 use Rattle.qvtr_parser.proofs.templates.+read_template.Given as goal
