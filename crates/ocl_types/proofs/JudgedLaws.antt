@@ -3,7 +3,7 @@ use Rattle.std.proofs.Common.{◌≡◌, Bool, true, false, Option, None, Some, 
 use Rattle.std.specs.Prelude.{IsTrue, ◌↔◌}
 use Rattle.ocl_types.specs.declared.fault.TypeFault.{TypeFault}
 use Rattle.ocl_types.specs.Outcomes.{RuleResult, and_then, asking}
-use Rattle.ocl_types.specs.Judged.{Judged, gives, refuses, tells, asks, finds, taking, both}
+use Rattle.ocl_types.specs.Judged.{Judged, gives, refuses, tells, says, asks, finds, taking, both}
 
 pub record Decides {X : Type 0} (r : RuleResult X) (j : Judged X) : Type 0 where
   pub told : (x : X) → r ≡ Ok x → j.has x
@@ -58,11 +58,11 @@ pub finds_decides : {X Y : Type 0} (o : Option X) (f : TypeFault) (r : Option X 
 finds_decides None f r rest none some = subst (λ q. Decides q (refuses f)) (sym none) (refuses_decides f)
 finds_decides (Some x) f r rest none some = some x
 
-then_ok : {X Y : Type 0} (r : RuleResult X) (k : X → RuleResult Y) (y : Y) → and_then r k ≡ Ok y → (x : X) × (r ≡ Ok x) × (k x ≡ Ok y)
+pub then_ok : {X Y : Type 0} (r : RuleResult X) (k : X → RuleResult Y) (y : Y) → and_then r k ≡ Ok y → (x : X) × (r ≡ Ok x) × (k x ≡ Ok y)
 then_ok (Ok x) k y h = (x, refl, h)
 then_ok (Err f) k y h = absurd (ok_err (Err f) y f h refl)
 
-then_err : {X Y : Type 0} (r : RuleResult X) (k : X → RuleResult Y) (f : TypeFault) → and_then r k ≡ Err f → (r ≡ Err f) ⊎ ((x : X) × (r ≡ Ok x) × (k x ≡ Err f))
+pub then_err : {X Y : Type 0} (r : RuleResult X) (k : X → RuleResult Y) (f : TypeFault) → and_then r k ≡ Err f → (r ≡ Err f) ⊎ ((x : X) × (r ≡ Ok x) × (k x ≡ Err f))
 then_err (Ok x) k f h = inr (x, refl, h)
 then_err (Err g) k f h = inl (ap (λ e. Err e) (err_err (Err g) g f refl h))
 
@@ -82,6 +82,26 @@ taking_decides {X = X} {Y = Y} r k j rest d dk = record { told = told; only = on
     refused : (f : TypeFault) → (taking j rest).stands f → (y : Y) → and_then r k ≡ Ok y → ⊥
     refused f h y e = ⊎_elim (λ s. let o = then_ok r k y e in d.refused f s o.0 o.1)
         (λ s. (dk s.0 s.1).refused f s.2 y (ap (λ o. and_then o k) (sym (d.only s.0 s.1)) ∙ e)) h
+
+-- what is computed decides what a relation says
+pub says_decides : {X : Type 0} (r : RuleResult X) (R : X → Type 0) (S : TypeFault → Type 0) → ((x : X) → r ≡ Ok x → R x) → ((x : X) → R x → r ≡ Ok x) → ((f : TypeFault) → r ≡ Err f → S f)
+    → Decides r (says R S)
+says_decides r R S told only fault = record {
+  told = told;
+  only = only;
+  fault = λ f is. ((λ x has. ok_err r x f (only x has) is), fault f is);
+  refused = λ f stands x is. stands.0 x (told x is);
+}
+
+-- a demand that isn't met leaves open what comes behind it
+pub asks_where : {X : Type 0} (b : Bool) (P : Type 0) (f : TypeFault) (r : RuleResult X) (j : Judged X) → (IsTrue b ↔ P) → (P → Decides r j) → Decides (asking b f r) (asks P f j)
+asks_where true P f r j is d = asks_decides true P f r j is (d (is.0 refl))
+asks_where false P f r j is d = record {
+  told = λ x h. absurd (ok_err (Err f) x f h refl);
+  only = λ x h. absurd (true≢false (sym (is.1 h.0)));
+  fault = λ g h. inl ((λ p. true≢false (sym (is.1 p))), err_err (Err f) g f h refl);
+  refused = λ g h x e. ok_err (Err f) x f e refl;
+}
 
 -- one after the other
 abbrev pub pair : {X Y : Type 0} → RuleResult X → RuleResult Y → RuleResult (X × Y)
@@ -137,3 +157,7 @@ two_decide r s k i j rest d e dk = subst (λ q. Decides q (taking (both i j) res
 pub asked_decides : {X : Type 0} (b : Bool) (P : Type 0) (f : TypeFault) (r : RuleResult X) (j : Judged X) → (IsTrue b ↔ P) → Decides r j
     → Decides (and_then (asking b f (Ok tt)) (λ (u : Unit {0}). r)) (asks P f j)
 asked_decides b P f r j is d = subst (λ q. Decides q (asks P f j)) (sym (asked b f r)) (asks_decides b P f r j is d)
+
+pub asked_where : {X : Type 0} (b : Bool) (P : Type 0) (f : TypeFault) (r : RuleResult X) (j : Judged X) → (IsTrue b ↔ P) → (P → Decides r j)
+    → Decides (and_then (asking b f (Ok tt)) (λ (u : Unit {0}). r)) (asks P f j)
+asked_where b P f r j is d = subst (λ q. Decides q (asks P f j)) (sym (asked b f r)) (asks_where b P f r j is d)

@@ -22,7 +22,7 @@ use Rattle.ocl_types.specs.declared.part.TypedPart.{TypedPart}
 use Rattle.ocl_types.specs.declared.part.CallsSoFar.{CallsSoFar}
 use Rattle.ocl_types.specs.declared.part.Chained.{Chained}
 use Rattle.ocl_types.specs.declared.variable.Signature.{Signature}
-use Rattle.ocl_types.specs.Environments.{Environment, AreWell, is_bound, number_of, value_of, only_model, class_of}
+use Rattle.ocl_types.specs.Environments.{Environment, AreWell, is_over, is_bound, number_of, value_of, only_model, class_of}
 use Rattle.ocl_types.specs.Naming.{names_of, joined_names, path_text, kind_text}
 use Rattle.ocl_types.specs.Classifiers.{named_literal, named_class}
 use Rattle.ocl_types.specs.Conformance.{TypeConforms}
@@ -36,12 +36,15 @@ use Rattle.ocl_types.specs.TypingOperators as ops
 use Rattle.ocl_types.specs.TypingOperators.{exactly, are_comparable, operated, added, branches, literal_type, link_rule, not_rule, negated_rule, if_rule, literal_rule}
 use Rattle.ocl_types.specs.TypingSteps.{property_of, navigated_to, collected_from, property_by, property_rule, each_exactly, operation_by, operation_rule, class_or, is_of_meta, class_operation_by, class_operation_rule, tested_with, model_or, extent_part, extent_rule, each_fits, query_by, query_rule}
 use Rattle.ocl_types.specs.TypingCollections.{kind_of, element_of, given_types, summed, collection_operation_by, collection_operation_rule, variable_type, iterator_variable, condition, iterator_by, iterator_rule}
-use Rattle.ocl_types.specs.Judged.{Judged, gives, tells, asks, finds, both}
+use Rattle.ocl_types.specs.Judged.{Judged, gives, asks, finds, both}
 use Rattle.ocl_types.specs.TypeRules
-use Rattle.ocl_types.specs.TypeRules.{being, conforming, variable_judged, literal_judged, names_judged, sides, added_judged, operator_judged, linked_judged, not_judged, negated_judged, if_judged, collection_judged, let_judged, bound_judged, arguments_judged, query_judged, extent_judged, property_judged_by, property_judged, exact_judged, operation_judged, class_operation_judged, summed_judged, collection_operation_judged, variable_type_judged, iterator_variable_judged, condition_judged, iterator_judged}
+use Rattle.ocl_types.specs.TypeRules.{part_models, one_model_judged, branches_judged, elements_judged, declared_judged, given_judged, being, conforming, variable_judged, literal_judged, names_judged, sides, added_judged, operator_judged, linked_judged, not_judged, negated_judged, if_judged, collection_judged, let_judged, bound_judged, arguments_judged, query_judged, extent_judged, property_judged_by, property_judged, exact_judged, operation_judged, class_operation_judged, summed_judged, collection_operation_judged, variable_type_judged, iterator_variable_judged, condition_judged, iterator_judged}
 use Rattle.ocl_types.proofs.TypeLaws.{same_is_one}
 use Rattle.ocl_types.proofs.UpperLaws.{fits_exactly}
-use Rattle.ocl_types.proofs.JudgedLaws.{Decides, gives_decides, tells_decides, asks_decides, asked_decides, finds_decides, taking_decides, both_decides, two_decide, pair, regrouped}
+use Rattle.ocl_types.proofs.WrittenLaws.{declared_decides}
+use Rattle.ocl_types.specs.TypedContext.{AreOver}
+use Rattle.ocl_types.proofs.RelationLaws.{branches_decide, elements_decide, given_decides, two_models_decide, models_decide, element_models_decide}
+use Rattle.ocl_types.proofs.JudgedLaws.{Decides, gives_decides, asks_decides, asked_decides, asked_where, finds_decides, taking_decides, both_decides, two_decide, pair, regrouped}
 
 -- ---- demands
 
@@ -132,21 +135,26 @@ negated_decides metas p = being_decides metas types.Int p.ty _ _ (gives_decides 
 
 -- ---- if and collection literals
 
-pub if_decides : (metas : List MetaDesc) (c a b : TypedPart) → Decides (if_rule metas c a b) (if_judged metas c a b)
+pub if_decides : (metas : List MetaDesc) (well : AreWell metas) (c a b : TypedPart) → is_over metas a.ty ≡ true → is_over metas b.ty ≡ true
+    → Decides (if_rule metas c a b) (if_judged metas c a b)
 unfolding if_rule
-if_decides metas c a b =
+if_decides metas well c a b one other =
     let r = branches metas a.ty b.ty in
     let s = one_model (codes "if") (joined_models a.model b.model) in
+    let i = branches_judged metas a.ty b.ty in
+    let j = one_model_judged (codes "if") (a.model ∷ b.model ∷ []) in
     subst (λ q. Decides q (if_judged metas c a b)) (sym (regrouped (exactly metas types.Bool c.ty) (λ u. pair r s) _))
     (being_decides metas types.Bool c.ty _ _
-    (taking_decides (pair r s) _ (both (tells r) (tells s)) _ (both_decides r s (tells r) (tells s) (tells_decides r) (tells_decides s)) (λ t h. gives_decides _)))
+    (taking_decides (pair r s) _ (both i j) _ (both_decides r s i j (branches_decide metas well a.ty b.ty one other) (two_models_decide (codes "if") a.model b.model)) (λ t h. gives_decides _)))
 
-pub collection_decides : (metas : List MetaDesc) (kind : Kind) (elements : List TypedPart) → Decides (literal_rule metas kind elements) (collection_judged metas kind elements)
+pub collection_decides : (metas : List MetaDesc) (well : AreWell metas) (kind : Kind) (elements : List TypedPart) → AreOver metas (types_of elements)
+    → Decides (literal_rule metas kind elements) (collection_judged metas kind elements)
 unfolding literal_rule
-collection_decides metas kind elements =
+collection_decides metas well kind elements over =
     let r = literal_type metas (types_of elements) in
     let s = one_model (kind_text kind) (with_models None elements) in
-    two_decide r s _ (tells r) (tells s) _ (tells_decides r) (tells_decides s) (λ x y h k. gives_decides _)
+    two_decide r s _ (elements_judged metas (types_of elements)) (one_model_judged (kind_text kind) (part_models elements)) _
+    (elements_decide metas well (types_of elements) over) (element_models_decide (kind_text kind) elements) (λ x y h k. gives_decides _)
 
 -- ---- let
 
@@ -155,7 +163,7 @@ free_decides : {X : Type 0} (env : Environment) (name : List ℕ) (r : RuleResul
 free_decides env name r j d = asked_decides (not (is_bound env name)) (is_bound env name ≡ false) (DuplicateName name) r j (free_is (is_bound env name)) d
 
 pub let_decides : (env : Environment) (name : List ℕ) (tree : TypeTree) → Decides (let_type env name tree) (let_judged env name tree)
-let_decides env name tree = free_decides env name (declared_type env tree) _ (tells_decides (declared_type env tree))
+let_decides env name tree = free_decides env name (declared_type env tree) _ (declared_decides env tree)
 
 pub bound_decides : (metas : List MetaDesc) (well : AreWell metas) (ty : Ty) (value : TypedPart) → Decides (let_variable metas ty value) (bound_judged metas ty value)
 unfolding let_variable
@@ -233,25 +241,28 @@ summed_decides : (metas : List MetaDesc) (operation : CollectionOperation) (ty :
 summed_decides metas collections.Sum ty r j d = being_decides metas types.Int ty r j d
 summed_decides metas operation ty r j d = d
 
-pub collection_operation_decides : (metas : List MetaDesc) (name : List ℕ) (c : CallsSoFar) (args : List TypedPart)
+pub collection_operation_decides : (metas : List MetaDesc) (well : AreWell metas) (name : List ℕ) (c : CallsSoFar) (args : List TypedPart)
+    → is_over metas (element_of c.ty) ≡ true → AreOver metas (types_of args)
     → Decides (collection_operation_rule metas name c args) (collection_operation_judged metas name c args)
 unfolding collection_operation_rule
-collection_operation_decides metas name c args =
+collection_operation_decides metas well name c args elements over =
     finds_decides (collection_operation_named (encode_utf8_all name)) (UnknownName name) (λ o. collection_operation_by metas name c args o) _ refl
     (λ (operation : CollectionOperation).
-    let r = given_types metas (collection_row operation).argument (kind_of c.ty) (element_of c.ty) args in
+    let argument = (collection_row operation).argument in
+    let r = given_types metas argument (kind_of c.ty) (element_of c.ty) args in
     let s = one_model name (with_models c.model args) in
     asks_decides (is_of_kind (collection_row operation).kinds (kind_of c.ty)) _ (UnknownName name) _ _ (itself (is_of_kind (collection_row operation).kinds (kind_of c.ty)))
-    (asked_decides (length args == argument_count (collection_row operation).argument) _ (WrongCount name) _ _ (count_is (length args) (argument_count (collection_row operation).argument))
-    (summed_decides metas operation (element_of c.ty) _ _
-    (two_decide r s _ (tells r) (tells s) _ (tells_decides r) (tells_decides s) (λ x y h k. gives_decides _)))))
+    (asked_where (length args == argument_count argument) _ (WrongCount name) _ _ (count_is (length args) (argument_count argument))
+    (λ counted. summed_decides metas operation (element_of c.ty) _ _
+    (two_decide r s _ (given_judged metas argument (kind_of c.ty) (element_of c.ty) (types_of args)) (one_model_judged name (c.model ∷ part_models args)) _
+    (given_decides metas well (kind_of c.ty) (element_of c.ty) elements argument args counted over) (models_decide name c.model args) (λ x y h k. gives_decides _)))))
 
 -- ---- iterators
 
 variable_type_decides : (env : Environment) (well : AreWell env.metas) (tree : Option TypeTree) (ty : Ty) → Decides (variable_type env tree ty) (variable_type_judged env tree ty)
 variable_type_decides env well None ty = gives_decides ty
 variable_type_decides env well (Some tree) ty =
-    taking_decides (declared_type env tree) _ (tells (declared_type env tree)) _ (tells_decides (declared_type env tree))
+    taking_decides (declared_type env tree) _ (declared_judged env tree) _ (declared_decides env tree)
     (λ (t : Ty) h. conforming_decides env.metas well t ty _ _ (gives_decides _))
 
 pub iterator_variable_decides : (env : Environment) (well : AreWell env.metas) (name : List ℕ) (tree : Option TypeTree) (c : CallsSoFar)

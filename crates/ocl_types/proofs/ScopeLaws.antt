@@ -40,7 +40,7 @@ shifted a b = by (ltb (1 + a) (suc b)) (ltb a b) same
     by false true e = absurd (cc)
     by false false e = refl
 
-position-cons : {X : Type 0} (p : X → Bool) (x : X) (xs : List X) → position p (x ∷ xs) ≡ cond (p x) (Some 0) (option_map suc (position p xs))
+pub position-cons : {X : Type 0} (p : X → Bool) (x : X) (xs : List X) → position p (x ∷ xs) ≡ cond (p x) (Some 0) (option_map suc (position p xs))
 position-cons p x xs = by (p x)
   where
     by : (b : Bool) → cond (ltb (cond (not b) (1 + position_or_len p xs) 0) (suc (length xs))) (Some (cond (not b) (1 + position_or_len p xs) 0)) None
@@ -53,7 +53,7 @@ same_option None = refl
 same_option (Some i) = ap Some (omega arith)
 
 -- the first of a name stands in front of those behind
-number_behind : {X : Type 0} (es fs : NamesWith X) (name : List ℕ)
+pub number_behind : {X : Type 0} (es fs : NamesWith X) (name : List ℕ)
     → number_of (es ++ fs) name ≡ option_or (number_of es name) (option_map (λ i. length es + i) (number_of fs name))
 number_behind [] fs name = same_option (number_of fs name)
 number_behind (e ∷ es) fs name =
@@ -79,7 +79,7 @@ value_behind (e ∷ es) fs name = by (same_name name e.0) (value_behind es fs na
     by false rest = rest
 
 -- what stands at the place of a name
-value_at : {X : Type 0} (es : NamesWith X) (name : List ℕ) (d : List ℕ × X) → value_of es name ≡ option_map (λ i. (get_or es i d).1) (number_of es name)
+pub value_at : {X : Type 0} (es : NamesWith X) (name : List ℕ) (d : List ℕ × X) → value_of es name ≡ option_map (λ i. (get_or es i d).1) (number_of es name)
 value_at [] name d = refl
 value_at (e ∷ es) name d =
     ap (cond (same_name name e.0) (Some e.1)) (value_at es name d)

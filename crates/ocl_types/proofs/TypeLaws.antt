@@ -12,7 +12,7 @@ pub both_true : (a b : Bool) → (a && b) ≡ true → (a ≡ true) × (b ≡ tr
 both_true true b is = (refl, is)
 both_true false b is = absurd (false≢true is)
 
-same_kinds : (a b : Kind) → same_kind a b ≡ true → a ≡ b
+pub same_kinds : (a b : Kind) → same_kind a b ≡ true → a ≡ b
 same_kinds kinds.Set kinds.Set is = refl
 same_kinds kinds.Bag kinds.Bag is = refl
 same_kinds kinds.Sequence kinds.Sequence is = refl
@@ -52,7 +52,7 @@ same_types = ind-Ty IsToldApart (λ x y made b is.
     ap roll-Ty (subst (λ v. same_layer (map-Ty Ty (Ty → Bool) same_type v) (out-Ty b) ≡ true → v ≡ out-Ty b) made (same_layers _ (λ e. e.0) (λ e. e.1) y (out-Ty b)) layer)
     ∙ roll-out-Ty b)
 
-same_kind_itself : (kind : Kind) → same_kind kind kind ≡ true
+pub same_kind_itself : (kind : Kind) → same_kind kind kind ≡ true
 same_kind_itself kinds.Set = refl
 same_kind_itself kinds.Bag = refl
 same_kind_itself kinds.Sequence = refl

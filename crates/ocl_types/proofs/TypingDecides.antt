@@ -1,13 +1,13 @@
 -- The typing of an expression decides what is judged of it, by induction on the expression.
-use Rattle.std.proofs.Common.{◌≡◌, ℕ, true, false, ◌&&◌, List, [], ◌∷◌, ◌++◌, Option, None, Some, Ok, Err, map, length, refl, sym, ap, ◌∙◌, subst, append_assoc, append-nil}
+use Rattle.std.proofs.Common.{◌≡◌, ℕ, ◌&&◌, List, [], ◌∷◌, ◌++◌, Option, None, Some, Ok, Err, map, length, refl, sym, ap, ◌∙◌, subst, append_assoc, append-nil}
 use Rattle.qv_syntax.specs.declared.name.Name.{Name}
 use Rattle.qv_syntax.specs.declared.name.Path.{Path}
 use Rattle.qv_syntax.specs.declared.type_tree.TypeTree.{TypeTree}
 use Rattle.qv_syntax.specs.declared.ty.Ty.{Ty}
-use Rattle.qv_syntax.specs.declared.expr.Expr.{Expr, roll-Expr, map-Expr, fold-roll-Expr, rec-roll-Expr, ind-Expr}
-use Rattle.qv_syntax.specs.declared.expr.Infix.{Infix, roll-Infix, map-Infix, fold-roll-Infix, rec-roll-Infix}
-use Rattle.qv_syntax.specs.declared.expr.Postfix.{Postfix, roll-Postfix, map-Postfix, fold-roll-Postfix, rec-roll-Postfix}
-use Rattle.qv_syntax.specs.declared.expr.Args.{Args, roll-Args, map-Args, fold-roll-Args, rec-roll-Args}
+use Rattle.qv_syntax.specs.declared.expr.Expr.{Expr, roll-Expr, map-Expr, fold-roll-Expr, ind-Expr}
+use Rattle.qv_syntax.specs.declared.expr.Infix.{Infix, roll-Infix, map-Infix, fold-roll-Infix}
+use Rattle.qv_syntax.specs.declared.expr.Postfix.{Postfix, roll-Postfix, map-Postfix, fold-roll-Postfix}
+use Rattle.qv_syntax.specs.declared.expr.Args.{Args, roll-Args, map-Args, fold-roll-Args}
 use Rattle.qv_syntax.specs.declared.expr.Args.TheOpen as of
 use Rattle.ocl_types.specs.declared.fault.TypeFault.{TypeFault}
 use Rattle.ocl_types.specs.declared.fault.TypeFault.TheVariants.{UnknownName}
@@ -16,7 +16,8 @@ use Rattle.ocl_types.specs.declared.part.TypedPart.{TypedPart}
 use Rattle.ocl_types.specs.declared.part.CallsSoFar.{CallsSoFar}
 use Rattle.ocl_types.specs.declared.part.Chained.{Chained}
 use Rattle.ocl_types.specs.declared.variable.Variable.{Variable}
-use Rattle.ocl_types.specs.Environments.{Environment, AreWell, with_variable}
+use Rattle.qv_syntax.specs.TypedTrees as trees
+use Rattle.ocl_types.specs.Environments.{Environment, IsInOrder, with_variable}
 use Rattle.ocl_types.specs.Outcomes.{RuleResult, and_then}
 use Rattle.ocl_types.specs.Parts.{tree_of, uncalled}
 use Rattle.ocl_types.specs.TypingScopes.{let_type, let_variable, let_part}
@@ -29,30 +30,52 @@ use Rattle.ocl_types.specs.TypeRules.{if_judged, linked_judged, let_judged, boun
 use Rattle.ocl_types.specs.HasType
 use Rattle.ocl_types.specs.HasType.{Judgment, LinkJudgment, CallJudgment, ArgsJudgment, each, linked, called, called_part_judged, first_judged, calls_judged, query_args, dot_args, arrow_args, expr_rule, link_rule_of, call_rule, args_rule, judgment, link_judgment, call_judgment, args_judgment, HasType, HasTree, Stands}
 use Rattle.ocl_types.proofs.JudgedLaws.{Decides, ok_ok, ok_err, err_err, gives_decides, refuses_decides, taking_decides, both_decides, two_decide, pair, paired}
+use Rattle.ocl_types.specs.TypedContext.{typing_of}
 use Rattle.ocl_types.proofs.RuleLaws as rules
+use Rattle.ocl_types.proofs.JudgmentLaws.{State, expr_unrolled, link_unrolled, call_unrolled, args_unrolled}
+use Rattle.ocl_types.proofs.TypedParts.{IsReady, IsPart, IsCalledOn, ready, ready_with, part_over}
+use Rattle.ocl_types.proofs.TypedForms.{parts_over, bound_kept, bound_over, extent_typed}
+use Rattle.ocl_types.proofs.TypedCalls.{uncalled_typed, element_over, iterator_variable_kept, iterator_variable_over}
+use Rattle.ocl_types.proofs.TypedTrees.{GivesParts, GivesCalls, GivesLists, each_parts, expr_rule_typed, call_rule_typed, args_rule_typed}
 
 -- ---- what is to be shown of each kind of tree
 
--- a typing decides what is judged, in each environment whose metamodels are well
-pub IsTold : Typing → (Environment → Judged TypedPart) → Type 0
-IsTold typing part = (env : Environment) → AreWell env.metas → Decides (typing env) (part env)
+-- an expression is computed as it is judged
+pub record IsComputed (m : Meaning) (j : Judgment) : Type 0 where
+  pub path : m.path ≡ j.path
+  pub part : (env : Environment) → IsReady env → Decides (m.typing env) (j.part env)
 
+-- and what is judged is a typed part
 pub record IsExpr (m : Meaning) (j : Judgment) : Type 0 where
   pub path : m.path ≡ j.path
-  pub part : (env : Environment) → AreWell env.metas → Decides (m.typing env) (j.part env)
+  pub part : (env : Environment) → IsReady env → Decides (m.typing env) (j.part env)
+  pub typed : GivesParts j.part
 
 pub record IsLink (o : Operated) (l : LinkJudgment) : Type 0 where
   pub operator : o.operator ≡ l.operator
-  pub right : (env : Environment) → AreWell env.metas → Decides (o.right env) (l.right env)
+  pub right : (env : Environment) → IsReady env → Decides (o.right env) (l.right env)
+
+-- the same of a call on what was called so far
+pub record IsComputedCall (c : Calling) (k : CallJudgment) : Type 0 where
+  pub is_extent : c.is_extent ≡ k.is_extent
+  pub after : (env : Environment) → IsReady env → (first : trees.Typing) (before : CallsSoFar) → IsCalledOn env first before → Decides (c.after env before) (k.after env before)
 
 pub record IsCall (c : Calling) (k : CallJudgment) : Type 0 where
   pub is_extent : c.is_extent ≡ k.is_extent
-  pub after : (env : Environment) (before : CallsSoFar) → AreWell env.metas → Decides (c.after env before) (k.after env before)
+  pub after : (env : Environment) → IsReady env → (first : trees.Typing) (before : CallsSoFar) → IsCalledOn env first before → Decides (c.after env before) (k.after env before)
+  pub typed : GivesCalls k.after
+
+-- the same of what stands between parentheses
+pub record AreComputed (g : Given) (a : ArgsJudgment) : Type 0 where
+  pub class : g.class ≡ a.class
+  pub is_empty : has_no_values g.values g.class ≡ a.is_empty
+  pub parts : (env : Environment) → IsReady env → Decides (parts_from env [] g.values) (a.parts env)
 
 pub record AreArgs (g : Given) (a : ArgsJudgment) : Type 0 where
   pub class : g.class ≡ a.class
   pub is_empty : has_no_values g.values g.class ≡ a.is_empty
-  pub parts : (env : Environment) → AreWell env.metas → Decides (parts_from env [] g.values) (a.parts env)
+  pub parts : (env : Environment) → IsReady env → Decides (parts_from env [] g.values) (a.parts env)
+  pub typed : GivesLists a.parts
 
 pub ExprOf : Expr → Type 0
 ExprOf e = IsExpr (meaning e) (judgment e)
@@ -100,27 +123,24 @@ unmoved (Err f) = refl
 firsts : {X : Type 0} {P : X → Type 0} → List ((x : X) × P x) → List X
 firsts vs = map (λ v. v.0) vs
 
-each_decides : (env : Environment) (well : AreWell env.metas) (vs : List ((e : Expr) × ExprOf e))
+each_decides : (env : Environment) (ready : IsReady env) (vs : List ((e : Expr) × ExprOf e))
     → Decides (parts_of env (map (λ (m : Meaning). m.typing) (map meaning (map (λ v. v.0) vs)))) (each judgment env (map (λ v. v.0) vs))
 unfolding parts_of each ExprOf
-each_decides env well [] = gives_decides []
-each_decides env well (v ∷ vs) =
+each_decides env ready [] = gives_decides []
+each_decides env ready (v ∷ vs) =
     let t = (meaning v.0).typing env in
     let s = parts_of env (map (λ (m : Meaning). m.typing) (map meaning (map (λ v. v.0) vs))) in
     let i = (judgment v.0).part env in
     let j = each judgment env (map (λ v. v.0) vs) in
-    taking_decides (pair t s) (λ p. Ok (p.0 ∷ p.1)) (both i j) (λ p. gives (p.0 ∷ p.1)) (both_decides t s i j (v.1.part env well) (each_decides env well vs)) (λ p h. gives_decides (p.0 ∷ p.1))
+    taking_decides (pair t s) (λ p. Ok (p.0 ∷ p.1)) (both i j) (λ p. gives (p.0 ∷ p.1)) (both_decides t s i j (v.1.part env ready) (each_decides env ready vs)) (λ p h. gives_decides (p.0 ∷ p.1))
 
-parts_decide : (env : Environment) (well : AreWell env.metas) (vs : List ((e : Expr) × ExprOf e))
+parts_decide : (env : Environment) (ready : IsReady env) (vs : List ((e : Expr) × ExprOf e))
     → Decides (parts_from env [] (map (λ (m : Meaning). m.typing) (map meaning (map (λ v. v.0) vs)))) (each judgment env (map (λ v. v.0) vs))
-parts_decide env well vs =
+parts_decide env ready vs =
     let ts : List Typing = map (λ (m : Meaning). m.typing) (map meaning (map (λ v. v.0) vs)) in
-    subst (λ q. Decides q (each judgment env (map (λ v. v.0) vs))) (sym (parts_are env [] ts ∙ unmoved (parts_of env ts))) (each_decides env well vs)
+    subst (λ q. Decides q (each judgment env (map (λ v. v.0) vs))) (sym (parts_are env [] ts ∙ unmoved (parts_of env ts))) (each_decides env ready vs)
 
 -- ---- chains
-
-abbrev State : Type 0
-State = TypedPart × Chained
 
 abbrev beside : TypedPart → Chained → RuleResult State
 beside p c = Ok (p, c)
@@ -150,11 +170,11 @@ unfolding chained_from
 ended env (Ok s) = refl
 ended env (Err f) = refl
 
-linked_decides : (env : Environment) (well : AreWell env.metas) (vs : List ((l : Infix) × LinkOf l)) (r : RuleResult State) (before : Judged State) → Decides r before
+linked_decides : (env : Environment) (ready : IsReady env) (vs : List ((l : Infix) × LinkOf l)) (r : RuleResult State) (before : Judged State) → Decides r before
     → Decides (onwards env (map operated_by (map (λ v. v.0) vs)) r) (linked link_judgment env before (map (λ v. v.0) vs))
 unfolding linked LinkOf
-linked_decides env well [] r before d = subst (λ q. Decides q before) (sym (ended env r)) d
-linked_decides env well (v ∷ vs) r before d =
+linked_decides env ready [] r before d = subst (λ q. Decides q before) (sym (ended env r)) d
+linked_decides env ready (v ∷ vs) r before d =
     let o : Operated = operated_by v.0 in
     let l : LinkJudgment = link_judgment v.0 in
     let ls : List Infix = map (λ v. v.0) vs in
@@ -164,42 +184,45 @@ linked_decides env well (v ∷ vs) r before d =
     let joined : Decides next after =
     taking_decides (pair r t) (λ p. and_then (link_rule env.metas p.0.1 o.operator p.1) (beside p.0.0)) (both before (l.right env))
     (λ p. taking (linked_judged env.metas p.0.1 l.operator p.1) (λ c. gives (p.0.0, c)))
-    (both_decides r t before (l.right env) d (v.1.right env well))
+    (both_decides r t before (l.right env) d (v.1.right env ready))
     (λ p h. taking_decides (link_rule env.metas p.0.1 o.operator p.1) (beside p.0.0) (linked_judged env.metas p.0.1 l.operator p.1) (λ c. gives (p.0.0, c))
     (subst (λ q. Decides (link_rule env.metas p.0.1 o.operator p.1) (linked_judged env.metas p.0.1 q p.1)) v.1.operator (rules.link_decides env.metas p.0.1 o.operator p.1))
     (λ c k. gives_decides (p.0.0, c))) in
-    subst (λ q. Decides q (linked link_judgment env after ls)) (sym (stepped env r o (map operated_by ls))) (linked_decides env well vs next after joined)
+    subst (λ q. Decides q (linked link_judgment env after ls)) (sym (stepped env r o (map operated_by ls))) (linked_decides env ready vs next after joined)
 
 -- ---- calls
 
-called_decides : (env : Environment) (well : AreWell env.metas) (vs : List ((k : Postfix) × CallOf k)) (c : CallsSoFar)
+called_decides : (env : Environment) (ready : IsReady env) (vs : List ((k : Postfix) × CallOf k)) (first : trees.Typing) (c : CallsSoFar) → IsCalledOn env first c
     → Decides (called_from env c (map calling (map (λ v. v.0) vs))) (called call_judgment env c (map (λ v. v.0) vs))
-unfolding called_from called CallOf
-called_decides env well [] c = gives_decides c
-called_decides env well (v ∷ vs) c =
+unfolding called_from called CallOf GivesCalls
+called_decides env ready [] first c on = gives_decides c
+called_decides env ready (v ∷ vs) first c on =
     taking_decides ((calling v.0).after env c) (λ next. called_from env next (map calling (map (λ v. v.0) vs))) ((call_judgment v.0).after env c)
-    (λ next. called call_judgment env next (map (λ v. v.0) vs)) (v.1.after env c well) (λ next h. called_decides env well vs next)
+    (λ next. called call_judgment env next (map (λ v. v.0) vs)) (v.1.after env ready first c on) (λ next h. called_decides env ready vs first next (v.1.typed env ready first c next on h))
 
-called_part_decides : (env : Environment) (well : AreWell env.metas) (vs : List ((k : Postfix) × CallOf k)) (p : TypedPart)
+called_part_decides : (env : Environment) (ready : IsReady env) (vs : List ((k : Postfix) × CallOf k)) (p : TypedPart) → IsPart env p
     → Decides (called_part env p (map calling (map (λ v. v.0) vs))) (called_part_judged call_judgment env p (map (λ v. v.0) vs))
 unfolding called_part
-called_part_decides env well [] p = gives_decides p
-called_part_decides env well (v ∷ vs) p =
+called_part_decides env ready [] p part = gives_decides p
+called_part_decides env ready (v ∷ vs) p part =
     taking_decides (called_from env (uncalled p) (map calling (map (λ v. v.0) (v ∷ vs)))) (λ c. Ok (called_whole p c))
     (called call_judgment env (uncalled p) (map (λ v. v.0) (v ∷ vs))) (λ c. gives (called_whole p c))
-    (called_decides env well (v ∷ vs) (uncalled p)) (λ c h. gives_decides (called_whole p c))
+    (called_decides env ready (v ∷ vs) (typing_of p) (uncalled p) (uncalled_typed env ready p part)) (λ c h. gives_decides (called_whole p c))
 
 -- ---- forms of more than one part
 
-let_decides : (env : Environment) (well : AreWell env.metas) (n : Name) (ty : TypeTree) (value body : Meaning) (i j : Judgment) → IsExpr value i → IsExpr body j
+let_decides : (env : Environment) (ready : IsReady env) (n : Name) (ty : TypeTree) (value body : Meaning) (i j : Judgment) → IsExpr value i → IsExpr body j
     → Decides (let_typing env n.text ty value.typing body.typing)
     (taking (both (let_judged env n.text ty) (i.part env)) (λ v. taking (bound_judged env.metas v.0 v.1) (λ variable.
     taking (j.part (with_variable env n.text variable)) (λ b. gives (let_part (length env.variables) v.1 b)))))
-let_decides env well n ty value body i j first second =
-    two_decide (let_type env n.text ty) (value.typing env) _ (let_judged env n.text ty) (i.part env) _ (rules.let_decides env n.text ty) (first.part env well)
-    (λ (t : Ty) (v : TypedPart) h k. taking_decides (let_variable env.metas t v) _ (bound_judged env.metas t v) _ (rules.bound_decides env.metas well t v)
-    (λ (variable : Variable) h. taking_decides (body.typing (with_variable env n.text variable)) _ (j.part (with_variable env n.text variable)) _
-    (second.part (with_variable env n.text variable) well) (λ b h. gives_decides (let_part (length env.variables) v b))))
+unfolding GivesParts
+let_decides env ready n ty value body i j first second =
+    two_decide (let_type env n.text ty) (value.typing env) _ (let_judged env n.text ty) (i.part env) _ (rules.let_decides env n.text ty) (first.part env ready)
+    (λ (t : Ty) (v : TypedPart) h k. taking_decides (let_variable env.metas t v) _ (bound_judged env.metas t v) _ (rules.bound_decides env.metas ready.well t v)
+    (λ (variable : Variable) bound.
+    let more = ready_with env n.text variable ready (bound_kept env t v variable (first.typed env ready v k) bound) (bound_over env n.text ty t v variable h bound) in
+    taking_decides (body.typing (with_variable env n.text variable)) _ (j.part (with_variable env n.text variable)) _
+    (second.part (with_variable env n.text variable) more) (λ b h. gives_decides (let_part (length env.variables) v b))))
 
 started : TypedPart → RuleResult State
 started p = Ok (p, unchained p)
@@ -214,182 +237,109 @@ chain_made env (Ok p) ls = by (chained_from env (unchained p) ls)
     by (Ok c) = refl
     by (Err f) = refl
 
-chain_decides : (env : Environment) (well : AreWell env.metas) (first : Meaning) (i : Judgment) (vs : List ((l : Infix) × LinkOf l)) → IsExpr first i
+chain_decides : (env : Environment) (ready : IsReady env) (first : Meaning) (i : Judgment) (vs : List ((l : Infix) × LinkOf l)) → IsExpr first i
     → Decides (and_then (first.typing env) (λ p. linked_part env p (map operated_by (map (λ v. v.0) vs))))
     (taking (linked link_judgment env (taking (i.part env) (λ p. gives (p, unchained p))) (map (λ v. v.0) vs)) (λ c. gives (chain_part c.0 c.1)))
 unfolding started
-chain_decides env well first i vs is =
+chain_decides env ready first i vs is =
     let ls : List Operated = map operated_by (map (λ v. v.0) vs) in
     let r = and_then (first.typing env) started in
     let j : Judged State = taking (i.part env) (λ p. gives (p, unchained p)) in
-    let begun : Decides r j = taking_decides (first.typing env) started (i.part env) (λ p. gives (p, unchained p)) (is.part env well) (λ p h. gives_decides (p, unchained p)) in
+    let begun : Decides r j = taking_decides (first.typing env) started (i.part env) (λ p. gives (p, unchained p)) (is.part env ready) (λ p h. gives_decides (p, unchained p)) in
     subst (λ q. Decides q (taking (linked link_judgment env j (map (λ v. v.0) vs)) (λ c. gives (chain_part c.0 c.1)))) (chain_made env (first.typing env) ls)
     (taking_decides (onwards env ls r) (λ c. Ok (chain_part c.0 c.1)) (linked link_judgment env j (map (λ v. v.0) vs)) (λ c. gives (chain_part c.0 c.1))
-    (linked_decides env well vs r j begun) (λ c h. gives_decides (chain_part c.0 c.1)))
+    (linked_decides env ready vs r j begun) (λ c h. gives_decides (chain_part c.0 c.1)))
 
-if_decides : (env : Environment) (well : AreWell env.metas) (a b c : Meaning) (i j k : Judgment) → IsExpr a i → IsExpr b j → IsExpr c k
+if_decides : (env : Environment) (ready : IsReady env) (a b c : Meaning) (i j k : Judgment) → IsExpr a i → IsExpr b j → IsExpr c k
     → Decides (if_typing env a.typing b.typing c.typing) (taking (both (i.part env) (both (j.part env) (k.part env))) (λ p. if_judged env.metas p.0 p.1.0 p.1.1))
-if_decides env well a b c i j k first second third =
+unfolding GivesParts
+if_decides env ready a b c i j k first second third =
     let r = b.typing env in
     let s = c.typing env in
     subst (λ q. Decides q (taking (both (i.part env) (both (j.part env) (k.part env))) (λ p. if_judged env.metas p.0 p.1.0 p.1.1)))
     (then_same (a.typing env) _ _ (λ x. paired r s (λ y z. if_rule env.metas x y z)))
     (two_decide (a.typing env) (pair r s) (λ x p. if_rule env.metas x p.0 p.1) (i.part env) (both (j.part env) (k.part env)) (λ p. if_judged env.metas p.0 p.1.0 p.1.1)
-    (first.part env well) (both_decides r s (j.part env) (k.part env) (second.part env well) (third.part env well))
-    (λ x p h m. rules.if_decides env.metas x p.0 p.1))
+    (first.part env ready) (both_decides r s (j.part env) (k.part env) (second.part env ready) (third.part env ready))
+    (λ x p h m. rules.if_decides env.metas ready.well x p.0 p.1 (part_over env ready p.0 (second.typed env ready p.0 m.0)) (part_over env ready p.1 (third.typed env ready p.1 m.1))))
 
-first_decides : (env : Environment) (well : AreWell env.metas) (part : Meaning) (i : Judgment) (v : (k : Postfix) × CallOf k) (vs : List ((k : Postfix) × CallOf k)) → IsExpr part i → (path : Option Path)
+first_decides : (env : Environment) (ready : IsReady env) (part : Meaning) (i : Judgment) (v : (k : Postfix) × CallOf k) (vs : List ((k : Postfix) × CallOf k)) → IsExpr part i → (path : Option Path)
     → Decides (first_called env part.typing (calling v.0) (map calling (map (λ v. v.0) vs)) path) (first_judged call_judgment env (i.part env) v.0 (map (λ v. v.0) vs) path)
-first_decides env well part i v vs is (Some path) =
+unfolding GivesParts
+first_decides env ready part i v vs is (Some path) =
     taking_decides (extent_rule env path) (λ p. called_part env p (map calling (map (λ v. v.0) vs))) (extent_judged env path) (λ p. called_part_judged call_judgment env p (map (λ v. v.0) vs))
-    (rules.extent_decides env path) (λ p h. called_part_decides env well vs p)
-first_decides env well part i v vs is None =
+    (rules.extent_decides env path) (λ p h. called_part_decides env ready vs p (extent_typed env path p h))
+first_decides env ready part i v vs is None =
     taking_decides (part.typing env) (λ p. called_part env p (map calling (map (λ v. v.0) (v ∷ vs)))) (i.part env) (λ p. called_part_judged call_judgment env p (map (λ v. v.0) (v ∷ vs)))
-    (is.part env well) (λ p h. called_part_decides env well (v ∷ vs) p)
+    (is.part env ready) (λ p h. called_part_decides env ready (v ∷ vs) p (is.typed env ready p h))
 
-calls_decide : (env : Environment) (well : AreWell env.metas) (part : Meaning) (i : Judgment) (vs : List ((k : Postfix) × CallOf k)) → IsExpr part i
+calls_decide : (env : Environment) (ready : IsReady env) (part : Meaning) (i : Judgment) (vs : List ((k : Postfix) × CallOf k)) → IsExpr part i
     → Decides (calls_typing env part (map calling (map (λ v. v.0) vs))) (calls_judged call_judgment env i (map (λ v. v.0) vs))
 unfolding CallOf
-calls_decide env well part i [] is = is.part env well
-calls_decide env well part i (v ∷ vs) is =
+calls_decide env ready part i [] is = is.part env ready
+calls_decide env ready part i (v ∷ vs) is =
     let k : Calling = calling v.0 in
     let same : path_of_extent part.path k.is_extent ≡ path_of_extent i.path (call_judgment v.0).is_extent =
     ap (λ p. path_of_extent p k.is_extent) is.path ∙ ap (path_of_extent i.path) v.1.is_extent in
     subst (λ o. Decides (first_called env part.typing k (map calling (map (λ v. v.0) vs)) (path_of_extent part.path k.is_extent)) (first_judged call_judgment env (i.part env) v.0 (map (λ v. v.0) vs) o)) same
-    (first_decides env well part i v vs is (path_of_extent part.path k.is_extent))
+    (first_decides env ready part i v vs is (path_of_extent part.path k.is_extent))
 
-query_by_decides : (env : Environment) (well : AreWell env.metas) (name : List ℕ) (g : Given) (a : ArgsJudgment) → AreArgs g a → (o : Option Path)
+query_by_decides : (env : Environment) (ready : IsReady env) (name : List ℕ) (g : Given) (a : ArgsJudgment) → AreArgs g a → (o : Option Path)
     → Decides (query_by_class env name g.values o) (query_args env name a o)
-query_by_decides env well name g a is None =
-    taking_decides (parts_from env [] g.values) (query_rule env name) (a.parts env) (query_judged env name) (is.parts env well) (λ ps h. rules.query_decides env well name ps)
-query_by_decides env well name g a is (Some path) = refuses_decides (UnknownName name)
+query_by_decides env ready name g a is None =
+    taking_decides (parts_from env [] g.values) (query_rule env name) (a.parts env) (query_judged env name) (is.parts env ready) (λ ps h. rules.query_decides env ready.well name ps)
+query_by_decides env ready name g a is (Some path) = refuses_decides (UnknownName name)
 
-query_decides : (env : Environment) (well : AreWell env.metas) (name : List ℕ) (g : Given) (a : ArgsJudgment) → AreArgs g a → Decides (query_typing env name g) (query_args env name a a.class)
-query_decides env well name g a is =
-    subst (λ o. Decides (query_by_class env name g.values g.class) (query_args env name a o)) is.class (query_by_decides env well name g a is g.class)
+query_decides : (env : Environment) (ready : IsReady env) (name : List ℕ) (g : Given) (a : ArgsJudgment) → AreArgs g a → Decides (query_typing env name g) (query_args env name a a.class)
+query_decides env ready name g a is =
+    subst (λ o. Decides (query_by_class env name g.values g.class) (query_args env name a o)) is.class (query_by_decides env ready name g a is g.class)
 
-dot_by_decides : (env : Environment) (well : AreWell env.metas) (name : List ℕ) (c : CallsSoFar) (g : Given) (a : ArgsJudgment) → AreArgs g a → (o : Option Path)
+dot_by_decides : (env : Environment) (ready : IsReady env) (name : List ℕ) (c : CallsSoFar) (g : Given) (a : ArgsJudgment) → AreArgs g a → (o : Option Path)
     → Decides (dot_by env name g.values c o) (dot_args env name c a o)
-dot_by_decides env well name c g a is None =
-    taking_decides (parts_from env [] g.values) (operation_rule env.metas name c) (a.parts env) (operation_judged env.metas name c) (is.parts env well)
+dot_by_decides env ready name c g a is None =
+    taking_decides (parts_from env [] g.values) (operation_rule env.metas name c) (a.parts env) (operation_judged env.metas name c) (is.parts env ready)
     (λ ps h. rules.operation_decides env.metas name c ps)
-dot_by_decides env well name c g a is (Some path) = rules.class_operation_decides env name path c
+dot_by_decides env ready name c g a is (Some path) = rules.class_operation_decides env name path c
 
-dot_decides : (env : Environment) (well : AreWell env.metas) (name : List ℕ) (c : CallsSoFar) (g : Given) (a : ArgsJudgment) → AreArgs g a
+dot_decides : (env : Environment) (ready : IsReady env) (name : List ℕ) (c : CallsSoFar) (g : Given) (a : ArgsJudgment) → AreArgs g a
     → Decides (dot_typing name g env c) (dot_args env name c a a.class)
-dot_decides env well name c g a is =
-    subst (λ o. Decides (dot_by env name g.values c g.class) (dot_args env name c a o)) is.class (dot_by_decides env well name c g a is g.class)
+dot_decides env ready name c g a is =
+    subst (λ o. Decides (dot_by env name g.values c g.class) (dot_args env name c a o)) is.class (dot_by_decides env ready name c g a is g.class)
 
-arrow_by_decides : (env : Environment) (well : AreWell env.metas) (name : List ℕ) (c : CallsSoFar) (g : Given) (a : ArgsJudgment) → AreArgs g a → (o : Option Path)
+arrow_by_decides : (env : Environment) (ready : IsReady env) (name : List ℕ) (first : trees.Typing) (c : CallsSoFar) → IsCalledOn env first c → (g : Given) (a : ArgsJudgment) → AreArgs g a → (o : Option Path)
     → Decides (arrow_by env name g.values c o) (arrow_args env name c a o)
-arrow_by_decides env well name c g a is None =
-    taking_decides (parts_from env [] g.values) (collection_operation_rule env.metas name c) (a.parts env) (collection_operation_judged env.metas name c) (is.parts env well)
-    (λ ps h. rules.collection_operation_decides env.metas name c ps)
-arrow_by_decides env well name c g a is (Some path) = refuses_decides (UnknownName name)
+unfolding GivesLists
+arrow_by_decides env ready name first c on g a is None =
+    taking_decides (parts_from env [] g.values) (collection_operation_rule env.metas name c) (a.parts env) (collection_operation_judged env.metas name c) (is.parts env ready)
+    (λ ps h. rules.collection_operation_decides env.metas ready.well name c ps (element_over env ready first c on) (parts_over env ready ps (is.typed env ready ps h)))
+arrow_by_decides env ready name first c on g a is (Some path) = refuses_decides (UnknownName name)
 
-arrow_decides : (env : Environment) (well : AreWell env.metas) (name : List ℕ) (c : CallsSoFar) (g : Given) (a : ArgsJudgment) → AreArgs g a
+arrow_decides : (env : Environment) (ready : IsReady env) (name : List ℕ) (first : trees.Typing) (c : CallsSoFar) → IsCalledOn env first c → (g : Given) (a : ArgsJudgment) → AreArgs g a
     → Decides (arrow_typing name g env c) (arrow_args env name c a a.class)
-arrow_decides env well name c g a is =
-    subst (λ o. Decides (arrow_by env name g.values c g.class) (arrow_args env name c a o)) is.class (arrow_by_decides env well name c g a is g.class)
+arrow_decides env ready name first c on g a is =
+    subst (λ o. Decides (arrow_by env name g.values c g.class) (arrow_args env name c a o)) is.class (arrow_by_decides env ready name first c on g a is g.class)
 
-iterator_decides : (env : Environment) (well : AreWell env.metas) (c : CallsSoFar) (n variable : Name) (tree : Option TypeTree) (body : Meaning) (j : Judgment) → IsExpr body j
+iterator_decides : (env : Environment) (ready : IsReady env) (first : trees.Typing) (c : CallsSoFar) → IsCalledOn env first c → (n variable : Name) (tree : Option TypeTree) (body : Meaning) (j : Judgment) → IsExpr body j
     → Decides (iterator_typing n.text variable.text tree body.typing env c)
     (taking (iterator_variable_judged env variable.text tree c) (λ v. taking (j.part (with_variable env variable.text v)) (λ b. iterator_judged env.metas n.text (length env.variables) c b)))
-iterator_decides env well c n variable tree body j is =
-    taking_decides (iterator_variable env variable.text tree c) _ (iterator_variable_judged env variable.text tree c) _ (rules.iterator_variable_decides env well variable.text tree c)
+iterator_decides env ready first c on n variable tree body j is =
+    taking_decides (iterator_variable env variable.text tree c) _ (iterator_variable_judged env variable.text tree c) _ (rules.iterator_variable_decides env ready.well variable.text tree c)
     (λ (v : Variable) h. taking_decides (body.typing (with_variable env variable.text v)) (λ b. iterator_rule env.metas n.text (length env.variables) c b)
     (j.part (with_variable env variable.text v)) (λ b. iterator_judged env.metas n.text (length env.variables) c b)
-    (is.part (with_variable env variable.text v) well) (λ b k. rules.iterator_decides env.metas n.text (length env.variables) c b))
-
--- ---- the rules see trees through what is judged of them
-
-by_values {ℓ} : {A : Type 0} {B : Type ℓ} (f g : A → B) → ((x : A) → f x ≡ g x) → f ≡ g
-by_values f g same = λ i x. same x i
-
-each_mapped : {X : Type 0} (v : X → Expr) (k : Expr → Judgment) (env : Environment) (xs : List X) → each (λ x. k (v x)) env xs ≡ each k env (map v xs)
-unfolding each
-each_mapped v k env [] = refl
-each_mapped v k env (x ∷ xs) = ap (λ (j : Judged (List TypedPart)). taking (both ((k (v x)).part env) j) (λ p. gives (p.0 ∷ p.1))) (each_mapped v k env xs)
-
-linked_mapped : {X : Type 0} (v : X → Infix) (k : Infix → LinkJudgment) (env : Environment) (before : Judged State) (xs : List X)
-    → linked (λ x. k (v x)) env before xs ≡ linked k env before (map v xs)
-unfolding linked
-linked_mapped v k env before [] = refl
-linked_mapped v k env before (x ∷ xs) =
-    linked_mapped v k env (taking (both before ((k (v x)).right env)) (λ p. taking (linked_judged env.metas p.0.1 (k (v x)).operator p.1) (λ c. gives (p.0.0, c)))) xs
-
-called_mapped : {X : Type 0} (v : X → Postfix) (k : Postfix → CallJudgment) (env : Environment) (c : CallsSoFar) (xs : List X) → called (λ x. k (v x)) env c xs ≡ called k env c (map v xs)
-unfolding called
-called_mapped v k env c [] = refl
-called_mapped v k env c (x ∷ xs) = ap (taking ((k (v x)).after env c)) (by_values _ _ (λ next. called_mapped v k env next xs))
-
-called_part_mapped : {X : Type 0} (v : X → Postfix) (k : Postfix → CallJudgment) (env : Environment) (p : TypedPart) (xs : List X)
-    → called_part_judged (λ x. k (v x)) env p xs ≡ called_part_judged k env p (map v xs)
-called_part_mapped v k env p [] = refl
-called_part_mapped v k env p (x ∷ xs) = ap (λ (j : Judged CallsSoFar). taking j (λ c. gives (called_whole p c))) (called_mapped v k env (uncalled p) (x ∷ xs))
-
-first_mapped : {X : Type 0} (v : X → Postfix) (k : Postfix → CallJudgment) (env : Environment) (part : Judged TypedPart) (x : X) (xs : List X) (o : Option Path)
-    → first_judged (λ x. k (v x)) env part x xs o ≡ first_judged k env part (v x) (map v xs) o
-first_mapped v k env part x xs (Some path) = ap (taking (extent_judged env path)) (by_values _ _ (λ p. called_part_mapped v k env p xs))
-first_mapped v k env part x xs None = ap (taking part) (by_values _ _ (λ p. called_part_mapped v k env p (x ∷ xs)))
-
-calls_mapped : {X : Type 0} (v : X → Postfix) (k : Postfix → CallJudgment) (env : Environment) (part : Judgment) (xs : List X)
-    → calls_judged (λ x. k (v x)) env part xs ≡ calls_judged k env part (map v xs)
-calls_mapped v k env part [] = refl
-calls_mapped v k env part (x ∷ xs) = first_mapped v k env (part.part env) x xs (path_of_extent part.path (k (v x)).is_extent)
-
-judged_so : (Environment → Judged TypedPart) → Judgment
-judged_so part = record { path = None; part = part }
-
-module _ (X X' X'' X3 : Type 0) (v : X → Args) (v' : X' → Expr) (v'' : X'' → Postfix) (v3 : X3 → Infix)
-    (k : Args → ArgsJudgment) (k' : Expr → Judgment) (k'' : Postfix → CallJudgment) (k3 : Infix → LinkJudgment) where
-  args_seen : (x : of.Args-F X X' X'' X3)
-      → args_rule (λ y. k (v y)) (λ y. k' (v' y)) (λ y. k'' (v'' y)) (λ y. k3 (v3 y)) x ≡ args_rule k k' k'' k3 (map-Args X X' X'' X3 Args Expr Postfix Infix v v' v'' v3 x)
-  args_seen (of.Values []) = ap (λ f. record { class = None; is_empty = true; parts = f }) (by_values _ _ (λ env. each_mapped v' k' env []))
-  args_seen (of.Values (x ∷ xs)) = ap (λ f. record { class = None; is_empty = false; parts = f }) (by_values _ _ (λ env. each_mapped v' k' env (x ∷ xs)))
-  args_seen (of.Class path) = refl
-
-  call_seen : (x : of.Postfix-F X X' X'' X3)
-      → call_rule (λ y. k (v y)) (λ y. k' (v' y)) (λ y. k'' (v'' y)) (λ y. k3 (v3 y)) x ≡ call_rule k k' k'' k3 (map-Postfix X X' X'' X3 Args Expr Postfix Infix v v' v'' v3 x)
-  call_seen (of.Property n) = refl
-  call_seen (of.Dot n given span) = refl
-  call_seen (of.Arrow n given span) = refl
-  call_seen (of.Iterator n variable ty body span) = refl
-
-  link_seen : (x : of.Infix-F X X' X'' X3)
-      → link_rule_of (λ y. k (v y)) (λ y. k' (v' y)) (λ y. k'' (v'' y)) (λ y. k3 (v3 y)) x ≡ link_rule_of k k' k'' k3 (map-Infix X X' X'' X3 Args Expr Postfix Infix v v' v'' v3 x)
-  link_seen x = refl
-
-  expr_seen : (x : of.Expr-F X X' X'' X3)
-      → expr_rule (λ y. k (v y)) (λ y. k' (v' y)) (λ y. k'' (v'' y)) (λ y. k3 (v3 y)) x ≡ expr_rule k k' k'' k3 (map-Expr X X' X'' X3 Args Expr Postfix Infix v v' v'' v3 x)
-  unfolding judged_so
-  expr_seen (of.Let n ty value body span) = refl
-  expr_seen (of.Chain first rest span) = ap judged_so (by_values _ _ (λ env. ap (λ (j : Judged State). taking j (λ c. gives (chain_part c.0 c.1)))
-      (linked_mapped v3 k3 env (taking ((k' (v' first)).part env) (λ p. gives (p, unchained p))) rest)))
-  expr_seen (of.Not operand span) = refl
-  expr_seen (of.Negated operand span) = refl
-  expr_seen (of.Calls part calls span) = ap judged_so (by_values _ _ (λ env. calls_mapped v'' k'' env (k' (v' part)) calls))
-  expr_seen (of.Number value span) = refl
-  expr_seen (of.Str value span) = refl
-  expr_seen (of.Bool value span) = refl
-  expr_seen (of.Null span) = refl
-  expr_seen (of.Invalid span) = refl
-  expr_seen (of.Parens inner span) = refl
-  expr_seen (of.If condition one other span) = refl
-  expr_seen (of.Coll kind elements span) = ap judged_so (by_values _ _ (λ env. ap (λ (j : Judged (List TypedPart)). taking j (collection_judged env.metas kind)) (each_mapped v' k' env elements)))
-  expr_seen (of.Call n given span) = refl
-  expr_seen (of.Named path) = refl
+    (is.part (with_variable env variable.text v)
+    (ready_with env variable.text v ready (iterator_variable_kept env ready variable.text tree first c v on h) (iterator_variable_over env ready variable.text tree first c v on h))) (λ b k. rules.iterator_decides env.metas n.text (length env.variables) c b))
 
 -- ---- one layer of each kind of tree
 
 expr_told : (d : of.Expr-F Args Expr Postfix Infix)
-    → IsExpr (expr_step (map-Expr Args Expr Postfix Infix Given Meaning Calling Operated given meaning calling operated_by d)) (expr_rule args_judgment judgment call_judgment link_judgment d)
+    → IsComputed (expr_step (map-Expr Args Expr Postfix Infix Given Meaning Calling Operated given meaning calling operated_by d)) (expr_rule args_judgment judgment call_judgment link_judgment d)
     → ExprOf (roll-Expr d)
 unfolding ExprOf
 expr_told d is =
+    let layer : IsExpr (expr_step (map-Expr Args Expr Postfix Infix Given Meaning Calling Operated given meaning calling operated_by d)) (expr_rule args_judgment judgment call_judgment link_judgment d) =
+    record { path = is.path; part = is.part; typed = expr_rule_typed d } in
     subst (λ m. IsExpr m (judgment (roll-Expr d))) (sym (fold-roll-Expr Given Meaning Calling Operated args_step expr_step step_step link_step d))
     (subst (λ j. IsExpr (expr_step (map-Expr Args Expr Postfix Infix Given Meaning Calling Operated given meaning calling operated_by d)) j)
-    (sym (rec-roll-Expr ArgsJudgment Judgment CallJudgment LinkJudgment _ _ _ _ expr_seen d)) is)
+    (sym (expr_unrolled d)) layer)
 
 link_told : (d : of.Infix-F Args Expr Postfix Infix)
     → IsLink (link_step (map-Infix Args Expr Postfix Infix Given Meaning Calling Operated given meaning calling operated_by d)) (link_rule_of args_judgment judgment call_judgment link_judgment d)
@@ -398,25 +348,29 @@ unfolding LinkOf
 link_told d is =
     subst (λ m. IsLink m (link_judgment (roll-Infix d))) (sym (fold-roll-Infix Given Meaning Calling Operated args_step expr_step step_step link_step d))
     (subst (λ j. IsLink (link_step (map-Infix Args Expr Postfix Infix Given Meaning Calling Operated given meaning calling operated_by d)) j)
-    (sym (rec-roll-Infix ArgsJudgment Judgment CallJudgment LinkJudgment _ _ _ _ link_seen d)) is)
+    (sym (link_unrolled d)) is)
 
 call_told : (d : of.Postfix-F Args Expr Postfix Infix)
-    → IsCall (step_step (map-Postfix Args Expr Postfix Infix Given Meaning Calling Operated given meaning calling operated_by d)) (call_rule args_judgment judgment call_judgment link_judgment d)
+    → IsComputedCall (step_step (map-Postfix Args Expr Postfix Infix Given Meaning Calling Operated given meaning calling operated_by d)) (call_rule args_judgment judgment call_judgment link_judgment d)
     → CallOf (roll-Postfix d)
 unfolding CallOf
 call_told d is =
+    let layer : IsCall (step_step (map-Postfix Args Expr Postfix Infix Given Meaning Calling Operated given meaning calling operated_by d)) (call_rule args_judgment judgment call_judgment link_judgment d) =
+    record { is_extent = is.is_extent; after = is.after; typed = call_rule_typed d } in
     subst (λ m. IsCall m (call_judgment (roll-Postfix d))) (sym (fold-roll-Postfix Given Meaning Calling Operated args_step expr_step step_step link_step d))
     (subst (λ j. IsCall (step_step (map-Postfix Args Expr Postfix Infix Given Meaning Calling Operated given meaning calling operated_by d)) j)
-    (sym (rec-roll-Postfix ArgsJudgment Judgment CallJudgment LinkJudgment _ _ _ _ call_seen d)) is)
+    (sym (call_unrolled d)) layer)
 
 args_told : (d : of.Args-F Args Expr Postfix Infix)
-    → AreArgs (args_step (map-Args Args Expr Postfix Infix Given Meaning Calling Operated given meaning calling operated_by d)) (args_rule args_judgment judgment call_judgment link_judgment d)
+    → AreComputed (args_step (map-Args Args Expr Postfix Infix Given Meaning Calling Operated given meaning calling operated_by d)) (args_rule args_judgment judgment call_judgment link_judgment d)
     → ArgsOf (roll-Args d)
 unfolding ArgsOf
 args_told d is =
+    let layer : AreArgs (args_step (map-Args Args Expr Postfix Infix Given Meaning Calling Operated given meaning calling operated_by d)) (args_rule args_judgment judgment call_judgment link_judgment d) =
+    record { class = is.class; is_empty = is.is_empty; parts = is.parts; typed = args_rule_typed d } in
     subst (λ m. AreArgs m (args_judgment (roll-Args d))) (sym (fold-roll-Args Given Meaning Calling Operated args_step expr_step step_step link_step d))
     (subst (λ j. AreArgs (args_step (map-Args Args Expr Postfix Infix Given Meaning Calling Operated given meaning calling operated_by d)) j)
-    (sym (rec-roll-Args ArgsJudgment Judgment CallJudgment LinkJudgment _ _ _ _ args_seen d)) is)
+    (sym (args_unrolled d)) layer)
 
 -- what one layer holds, each tree with the fact
 abbrev HeldArgs : Type 0
@@ -446,72 +400,73 @@ no_values (v ∷ vs) = refl
 
 args_formed : (y : of.Args-F HeldArgs HeldExpr HeldCall HeldLink) → ArgsOf (roll-Args (trees_of_args y))
 unfolding parts_of each
-args_formed (of.Values vs) = args_told (of.Values (map (λ v. v.0) vs)) (record { class = refl; is_empty = no_values vs; parts = λ env well. parts_decide env well vs })
-args_formed (of.Class path) = args_told (of.Class path) (record { class = refl; is_empty = refl; parts = λ env well. subst (λ q. Decides q (gives [])) (sym (parts_are env [] [] ∙ unmoved _)) (gives_decides []) })
+args_formed (of.Values vs) = args_told (of.Values (map (λ v. v.0) vs)) (record { class = refl; is_empty = no_values vs; parts = λ env ready. parts_decide env ready vs })
+args_formed (of.Class path) = args_told (of.Class path) (record { class = refl; is_empty = refl; parts = λ env ready. subst (λ q. Decides q (gives [])) (sym (parts_are env [] [] ∙ unmoved _)) (gives_decides []) })
 
 call_formed : (y : of.Postfix-F HeldArgs HeldExpr HeldCall HeldLink) → CallOf (roll-Postfix (trees_of_call y))
 unfolding ArgsOf ExprOf
-call_formed (of.Property n) = call_told (of.Property n) (record { is_extent = refl; after = λ env c well. rules.property_decides env.metas n.text c })
+call_formed (of.Property n) = call_told (of.Property n) (record { is_extent = refl; after = λ env ready first c on. rules.property_decides env.metas n.text c })
 call_formed (of.Dot n a span) = call_told (of.Dot n a.0 span) (record {
   is_extent = ap (λ b. is_all_instances n.text && b) a.1.is_empty;
-  after = λ env c well. dot_decides env well n.text c (given a.0) (args_judgment a.0) a.1;
+  after = λ env ready first c on. dot_decides env ready n.text c (given a.0) (args_judgment a.0) a.1;
 })
 call_formed (of.Arrow n a span) = call_told (of.Arrow n a.0 span) (record {
   is_extent = refl;
-  after = λ env c well. arrow_decides env well n.text c (given a.0) (args_judgment a.0) a.1;
+  after = λ env ready first c on. arrow_decides env ready n.text first c on (given a.0) (args_judgment a.0) a.1;
 })
 call_formed (of.Iterator n variable ty body span) = call_told (of.Iterator n variable ty body.0 span) (record {
   is_extent = refl;
-  after = λ env c well. iterator_decides env well c n variable ty (meaning body.0) (judgment body.0) body.1;
+  after = λ env ready first c on. iterator_decides env ready first c on n variable ty (meaning body.0) (judgment body.0) body.1;
 })
 
 expr_formed : (y : of.Expr-F HeldArgs HeldExpr HeldCall HeldLink) → ExprOf (roll-Expr (trees_of_expr y))
 unfolding ArgsOf ExprOf
 expr_formed (of.Let n ty value body span) = expr_told (of.Let n ty value.0 body.0 span) (record {
   path = refl;
-  part = λ env well. let_decides env well n ty (meaning value.0) (meaning body.0) (judgment value.0) (judgment body.0) value.1 body.1;
+  part = λ env ready. let_decides env ready n ty (meaning value.0) (meaning body.0) (judgment value.0) (judgment body.0) value.1 body.1;
 })
 expr_formed (of.Chain first rest span) = expr_told (of.Chain first.0 (map (λ v. v.0) rest) span) (record {
   path = refl;
-  part = λ env well. chain_decides env well (meaning first.0) (judgment first.0) rest first.1;
+  part = λ env ready. chain_decides env ready (meaning first.0) (judgment first.0) rest first.1;
 })
 expr_formed (of.Not operand span) = expr_told (of.Not operand.0 span) (record {
   path = refl;
-  part = λ env well. taking_decides ((meaning operand.0).typing env) (not_rule env.metas) ((judgment operand.0).part env) (not_judged env.metas) (operand.1.part env well) (λ p h. rules.not_decides env.metas p);
+  part = λ env ready. taking_decides ((meaning operand.0).typing env) (not_rule env.metas) ((judgment operand.0).part env) (not_judged env.metas) (operand.1.part env ready) (λ p h. rules.not_decides env.metas p);
 })
 expr_formed (of.Negated operand span) = expr_told (of.Negated operand.0 span) (record {
   path = refl;
-  part = λ env well. taking_decides ((meaning operand.0).typing env) (negated_rule env.metas) ((judgment operand.0).part env) (negated_judged env.metas) (operand.1.part env well) (λ p h. rules.negated_decides env.metas p);
+  part = λ env ready. taking_decides ((meaning operand.0).typing env) (negated_rule env.metas) ((judgment operand.0).part env) (negated_judged env.metas) (operand.1.part env ready) (λ p h. rules.negated_decides env.metas p);
 })
 expr_formed (of.Calls part rest span) = expr_told (of.Calls part.0 (map (λ v. v.0) rest) span) (record {
   path = refl;
-  part = λ env well. calls_decide env well (meaning part.0) (judgment part.0) rest part.1;
+  part = λ env ready. calls_decide env ready (meaning part.0) (judgment part.0) rest part.1;
 })
-expr_formed (of.Number value span) = expr_told (of.Number value span) (record { path = refl; part = λ env well. gives_decides _ })
-expr_formed (of.Str value span) = expr_told (of.Str value span) (record { path = refl; part = λ env well. gives_decides _ })
-expr_formed (of.Bool value span) = expr_told (of.Bool value span) (record { path = refl; part = λ env well. gives_decides _ })
-expr_formed (of.Null span) = expr_told (of.Null span) (record { path = refl; part = λ env well. gives_decides _ })
-expr_formed (of.Invalid span) = expr_told (of.Invalid span) (record { path = refl; part = λ env well. gives_decides _ })
-expr_formed (of.Parens inner span) = expr_told (of.Parens inner.0 span) (record { path = refl; part = λ env well. inner.1.part env well })
+expr_formed (of.Number value span) = expr_told (of.Number value span) (record { path = refl; part = λ env ready. gives_decides _ })
+expr_formed (of.Str value span) = expr_told (of.Str value span) (record { path = refl; part = λ env ready. gives_decides _ })
+expr_formed (of.Bool value span) = expr_told (of.Bool value span) (record { path = refl; part = λ env ready. gives_decides _ })
+expr_formed (of.Null span) = expr_told (of.Null span) (record { path = refl; part = λ env ready. gives_decides _ })
+expr_formed (of.Invalid span) = expr_told (of.Invalid span) (record { path = refl; part = λ env ready. gives_decides _ })
+expr_formed (of.Parens inner span) = expr_told (of.Parens inner.0 span) (record { path = refl; part = λ env ready. inner.1.part env ready })
 expr_formed (of.If condition one other span) = expr_told (of.If condition.0 one.0 other.0 span) (record {
   path = refl;
-  part = λ env well. if_decides env well (meaning condition.0) (meaning one.0) (meaning other.0) (judgment condition.0) (judgment one.0) (judgment other.0) condition.1 one.1 other.1;
+  part = λ env ready. if_decides env ready (meaning condition.0) (meaning one.0) (meaning other.0) (judgment condition.0) (judgment one.0) (judgment other.0) condition.1 one.1 other.1;
 })
 expr_formed (of.Coll kind elements span) = expr_told (of.Coll kind (map (λ v. v.0) elements) span) (record {
   path = refl;
-  part = λ env well. taking_decides (parts_from env [] (map (λ (m : Meaning). m.typing) (map meaning (map (λ v. v.0) elements)))) (literal_rule env.metas kind)
-      (each judgment env (map (λ v. v.0) elements)) (collection_judged env.metas kind) (parts_decide env well elements) (λ ps h. rules.collection_decides env.metas kind ps);
+  part = λ env ready. taking_decides (parts_from env [] (map (λ (m : Meaning). m.typing) (map meaning (map (λ v. v.0) elements)))) (literal_rule env.metas kind)
+      (each judgment env (map (λ v. v.0) elements)) (collection_judged env.metas kind) (parts_decide env ready elements)
+      (λ ps h. rules.collection_decides env.metas ready.well kind ps (parts_over env ready ps (each_parts env ready (map (λ v. v.0) elements) ps h)));
 })
 expr_formed (of.Call n a span) = expr_told (of.Call n a.0 span) (record {
   path = refl;
-  part = λ env well. query_decides env well n.text (given a.0) (args_judgment a.0) a.1;
+  part = λ env ready. query_decides env ready n.text (given a.0) (args_judgment a.0) a.1;
 })
-expr_formed (of.Named path) = expr_told (of.Named path) (record { path = refl; part = λ env well. rules.path_decides env path })
+expr_formed (of.Named path) = expr_told (of.Named path) (record { path = refl; part = λ env ready. rules.path_decides env path })
 
 link_formed : (y : of.Infix-F HeldArgs HeldExpr HeldCall HeldLink) → LinkOf (roll-Infix (map-Infix HeldArgs HeldExpr HeldCall HeldLink Args Expr Postfix Infix (λ e. e.0) (λ e. e.0) (λ e. e.0) (λ e. e.0) y))
 unfolding ExprOf
 link_formed y = link_told (map-Infix HeldArgs HeldExpr HeldCall HeldLink Args Expr Postfix Infix (λ e. e.0) (λ e. e.0) (λ e. e.0) (λ e. e.0) y)
-    (record { operator = refl; right = λ env well. y.right.1.part env well })
+    (record { operator = refl; right = λ env ready. y.right.1.part env ready })
 
 -- each expression
 pub told : (e : Expr) → ExprOf e
@@ -522,26 +477,26 @@ told = ind-Expr ArgsOf ExprOf CallOf LinkOf
     (λ x y is. subst (λ d. LinkOf (roll-Infix d)) is (link_formed y))
 
 -- what an expression is, by the relation and by the search for the first fault
-pub decided : (env : Environment) → AreWell env.metas → (e : Expr) → Decides (part_of env e) ((judgment e).part env)
+pub decided : (env : Environment) → IsReady env → (e : Expr) → Decides (part_of env e) ((judgment e).part env)
 unfolding part_of ExprOf
-decided env well e = (told e).part env well
+decided env ready e = (told e).part env ready
 
-module _ (env : Environment) (well : AreWell env.metas) (e : Expr) where
+module _ (env : Environment) (order : IsInOrder env) (e : Expr) where
   has_type : (p : TypedPart) → part_of env e ≡ Ok p → HasType env e p
   unfolding HasType
-  has_type p is = (decided env well e).told p is
+  has_type p is = (decided env (ready env order) e).told p is
 
   of_type : (p : TypedPart) → HasType env e p → part_of env e ≡ Ok p
   unfolding HasType
-  of_type p has = (decided env well e).only p has
+  of_type p has = (decided env (ready env order) e).only p has
 
   fault_stands : (f : TypeFault) → part_of env e ≡ Err f → Stands env e f
   unfolding Stands
-  fault_stands f is = (decided env well e).fault f is
+  fault_stands f is = (decided env (ready env order) e).fault f is
 
   refused_where : (f : TypeFault) → Stands env e f → (p : TypedPart) → part_of env e ≡ Ok p → ⊥
   unfolding Stands
-  refused_where f stands p is = (decided env well e).refused f stands p is
+  refused_where f stands p is = (decided env (ready env order) e).refused f stands p is
 
   tree_ok : (r : RuleResult TypedPart) (t : Typed) → and_then r (λ p. Ok (tree_of p)) ≡ Ok t → (p : TypedPart) × (r ≡ Ok p) × (t ≡ tree_of p)
   tree_ok (Ok p) t h = (p, refl, ok_ok (Ok t) t (tree_of p) refl (sym h))

@@ -157,7 +157,7 @@ module _ (metas : List MetaDesc) (well : AreWell metas) where
   fits_exactly a b = by_exactly a b (class_of a) (class_of b)
 
 module _ (metas : List MetaDesc) where
-  among_scanned : (cur : Ty) (types : List Ty) → (fold (higher metas) cur types ≡ cur) ⊎ Contains types (fold (higher metas) cur types)
+  pub among_scanned : (cur : Ty) (types : List Ty) → (fold (higher metas) cur types ≡ cur) ⊎ Contains types (fold (higher metas) cur types)
   among_scanned cur [] = inl refl
   among_scanned cur (x ∷ types) = by (fits metas cur x) refl (among_scanned (higher metas cur x) types)
     where

@@ -122,6 +122,18 @@ with_variable env name variable = record env { variables = with_value env.variab
 abbrev pub with_query : Environment → List ℕ → Signature → Environment
 with_query env name signature = record env { queries = with_value env.queries name signature }
 
+-- without the variables
+abbrev pub without_variables : Environment → Environment
+without_variables env = record env { variables = [] }
+
+-- without the queries
+abbrev pub without_queries : Environment → Environment
+without_queries env = record env { queries = [] }
+
+-- without both: the metamodels and the models
+abbrev pub without_names : Environment → Environment
+without_names env = record env { variables = []; queries = [] }
+
 abbrev pub nothing_in_reach : Environment
 nothing_in_reach = record { metas = []; names = []; models = []; variables = []; queries = [] }
 

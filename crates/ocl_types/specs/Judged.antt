@@ -21,6 +21,10 @@ refuses f = record { has = λ y. ⊥; stands = λ g. g ≡ f }
 abbrev pub tells : {X : Type 0} → RuleResult X → Judged X
 tells r = record { has = λ x. r ≡ Ok x; stands = λ f. r ≡ Err f }
 
+-- what a relation says; where it says nothing of anything, faults that are named stand
+abbrev pub says : {X : Type 0} → (X → Type 0) → (TypeFault → Type 0) → Judged X
+says {X = X} R S = record { has = R; stands = λ f. ((x : X) → ¬ (R x)) × S f }
+
 -- a demand: where it isn't met, its fault stands
 abbrev pub asks : {X : Type 0} → Type 0 → TypeFault → Judged X → Judged X
 asks P f rest = record { has = λ x. P × rest.has x; stands = λ g. ((¬ P) × (g ≡ f)) ⊎ rest.stands g }

@@ -4,6 +4,8 @@ pub mod Naming
 pub mod Classifiers
 pub mod Written
 pub mod Finding
+pub mod Meanings
+pub mod ClassifierIndexes
 pub mod Conformance
 pub mod Navigation
 pub mod Operations
@@ -21,3 +23,6 @@ pub mod Forms
 pub mod Judged
 pub mod TypeRules
 pub mod HasType
+pub mod QueryCalls
+pub mod QueryTyping
+pub mod TypedContext

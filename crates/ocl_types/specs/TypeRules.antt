@@ -1,6 +1,6 @@
 -- The rules of typing (OCL 2.4, chapters 7, 9 and 11): what each form asks of its parts, which have types, and what it is then. Each
 -- demand stands with the fault of where it isn't met, and demands have no order.
-use Rattle.std.specs.Prelude.{◌≡◌, ℕ, Bool, true, false, List, [], ◌∷◌, Option, None, Some, IsTrue, length, codes, encode_utf8_all}
+use Rattle.std.specs.Prelude.{◌≡◌, ◌⊎◌, ℕ, Bool, true, false, map, Contains, List, [], ◌∷◌, Option, None, Some, IsTrue, length, codes, encode_utf8_all}
 use Rattle.mof_metamodel.specs.declared.desc.MetaDesc.{MetaDesc}
 use Rattle.qv_syntax.specs.declared.name.Path.{Path}
 use Rattle.qv_syntax.specs.declared.operator.Operator.{Operator}
@@ -13,6 +13,11 @@ use Rattle.qv_syntax.specs.declared.type_tree.Kind.{Kind}
 use Rattle.qv_syntax.specs.declared.type_tree.TypeTree.{TypeTree}
 use Rattle.qv_syntax.specs.declared.typed.Call.TheVariants as calls
 use Rattle.qv_syntax.specs.declared.typed.Node.TheVariants as nodes
+use Rattle.qv_syntax.specs.Types.{ConformsTo, IsTopOf, IsWrittenType, IsOneModel}
+use Rattle.qv_syntax.specs.TypeRules.{Branches, Elements}
+use Rattle.ocl_types.specs.declared.collection_operations.Argument.{Argument}
+use Rattle.ocl_types.specs.declared.collection_operations.Argument.TheVariants as arguments
+use Rattle.ocl_types.specs.declared.fault.TypeFault.{TypeFault}
 use Rattle.ocl_types.specs.declared.fault.TypeFault.TheVariants.{UnknownName, DuplicateName, WrongCount, ModelMix}
 use Rattle.ocl_types.specs.declared.part.TypedPart.{TypedPart}
 use Rattle.ocl_types.specs.declared.part.CallsSoFar.{CallsSoFar}
@@ -26,13 +31,13 @@ use Rattle.ocl_types.specs.Navigation.{navigated}
 use Rattle.ocl_types.specs.Operations.{operation_row, class_row, collection_row, iterator_row, operation_named, class_operation_named, collection_operation_named, iterator_named}
 use Rattle.ocl_types.specs.Signatures.{is_receiver, parameter_count, parameter_type, result_type, argument_count, is_of_kind, collected_kind}
 use Rattle.ocl_types.specs.Outcomes.{wrong_type}
-use Rattle.ocl_types.specs.Agreement.{collection_parts, model_for, same_type, joined_models}
-use Rattle.ocl_types.specs.Parts.{tree_of, trees_of, types_of, plain_part, with_models, one_model, and_called}
-use Rattle.ocl_types.specs.TypingScopes.{declared_type}
-use Rattle.ocl_types.specs.TypingOperators.{are_comparable, branches, literal_type, and_linked}
+use Rattle.ocl_types.specs.Agreement.{collection_parts, model_for, same_type}
+use Rattle.ocl_types.specs.Parts.{tree_of, trees_of, types_of, plain_part, and_called}
+use Rattle.ocl_types.specs.Written.{written}
+use Rattle.ocl_types.specs.TypingOperators.{are_comparable, and_linked}
 use Rattle.ocl_types.specs.TypingSteps.{property_of, called_with, is_of_meta, tested, extent_part, query_part}
-use Rattle.ocl_types.specs.TypingCollections.{kind_of, element_of, given_types, operated_on, iterated}
-use Rattle.ocl_types.specs.Judged.{Judged, gives, tells, asks, finds, taking, both}
+use Rattle.ocl_types.specs.TypingCollections.{kind_of, element_of, operated_on, iterated}
+use Rattle.ocl_types.specs.Judged.{Judged, gives, tells, says, asks, finds, taking, both}
 
 -- this very type is asked for
 abbrev pub being : {X : Type 0} → List MetaDesc → Ty → Ty → Judged X → Judged X
@@ -41,6 +46,18 @@ being metas wanted found rest = asks (found ≡ wanted) (wrong_type metas wanted
 -- a type that conforms to another is asked for
 abbrev pub conforming : {X : Type 0} → List MetaDesc → Ty → Ty → Judged X → Judged X
 conforming metas wanted found rest = asks (TypeConforms metas found wanted) (wrong_type metas wanted found) rest
+
+-- the type to which both conform, one of the two
+abbrev pub top_judged : List MetaDesc → Ty → Ty → Judged Ty
+top_judged metas a b = says (IsTopOf metas (a ∷ b ∷ [])) (λ f. f ≡ wrong_type metas a b)
+
+-- the models of parts, where they have one
+abbrev pub part_models : List TypedPart → List (Option ℕ)
+part_models parts = map (λ p. p.model) parts
+
+-- objects of one model are asked for
+abbrev pub one_model_judged : List ℕ → List (Option ℕ) → Judged (Option ℕ)
+one_model_judged name models = says (IsOneModel models) (λ f. f ≡ ModelMix name)
 
 -- ---- names (section 9.4)
 
@@ -98,18 +115,40 @@ negated_judged metas p = being metas types.Int p.ty (gives (plain_part types.Int
 
 -- ---- if (section 7.5.5): a condition, branches that go together, and objects of one model
 
+abbrev pub branches_judged : List MetaDesc → Ty → Ty → Judged Ty
+branches_judged metas a b = says (Branches metas a b) (λ f. f ≡ wrong_type metas a b)
+
 abbrev pub if_judged : List MetaDesc → TypedPart → TypedPart → TypedPart → Judged TypedPart
 if_judged metas c a b =
     being metas types.Bool c.ty (
-    taking (both (tells (branches metas a.ty b.ty)) (tells (one_model (codes "if") (joined_models a.model b.model)))) (λ t.
+    taking (both (branches_judged metas a.ty b.ty) (one_model_judged (codes "if") (a.model ∷ b.model ∷ []))) (λ t.
     gives (record { ty = t.0; model = t.1; node = nodes.If (tree_of c) (tree_of a) (tree_of b) })))
 
 -- ---- collection literals (section 7.5.5): elements that go together, and objects of one model
 
+-- one of the types doesn't conform to another: these two are named
+abbrev pub DoNotAgree : List MetaDesc → List Ty → TypeFault → Type 0
+DoNotAgree metas tys f = (top : Ty) × (ty : Ty) × Contains tys top × Contains tys ty × (¬ (ConformsTo metas ty top)) × (f ≡ wrong_type metas top ty)
+
+-- the elements are collections: no collection holds collections
+abbrev pub IsNested : List MetaDesc → Ty → TypeFault → Type 0
+IsNested metas ty f = (kind : Kind) × (inner : Ty) × (ty ≡ types.Coll kind inner) × (f ≡ wrong_type metas inner ty)
+
+abbrev pub elements_judged : List MetaDesc → List Ty → Judged Ty
+elements_judged metas tys = says (Elements metas tys) (λ f. DoNotAgree metas tys f ⊎ ((top : Ty) × IsTopOf metas tys top × IsNested metas top f))
+
 abbrev pub collection_judged : List MetaDesc → Kind → List TypedPart → Judged TypedPart
 collection_judged metas kind elements =
-    taking (both (tells (literal_type metas (types_of elements))) (tells (one_model (kind_text kind) (with_models None elements)))) (λ t.
+    taking (both (elements_judged metas (types_of elements)) (one_model_judged (kind_text kind) (part_models elements))) (λ t.
     gives (record { ty = types.Coll kind t.0; model = t.1; node = nodes.Coll kind (trees_of elements) }))
+
+-- ---- types that are declared: of single values, or collections of these (section 7.4)
+
+abbrev pub flat_judged : List MetaDesc → Ty → Judged Ty
+flat_judged metas ty = says (λ t. (t ≡ ty) × IsWrittenType metas t) (λ f. (kind : Kind) × (inner : Ty) × (ty ≡ types.Coll kind inner) × IsNested metas inner f)
+
+abbrev pub declared_judged : Environment → TypeTree → Judged Ty
+declared_judged env tree = taking (tells (written env tree)) (flat_judged env.metas)
 
 -- ---- let (section 7.4.3)
 
@@ -119,7 +158,7 @@ free_judged env name rest = asks (is_bound env name ≡ false) (DuplicateName na
 
 -- the type that is written for a variable of a name that is free
 abbrev pub let_judged : Environment → List ℕ → TypeTree → Judged Ty
-let_judged env name tree = free_judged env name (tells (declared_type env tree))
+let_judged env name tree = free_judged env name (declared_judged env tree)
 
 -- the variable, of its type and a value
 abbrev pub bound_judged : List MetaDesc → Ty → TypedPart → Judged Variable
@@ -187,13 +226,32 @@ abbrev pub summed_judged : List MetaDesc → CollectionOperation → Ty → Judg
 summed_judged metas collections.Sum of rest = being metas types.Int of rest
 summed_judged metas operation of rest = rest
 
+-- the type to which the elements conform and what is given: an element, a collection, or one of the same kind; an index is an Integer
+abbrev pub GivenConforms : List MetaDesc → Argument → Kind → Ty → List Ty → Ty → Type 0
+GivenConforms metas arguments.Nothing kind of args u = (args ≡ []) × (u ≡ of)
+GivenConforms metas arguments.Element kind of args u = (e : Ty) × (args ≡ e ∷ []) × IsTopOf metas (of ∷ e ∷ []) u
+GivenConforms metas arguments.Collection kind of args u = (other : Kind) × (e : Ty) × (args ≡ types.Coll other e ∷ []) × IsTopOf metas (of ∷ e ∷ []) u
+GivenConforms metas arguments.SameKind kind of args u = (e : Ty) × (args ≡ types.Coll kind e ∷ []) × IsTopOf metas (of ∷ e ∷ []) u
+GivenConforms metas arguments.Index kind of args u = (args ≡ types.Int ∷ []) × (u ≡ of)
+
+-- what is given in place of what is asked for, by its type, or that of its elements
+abbrev pub IsMisgiven : List MetaDesc → Argument → Kind → Ty → Ty → TypeFault → Type 0
+IsMisgiven metas arguments.Nothing kind of ty f = ⊥
+IsMisgiven metas arguments.Element kind of ty f = f ≡ wrong_type metas of ty
+IsMisgiven metas arguments.Collection kind of ty f = (f ≡ wrong_type metas (types.Coll kind of) ty) ⊎ ((other : Kind) × (e : Ty) × (ty ≡ types.Coll other e) × (f ≡ wrong_type metas of e))
+IsMisgiven metas arguments.SameKind kind of ty f = (f ≡ wrong_type metas (types.Coll kind of) ty) ⊎ ((e : Ty) × (ty ≡ types.Coll kind e) × (f ≡ wrong_type metas of e))
+IsMisgiven metas arguments.Index kind of ty f = f ≡ wrong_type metas types.Int ty
+
+abbrev pub given_judged : List MetaDesc → Argument → Kind → Ty → List Ty → Judged Ty
+given_judged metas argument kind of args = says (GivenConforms metas argument kind of args) (λ f. (ty : Ty) × (args ≡ ty ∷ []) × IsMisgiven metas argument kind of ty f)
+
 abbrev pub collection_operation_judged : List MetaDesc → List ℕ → CallsSoFar → List TypedPart → Judged CallsSoFar
 collection_operation_judged metas name c args =
     finds (collection_operation_named (encode_utf8_all name)) (UnknownName name) (λ operation.
     asks (IsTrue (is_of_kind (collection_row operation).kinds (kind_of c.ty))) (UnknownName name) (
     asks (length args ≡ argument_count (collection_row operation).argument) (WrongCount name) (
     summed_judged metas operation (element_of c.ty) (
-    taking (both (tells (given_types metas (collection_row operation).argument (kind_of c.ty) (element_of c.ty) args)) (tells (one_model name (with_models c.model args)))) (λ t.
+    taking (both (given_judged metas (collection_row operation).argument (kind_of c.ty) (element_of c.ty) (types_of args)) (one_model_judged name (c.model ∷ part_models args))) (λ t.
     gives (operated_on c operation args (kind_of c.ty) (element_of c.ty) t.0 t.1))))))
 
 -- ---- iterators (section 11.9)
@@ -201,7 +259,7 @@ collection_operation_judged metas name c args =
 -- the type of the variable: that of the elements, or a written one to which this conforms
 abbrev pub variable_type_judged : Environment → Option TypeTree → Ty → Judged Ty
 variable_type_judged env None of = gives of
-variable_type_judged env (Some tree) of = taking (tells (declared_type env tree)) (λ ty. conforming env.metas ty of (gives ty))
+variable_type_judged env (Some tree) of = taking (declared_judged env tree) (λ ty. conforming env.metas ty of (gives ty))
 
 abbrev pub iterator_variable_judged : Environment → List ℕ → Option TypeTree → CallsSoFar → Judged Variable
 iterator_variable_judged env name tree c = free_judged env name (taking (variable_type_judged env tree (element_of c.ty)) (λ ty. gives (record { ty = ty; model = c.model })))

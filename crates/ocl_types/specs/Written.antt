@@ -1,5 +1,5 @@
 -- The types that are written in a script.
-use Rattle.std.specs.Prelude.{◌≡◌, ℕ, List, Option, None, Some, Result, Ok, Err}
+use Rattle.std.specs.Prelude.{◌≡◌, ℕ, List, Option, None, Some, Result, Ok, Err, IfErr, IfSome}
 use Rattle.qv_syntax.specs.declared.ty.Ty.{Ty}
 use Rattle.qv_syntax.specs.declared.ty.Ty.TheVariants as types
 use Rattle.qv_syntax.specs.declared.type_tree.Kind.{Kind}
@@ -33,6 +33,15 @@ written_step env (of.Coll kind inner span) = collection_of kind inner
 -- the type that is written, or the fault: a path that doesn't name one class or enumeration alone
 abbrev pub written : Environment → TypeTree → Result Ty TypeFault
 written env = fold-TypeTree (Result Ty TypeFault) (written_step env)
+
+-- the fault that an error holds
+abbrev pub fault_in : TypeError → Option TypeFault
+fault_in (errors.Fault f) = Some f
+fault_in errors.NoMemory = None
+
+-- of a fault that a function answers
+abbrev pub IfFault : {X : Type 0} → Result X TypeError → (TypeFault → Type 0) → Type 0
+IfFault result P = IfErr result (λ e. IfSome (fault_in e) P)
 
 -- the error is the fault that stands, unless memory ran out
 abbrev pub Fails : {X : Type 0} → TypeError → Result X TypeFault → Type 0

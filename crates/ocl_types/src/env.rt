@@ -1,11 +1,12 @@
 ghost use Rattle.std.specs.Prelude.{◌≡◌, ◌<◌, ◌≤◌, [], length, false, IfSome, IsTrue, None, Some, IfOk, OnOk, OnErr};
 ghost use Rattle.std.specs.Option.{option_map};
 
-use crate::classifier::{Classifier, Wanted};
+use crate::classifier::Wanted;
+use crate::classifier_index::ClassifierIndex;
 use crate::extents::{only_model, only_models};
 use crate::limits::MAX_NUMBERED;
 use crate::literals::find_literal;
-use crate::look_up::{find_path, type_of};
+use crate::look_up::{class_alone, find_path, type_of};
 use crate::metas::Metas;
 use crate::of_types::{are_types, class_of, is_type};
 use crate::variable::{Signature, Variable};
@@ -25,12 +26,15 @@ pub struct Env<'a> {
     queries: NameTable<Signature>,
     /// The one model of each metamodel that has one alone.
     only_models: Seq<Option<u32>>,
+    /// The classes and enumerations of the metamodels by their names.
+    classifiers: ClassifierIndex,
 }
 
 impl<'a> Model for Env<'a> {
     ghost use Rattle.std.specs.Coded.{codes};
     ghost use Rattle.qv_syntax.specs.contracts.ty.Ty as ty;
     ghost use Rattle.ocl_types.specs.Environments.{Environment, IsInOrder, IsTabled};
+    ghost use Rattle.ocl_types.specs.ClassifierIndexes.{IsIndexOf};
 
     ghost Value = { Environment };
 
@@ -38,13 +42,14 @@ impl<'a> Model for Env<'a> {
 
     ghost view = { λ e. record { metas = e.metas.now; names = e.names; models = e.models; variables = e.variables; queries = e.queries } };
 
-    ghost invariant = { λ e. IsInOrder (record { metas = e.metas.now; names = e.names; models = e.models; variables = e.variables; queries = e.queries }) × IsTabled e.models e.only_models };
+    ghost invariant = { λ e. IsInOrder (record { metas = e.metas.now; names = e.names; models = e.models; variables = e.variables; queries = e.queries }) × IsTabled e.models e.only_models × IsIndexOf e.metas.now e.names e.classifiers };
 }
 
 impl<'a> Env<'a> {
+    ghost use Rattle.std.specs.List.{list_all};
     ghost use Rattle.ocl_types.specs.Naming.{names_of};
     ghost use Rattle.ocl_types.specs.Classifiers.{named_type as type_named, named_class as class_named, named_literal as literal_named};
-    ghost use Rattle.ocl_types.specs.Environments.{nothing_in_reach, AreWell, have_metas, is_type as typed, is_object_type as object_typed, are_types as all_typed, is_variable, is_bound as bound, is_query_bound as query_bound, with_variable, with_query, number_of, value_of, most, only_model as model_alone};
+    ghost use Rattle.ocl_types.specs.Environments.{nothing_in_reach, AreWell, IsInOrder, have_metas, is_type as typed, is_object_type as object_typed, are_types as all_typed, is_variable, is_bound as bound, is_query_bound as query_bound, with_variable, with_query, without_variables, number_of, value_of, most, only_model as model_alone};
 
     /// Nothing in reach, and no metamodels.
     pub fn new(alloc: Global) -> Env<'a>
@@ -57,6 +62,7 @@ impl<'a> Env<'a> {
             variables: NameTable::new(alloc),
             queries: NameTable::new(alloc),
             only_models: Seq::new(alloc),
+            classifiers: ClassifierIndex::new(alloc),
         }
     }
 
@@ -80,6 +86,7 @@ impl<'a> Env<'a> {
             return Err(NoMemory);
         }
         let only_models = only_models(alloc, models.as_slice(), metas.len())?;
+        let classifiers = ClassifierIndex::over(alloc, metas.as_slice(), names.as_slice())?;
         Ok(Env {
             metas: metas.as_slice(),
             names,
@@ -87,6 +94,7 @@ impl<'a> Env<'a> {
             variables: NameTable::new(alloc),
             queries: NameTable::new(alloc),
             only_models,
+            classifiers,
         })
     }
 
@@ -143,6 +151,13 @@ impl<'a> Env<'a> {
         }
     }
 
+    /// How many queries are in reach.
+    pub(crate) fn query_count(&self) -> usize
+        ensures { result ≡ length self.now.queries }
+    {
+        self.queries.len()
+    }
+
     /// The number of a query, and its types.
     pub(crate) fn query(&self, name: &Text) -> Option<(u32, &Signature)>
         ensures number { option_map (λ q. q.0) result ≡ number_of self.now.queries name.now }
@@ -153,16 +168,10 @@ impl<'a> Env<'a> {
     }
 
     /// The type that a path names: the class or the enumeration, if it names one alone.
-    #[tactic(auto, using(crate::proofs::FindLaws::one_found))]
     pub(crate) fn named_type(&self, path: &Path) -> Option<Ty>
         ensures { result ≡ type_named self.now (names_of path.now) }
     {
-        let found = find_path(
-            Wanted::Types,
-            self.metas,
-            self.names.as_slice(),
-            path.names.as_slice(),
-        );
+        let found = find_path(&self.classifiers, Wanted::Types, path.names.as_slice());
         match found.one() {
             Some(classifier) => Some(type_of(classifier)),
             None => None,
@@ -170,19 +179,12 @@ impl<'a> Env<'a> {
     }
 
     /// The class that a path names, with the number of its metamodel, if it names one class alone.
-    #[tactic(auto, using(crate::proofs::FindLaws::one_found))]
     pub(crate) fn named_class(&self, path: &Path) -> Option<(u32, ClassId)>
         ensures { result ≡ class_named self.now (names_of path.now) }
     {
-        let found = find_path(
-            Wanted::Classes,
-            self.metas,
-            self.names.as_slice(),
-            path.names.as_slice(),
-        );
+        let found = find_path(&self.classifiers, Wanted::Classes, path.names.as_slice());
         match found.one() {
-            Some(Classifier::Class(m, c)) => Some((m, c)),
-            Some(Classifier::Enum(_, _)) => None,
+            Some(classifier) => class_alone(classifier),
             None => None,
         }
     }
@@ -191,7 +193,7 @@ impl<'a> Env<'a> {
     pub(crate) fn named_literal(&self, path: &Path) -> Option<(u32, EnumId, u32)>
         ensures { result ≡ literal_named self.now (names_of path.now) }
     {
-        find_literal(self.metas, self.names.as_slice(), path.names.as_slice())
+        find_literal(&self.classifiers, self.metas, path.names.as_slice())
     }
 
     /// Whether a variable may have the type.
@@ -270,6 +272,32 @@ impl<'a> Env<'a> {
         )
     }
 
+    /// Takes all variables out of reach. What a script has once, its metamodels, models and queries, stays.
+    pub fn forget_variables(&mut self, alloc: Global)
+        ensures { self.new ≡ without_variables self.old }
+    {
+        let _variables = self.take_variables(alloc);
+    }
+
+    /// Takes all variables out of reach, and hands them out.
+    pub(crate) fn take_variables(&mut self, alloc: Global) -> NameTable<Variable>
+        ensures taken { result ≡ self.old.variables }
+        ensures left { self.new ≡ without_variables self.old }
+        ensures typed { IsTrue (list_all (is_variable self.old) result) }
+        ensures few { length result ≤ most }
+    {
+        std::mem::replace(&mut self.variables, NameTable::new(alloc))
+    }
+
+    /// Puts variables in the place of those in reach.
+    pub(crate) fn put_variables(&mut self, variables: NameTable<Variable>)
+        requires typed { IsTrue (list_all (is_variable self.old) variables) }
+        requires few { length variables ≤ most }
+        ensures { self.new ≡ record self.old { variables = variables } }
+    {
+        self.variables = variables;
+    }
+
     /// Brings a query into reach: the types of its parameters and of its result.
     ///
     /// # Errors
@@ -297,5 +325,12 @@ impl<'a> Env<'a> {
                 result: result_type,
             },
         )
+    }
+
+    /// Numbers of metamodels are in range, and types are such that a variable may have them.
+    pub(crate) fn in_order(&self)
+        ensures { IsInOrder self.now }
+    {
+        let _ = &self.metas;
     }
 }

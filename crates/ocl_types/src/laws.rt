@@ -1,4 +1,4 @@
-ghost use Rattle.std.specs.Prelude.{◌≡◌, ◌↔◌, IsTrue, List, ◌∷◌, Ok, Err};
+ghost use Rattle.std.specs.Prelude.{◌≡◌, ◌↔◌, ℕ, IsTrue, List, ◌∷◌, length, Option, Ok, Err};
 ghost use Rattle.qv_syntax.specs.declared.expr.Expr.{Expr};
 ghost use Rattle.qv_syntax.specs.declared.typed.Typed.{Typed};
 ghost use Rattle.ocl_types.specs.declared.fault.TypeFault.{TypeFault};
@@ -8,6 +8,20 @@ ghost use Rattle.ocl_types.specs.HasType.{HasType, HasTree, Stands};
 ghost use Rattle.qv_syntax.specs.declared.ty.Ty.{Ty};
 ghost use Rattle.ocl_types.specs.Agreement.{same_type, fits, agreed, IsTop};
 ghost use Rattle.ocl_types.specs.Conformance.{TypeConforms};
+ghost use Rattle.ocl_types.specs.Environments.{is_over};
+ghost use Rattle.ocl_types.specs.TypedContext.{GivesTypedTree, AreOver};
+ghost use Rattle.qv_syntax.specs.declared.type_tree.Kind.{Kind};
+ghost use Rattle.qv_syntax.specs.declared.type_tree.TypeTree.{TypeTree};
+ghost use Rattle.qv_syntax.specs.Types.{IsWrittenType, IsOneModel};
+ghost use Rattle.qv_syntax.specs.TypeRules.{Branches, Elements};
+ghost use Rattle.ocl_types.specs.declared.collection_operations.Argument.{Argument};
+ghost use Rattle.ocl_types.specs.Signatures.{argument_count};
+ghost use Rattle.ocl_types.specs.Parts.{types_of, with_models, one_model};
+ghost use Rattle.ocl_types.specs.TypingOperators.{branches, literal_type};
+ghost use Rattle.ocl_types.specs.TypingCollections.{given_types};
+ghost use Rattle.ocl_types.specs.TypingScopes.{declared_type};
+ghost use Rattle.ocl_types.specs.Written.{written};
+ghost use Rattle.ocl_types.specs.TypeRules.{GivenConforms, part_models};
 
 use crate::env::Env;
 use crate::metas::Metas;
@@ -40,12 +54,41 @@ pub fn typing_is_told(env: &Env<'_>)
     ensures fault { (e : Expr) (f : TypeFault) → typed env.now e ≡ Err f → Stands env.now e f }
     ensures known { (e : Expr) (f : TypeFault) → Stands env.now e f → (g : TypeFault) × (typed env.now e ≡ Err g) }
 {
-    let _metas = env.metas();
+    env.in_order();
 }
 
 /// An expression has one type, one model and one tree.
 pub fn one_type_is_had(env: &Env<'_>)
     ensures { (e : Expr) (p q : TypedPart) → HasType env.now e p → HasType env.now e q → p ≡ q }
+{
+    env.in_order();
+}
+
+/// In the tree of an expression each node has the type that it should have, and each number names what is there: a
+/// variable, a model, a query, a property, a literal, or a class or an enumeration of the metamodels.
+pub fn trees_are_typed(env: &Env<'_>)
+    ensures typed { (e : Expr) (p : TypedPart) → GivesTypedTree env.now e p }
+    ensures within { (e : Expr) (p : TypedPart) → HasType env.now e p → IsTrue (is_over env.now.metas p.ty) }
+{
+    env.in_order();
+}
+
+/// The types that are computed of branches, of the elements of a literal and of what an operation on a collection is given
+/// are those that the relations say, where types are of the metamodels. So is the one model of several places.
+pub fn rules_are_told(metas: &Metas)
+    ensures branches { (a b t : Ty) → IsTrue (is_over metas.now a) → IsTrue (is_over metas.now b) → (branches metas.now a b ≡ Ok t) ↔ Branches metas.now a b t }
+    ensures elements { (tys : List Ty) (t : Ty) → AreOver metas.now tys → (literal_type metas.now tys ≡ Ok t) ↔ Elements metas.now tys t }
+    ensures given { (argument : Argument) (kind : Kind) (of : Ty) (args : List TypedPart) (t : Ty) → IsTrue (is_over metas.now of) → AreOver metas.now (types_of args)
+        → length args ≡ argument_count argument → (given_types metas.now argument kind of args ≡ Ok t) ↔ GivenConforms metas.now argument kind of (types_of args) t }
+    ensures model { (name : List ℕ) (model : Option ℕ) (parts : List TypedPart) (m : Option ℕ)
+        → (one_model name (with_models model parts) ≡ Ok m) ↔ IsOneModel (model ∷ part_models parts) m }
+{
+    let _count = metas.len();
+}
+
+/// The type that a declaration gives is the one that is written there, where that is no collection of collections.
+pub fn declared_types_are_told(env: &Env<'_>)
+    ensures { (tree : TypeTree) (ty : Ty) → (declared_type env.now tree ≡ Ok ty) ↔ ((written env.now tree ≡ Ok ty) × IsWrittenType env.now.metas ty) }
 {
     let _metas = env.metas();
 }

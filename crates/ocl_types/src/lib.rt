@@ -4,6 +4,7 @@
 
 mod agreement;
 mod classifier;
+mod classifier_index;
 mod collection_operations;
 mod conformance;
 mod env;
@@ -13,6 +14,7 @@ mod laws;
 mod limits;
 mod literals;
 mod look_up;
+mod meaning;
 mod metas;
 mod naming;
 mod navigation;
@@ -21,6 +23,8 @@ mod operations;
 mod outcomes;
 mod part;
 mod parts;
+mod queries;
+mod query_calls;
 mod scope;
 mod signatures;
 mod trees;
@@ -42,5 +46,8 @@ pub use laws::{
 pub use limits::MAX_NUMBERED;
 pub use metas::Metas;
 pub use naming::{path_text, type_text};
+pub use part::TypedPart;
+pub use queries::{type_queries, variable_type};
 pub use typing::type_expr;
+pub use variable::{Signature, Variable};
 pub use written::written_type;

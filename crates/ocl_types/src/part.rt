@@ -3,7 +3,7 @@ use qv_syntax::{Node, Ty, TypedInfix, TypedPostfix};
 
 /// An expression that is typed, and the model of its objects.
 #[derive(Drop)]
-pub(crate) struct TypedPart {
+pub struct TypedPart {
     pub ty: Ty,
     pub model: Option<u32>,
     pub node: Node,

@@ -1,0 +1,39 @@
+-- Typed trees over an environment: what an expression may name by numbers, and that typing gives trees in which each node has the type
+-- that it should have (OCL 2.4, chapters 8 and 11).
+use Rattle.std.specs.Prelude.{ℕ, List, map, Contains, IsTrue}
+use Rattle.mof_metamodel.specs.declared.desc.MetaDesc.{MetaDesc}
+use Rattle.qv_syntax.specs.declared.ty.Ty.{Ty}
+use Rattle.qv_syntax.specs.declared.expr.Expr.{Expr}
+use Rattle.qv_syntax.specs.TypedTrees.{QueryType, Context, Typing, Variables, IsTyped}
+use Rattle.ocl_types.specs.declared.part.TypedPart.{TypedPart}
+use Rattle.ocl_types.specs.declared.variable.Variable.{Variable}
+use Rattle.ocl_types.specs.declared.variable.Signature.{Signature}
+use Rattle.ocl_types.specs.Environments.{Environment, is_over}
+use Rattle.ocl_types.specs.Parts.{tree_of}
+use Rattle.ocl_types.specs.HasType.{HasType}
+
+abbrev pub query_type : List ℕ × Signature → QueryType
+query_type q = record { params = q.1.params; result = q.1.result }
+
+-- the metamodels, the models and the queries of an environment, by their numbers
+abbrev pub context_of : Environment → Context
+context_of env = record { metas = env.metas; slots = env.models; queries = map query_type env.queries }
+
+abbrev pub variable_typing : List ℕ × Variable → Typing
+variable_typing v = record { ty = v.1.ty; model = v.1.model }
+
+-- its variables, by theirs
+abbrev pub variables_of : Environment → Variables
+variables_of env = map variable_typing env.variables
+
+-- the type of a part, and the model of its objects
+abbrev pub typing_of : TypedPart → Typing
+typing_of p = record { ty = p.ty; model = p.model }
+
+-- what an expression is has a tree in which each node has its type, and each number names what is there
+abbrev pub GivesTypedTree : Environment → Expr → TypedPart → Type 0
+GivesTypedTree env e p = HasType env e p → IsTyped (context_of env) (variables_of env) (tree_of p) (typing_of p)
+
+-- each of the types is one of the metamodels
+abbrev pub AreOver : List MetaDesc → List Ty → Type 0
+AreOver metas tys = (ty : Ty) → Contains tys ty → IsTrue (is_over metas ty)
