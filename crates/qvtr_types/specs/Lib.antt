@@ -1,0 +1,13 @@
+pub mod ScriptNames
+pub mod NameSearches
+pub mod Usages
+pub mod Conjuncts
+pub mod Occurrences
+pub mod BorrowedPieces
+pub mod Divisions
+pub mod ObjectModels
+pub mod Directions
+pub mod Environments
+pub mod Declarations
+pub mod Resolutions
+pub mod Faults
