@@ -13,3 +13,15 @@ pub mod WritingSteps
 pub mod WritingParts
 pub mod WritingForms
 pub mod WritingTexts
+pub mod ByteLaws
+pub mod ReadLaws
+pub mod SoundLaws
+pub mod FirstLaws
+pub mod SeenLaws
+pub mod ElementLaws
+pub mod RoleLaws
+pub mod FaultLaws
+pub mod Positions
+pub mod NumberingLaws
+pub mod ExternLaws
+pub mod LexicalLaws

@@ -1,5 +1,5 @@
 -- The elements that are listed of a document.
-use Rattle.std.proofs.Common.{◌≡◌, ℕ, List, map, ◌∙◌, ap, Ok, None}
+use Rattle.std.proofs.Common.{◌≡◌, ℕ, List, map, ◌∙◌, ap, Ok}
 use Rattle.std.specs.Prelude.{Option}
 use Rattle.mof_metamodel.specs.declared.desc.MetaDesc.{MetaDesc}
 use Rattle.xmi_text.specs.declared.error.TextFault.{TextFault}

@@ -1,17 +1,17 @@
 -- The list of the elements of a tree's tags and runs is that of its elements.
-use Rattle.std.proofs.Common.{◌≡◌, ℕ, zero, suc, ◌+◌, ◌-◌, Bool, true, false, List, [], ◌∷◌, ◌++◌, map, length, filter, take, refl, sym, ◌∙◌, ap, arith, append_assoc, append-nil, Some, None, Option, cond}
-use Rattle.std.specs.Prelude.{slice_get, is_some, if◌then◌else◌}
+use Rattle.std.proofs.Common.{◌≡◌, ℕ, suc, ◌+◌, ◌-◌, Bool, true, false, List, [], ◌∷◌, ◌++◌, map, length, filter, take, refl, sym, ◌∙◌, ap, arith, append_assoc, append-nil, Some, Option, cond}
+use Rattle.std.specs.Prelude.{slice_get, if◌then◌else◌}
 use Rattle.std.specs.Option.{option_and_then}
 use Rattle.std.proofs.lemmas.List.{length-append, map-append}
 use Rattle.std.proofs.lemmas.List.Elements.{filter-append}
 use Rattle.mof_metamodel.specs.declared.desc.MetaDesc.{MetaDesc}
 use Rattle.object_tables.specs.Lists.{update_at}
-use Rattle.xmi_text.specs.Trees.{Nodes, Ends, Run, Element as Inner, Tree, Event, Opens, Says, Closes, events_of, events}
+use Rattle.xmi_text.specs.Trees.{Nodes, Ends, Run, Element as Inner, Tree, Event, Closes, events_of, events}
 use Rattle.xmi_profile.specs.declared.fault.Externs.{Externs}
 use Rattle.xmi_profile.specs.declared.element.Element.{Element}
 use Rattle.xmi_profile.specs.Attributes.{Attrs}
-use Rattle.xmi_profile.specs.Elements.{Item, Role, role_of_root, role_in, number_in, number_behind, room_of, inner_place, behind_place, items_in, items, item_with, is_object, object_of}
-use Rattle.xmi_profile.specs.Listing.{begun, with_run, with_runs, element_of, Listing, nothing, innermost, role_by, parent_of, with_element, opened, said, said_in, closed, behind, listed}
+use Rattle.xmi_profile.specs.Elements.{Item, Role, role_of_root, role_in, number_in, number_behind, room_of, inner_place, behind_place, items_in, items, is_object}
+use Rattle.xmi_profile.specs.Listing.{begun, with_run, with_runs, element_of, Listing, nothing, innermost, role_by, parent_of, with_element, opened, said, said_in, closed, listed}
 
 -- ---- lists
 

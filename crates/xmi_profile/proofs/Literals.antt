@@ -78,3 +78,23 @@ xmlns_prefix = ((codes "xmlns:", (refl, refl)), refl)
 pub hash : IsUtf8 (codes "#") × (chars (codes "#") ≡ codes "#")
 unfolding chars lib.Utf8.encode
 hash = ((codes "#", (refl, refl)), refl)
+
+pub dash : chars (codes "-") ≡ codes "-"
+unfolding chars
+dash = refl
+
+pub one : chars (codes "1") ≡ codes "1"
+unfolding chars
+one = refl
+
+pub zero : chars (codes "0") ≡ codes "0"
+unfolding chars
+zero = refl
+
+pub falsehood : chars (codes "false") ≡ codes "false"
+unfolding chars
+falsehood = refl
+
+pub underscore : chars (codes "_") ≡ codes "_"
+unfolding chars
+underscore = refl

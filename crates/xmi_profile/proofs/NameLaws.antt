@@ -7,7 +7,7 @@ use Rattle.std.proofs.lemmas.Bool.{eqb-true, eq-eqb}
 use Rattle.xmi_text.specs.Markup.{begins}
 use Rattle.xmi_profile.specs.declared.fault.Externs.{Externs}
 use Rattle.xmi_profile.specs.Attributes.{behind}
-use Rattle.xmi_profile.specs.References.{Target, with_first, divided, parts_target, href_target}
+use Rattle.xmi_profile.specs.References.{with_first, divided, parts_target, href_target}
 use Rattle.xmi_profile.specs.Scanning.{behind_on, href_by}
 use Rattle.xmi_profile.proofs.Prefixes.{same_bool}
 

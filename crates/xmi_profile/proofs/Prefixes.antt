@@ -1,5 +1,5 @@
 -- Bytes and characters that begin with letters.
-use Rattle.std.proofs.Common.{◌≡◌, ℕ, Bool, true, false, List, [], ◌∷◌, ◌++◌, drop, length, refl, sym, ◌∙◌, ap, true≢false}
+use Rattle.std.proofs.Common.{◌≡◌, ℕ, Bool, true, false, List, ◌++◌, drop, length, refl, sym, ◌∙◌, ap, true≢false}
 use Rattle.std.specs.Str.{chars, IsUtf8}
 use Rattle.std.specs.List.{starts_with}
 use Rattle.std.proofs.Math.Utf8.{encodes}

@@ -1,14 +1,13 @@
 -- What texts, words and elements are read as, computed.
-use Rattle.std.specs.Prelude.{◌≡◌, ℕ, Bool, true, false, pos, negsuc, List, [], ◌∷◌, map, codes, Option, None, Some}
+use Rattle.std.specs.Prelude.{◌≡◌, ℕ, true, false, pos, negsuc, List, [], ◌∷◌, map, codes, None, Some}
 use Rattle.std.proofs.Common.{refl}
-use Rattle.object_tables.specs.declared.value.Value.{Value}
 use Rattle.object_tables.specs.declared.value.Value.TheVariants as values
-use Rattle.xmi_text.specs.Trees.{Nodes, Ends, Run, Element, Tree}
+use Rattle.xmi_text.specs.Trees.{Nodes, Ends, Run, Element}
 use Rattle.xmi_profile.specs.declared.fault.Externs.TheVariants as externs
 use Rattle.xmi_profile.specs.declared.fault.ModelFault.TheVariants as faults
 use Rattle.xmi_profile.specs.Attributes.{local_part, is_passed_name}
 use Rattle.xmi_profile.specs.Content.{written_values}
-use Rattle.xmi_profile.specs.Elements.{Item, items}
+use Rattle.xmi_profile.specs.Elements.{items}
 use Rattle.xmi_profile.specs.Faults.{StandsBy}
 use Rattle.xmi_profile.specs.Links.{speaks}
 use Rattle.xmi_profile.specs.References.{Named, Extern, Nowhere, href_target, words}

@@ -1,17 +1,17 @@
 -- Calls of a writer one after another: which may come, and how many elements they leave open.
-use Rattle.std.proofs.Common.{◌≡◌, ℕ, zero, suc, ◌+◌, ◌<◌, ◌≤◌, Bool, true, false, cond, List, [], ◌∷◌, ◌++◌, length, get_or, take, refl, sym, ◌∙◌, ap, ap₂, subst, arith, None, Some, ◌⊎◌, inl, inr, append_assoc, append-nil, length-append}
-use Rattle.std.specs.Prelude.{◌≢◌, ◌==◌, ◌||◌, ◌-◌, not, nat_lt, nat_eq, Contains, AllPairs, IsTrue, Option}
-use Rattle.std.specs.List.{flat_map, list_any}
+use Rattle.std.proofs.Common.{◌≡◌, ℕ, suc, ◌<◌, Bool, true, false, cond, List, [], ◌∷◌, ◌++◌, length, refl, sym, ◌∙◌, ap, ap₂, subst, arith, None, Some, ◌⊎◌, inl, inr, length-append}
+use Rattle.std.specs.Prelude.{◌≢◌, ◌==◌, ◌||◌, not, nat_lt, nat_eq, Contains, AllPairs}
+use Rattle.std.specs.List.{flat_map}
 use Rattle.std.specs.Cmp.Lexicographic.{pointwise, bytes_decides}
-use Rattle.std.proofs.lemmas.Bool.{ltb-true, lt-ltb}
+use Rattle.std.proofs.lemmas.Bool.{lt-ltb}
 use Rattle.std.proofs.lemmas.Grind.{common_steps}
 use Rattle.std.proofs.lemmas.List.Folds.{list_any-append}
 use Rattle.mof_metamodel.specs.Characters.{is_storable_text}
 use Rattle.mof_metamodel.specs.declared.limits.TheConstants.{MAX_XMI_NESTING}
 use Rattle.xmi_text.specs.Names.{is_name}
 use Rattle.xmi_text.specs.Writing.{Written, has, is_new, is_inside, may_open, may_attr, opened, with_attr, with_data, more_names, tag_end, is_tag, escaped}
-use Rattle.xmi_text.specs.Calls.{Call, Open, Attr, Data, Close, Declare, Line, after_call, wrote}
-use Rattle.xmi_profile.specs.Writable.{Can, CanWrite}
+use Rattle.xmi_text.specs.Calls.{Call, Open, Attr, Data, Close, Line, after_call, wrote}
+use Rattle.xmi_profile.specs.Writable.{CanWrite}
 
 -- ---- one list of calls behind another
 

@@ -1,10 +1,10 @@
 -- What the form of a property says of it, and what is written of it by its form.
-use Rattle.std.proofs.Common.{◌≡◌, ℕ, zero, suc, ◌+◌, ◌<◌, Bool, true, false, cond, List, [], ◌∷◌, ◌++◌, length, get_or, map, drop, refl, sym, ◌∙◌, ap, ap₂, subst, arith, Option, None, Some, append_assoc, append-nil, add-one}
+use Rattle.std.proofs.Common.{◌≡◌, ℕ, suc, ◌+◌, ◌<◌, Bool, true, false, cond, List, [], ◌∷◌, ◌++◌, length, get_or, map, drop, refl, sym, ◌∙◌, ap, ap₂, subst, arith, Option, None, Some, append_assoc, add-one}
 use Rattle.std.specs.Prelude.{◌==◌, ◌&&◌, ◌-◌, not, nat_lt, All, Contains, IsTrue, IsSome, filter, is_some}
 use Rattle.std.specs.List.{flat_map, range_with_len}
 use Rattle.std.proofs.lemmas.Bool.{and_parts, eqb-true, ltb-true}
 use Rattle.std.proofs.lemmas.List.{get_or-map, length-map, get_or_default}
-use Rattle.std.proofs.lemmas.List.Elements.{All-contains, Contains-get_or}
+use Rattle.std.proofs.lemmas.List.Elements.{All-contains}
 use Rattle.mof_metamodel.specs.declared.desc.MetaDesc.{MetaDesc}
 use Rattle.mof_metamodel.specs.declared.desc.PropId.{PropId}
 use Rattle.mof_metamodel.specs.declared.desc.PropType.{PropType}
@@ -15,17 +15,16 @@ use Rattle.mof_metamodel.specs.Tables.{prop_numbers}
 use Rattle.mof_metamodel.proofs.PropLemmas.{prop_known}
 use Rattle.object_tables.specs.declared.value.Value.{Value}
 use Rattle.object_tables.specs.declared.value.Value.TheVariants as values
-use Rattle.object_tables.specs.Models.{ModelData, object_at, class_at, id_at, values_at, partners_at, is_class_type, is_value_of, IsAttributeOf, IsReferenceOf, IsLive}
+use Rattle.object_tables.specs.Models.{ModelData, object_at, class_at, id_at, values_at, is_class_type, is_value_of, IsAttributeOf, IsReferenceOf, IsLive}
 use Rattle.object_tables.specs.Objects.{Object}
 use Rattle.object_tables.specs.Kept.{Kept}
 use Rattle.object_tables.specs.Validity.{IsPropertyOf}
-use Rattle.xmi_text.specs.Writing.{Written}
-use Rattle.xmi_text.specs.Calls.{Call, Open, Attr, Data, Close, Line, wrote}
+use Rattle.xmi_text.specs.Calls.{Call, Open, Attr, Data, Close, Line}
 use Rattle.xmi_profile.specs.declared.form.Form.{Form}
 use Rattle.xmi_profile.specs.declared.form.Form.TheVariants as forms
 use Rattle.xmi_profile.specs.Forms.{is_one, is_composite, form_of}
-use Rattle.xmi_profile.specs.Profile.{prop_name, id_or_none, id_text, object_props, props_or_none, live_numbers, is_part}
-use Rattle.xmi_profile.specs.Canon.{value_text, depth_over, object_calls, children_by, value_element, spaced_behind, partners_attr, top_calls, top_numbers}
+use Rattle.xmi_profile.specs.Profile.{prop_name, id_or_none, id_text, object_props, props_or_none, is_part}
+use Rattle.xmi_profile.specs.Canon.{value_text, depth_over, object_calls, children_by, value_element, spaced_behind, partners_attr, top_calls}
 use Rattle.xmi_profile.specs.Writable.{IsTold, calls_at, is_top_object, chosen_form, AreLive, ids_of, has_some, text_value, value_elements, part_elements, calls_of}
 use Rattle.xmi_profile.proofs.WritingSteps.{values_some, some_cons}
 use Rattle.object_tables.specs.declared.value.ObjId.{ObjId}

@@ -1,40 +1,39 @@
 -- The calls of the canonical text of a model may come one after another: names are names of markup, those of a tag differ, texts are
 -- storable, and objects nest no deeper than elements may.
-use Rattle.std.proofs.Common.{◌≡◌, ℕ, zero, suc, ◌+◌, ◌<◌, ◌≤◌, Bool, true, false, cond, List, [], ◌∷◌, ◌++◌, length, get_or, map, refl, sym, ◌∙◌, ap, ap₂, subst, arith, Option, None, Some, ◌⊎◌, inl, inr, append_assoc, append-nil, length-append}
-use Rattle.std.specs.Prelude.{◌≢◌, ◌==◌, ◌||◌, ◌&&◌, ◌-◌, not, nat_lt, nat_le, nat_eq, Contains, All, AllPairs, IsTrue, IsSome, is_some, filter, codes, ℤ}
-use Rattle.std.specs.List.{flat_map, list_any, list_all}
+use Rattle.std.proofs.Common.{◌≡◌, ℕ, zero, suc, ◌+◌, ◌<◌, Bool, true, false, cond, List, [], ◌∷◌, ◌++◌, length, get_or, map, refl, sym, ◌∙◌, ap, ap₂, subst, arith, Option, None, Some, inl, inr, append_assoc}
+use Rattle.std.specs.Prelude.{◌≢◌, ◌==◌, ◌||◌, ◌&&◌, not, nat_lt, nat_eq, Contains, AllPairs, IsTrue, is_some, filter}
+use Rattle.std.specs.List.{flat_map, list_all}
 use Rattle.std.specs.Option.{option_map}
 use Rattle.std.specs.Cmp.Lexicographic.{pointwise, bytes_decides}
-use Rattle.std.proofs.lemmas.Bool.{and_parts, and_from, true≢false, eqb-true, ltb-true, cases_lt}
+use Rattle.std.proofs.lemmas.Bool.{and_parts, true≢false, eqb-true, ltb-true, cases_lt}
 use Rattle.std.proofs.lemmas.List.{get_or_past}
 use Rattle.std.proofs.lemmas.List.Elements.{All-contains, Contains-get_or}
 use Rattle.std.proofs.lemmas.List.Folds.{list_all-append}
-use Rattle.mof_metamodel.specs.Characters.{is_storable_text, is_identifier_text}
-use Rattle.mof_metamodel.specs.WellMeta.{WellMeta, is_name_character, is_prop_name, is_name as is_meta_name}
+use Rattle.mof_metamodel.specs.Characters.{is_storable_text}
+use Rattle.mof_metamodel.specs.WellMeta.{is_name_character, is_prop_name, is_name as is_meta_name}
 use Rattle.mof_metamodel.specs.declared.desc.MetaDesc.{MetaDesc}
 use Rattle.mof_metamodel.specs.declared.desc.PropType.{PropType}
 use Rattle.mof_metamodel.specs.declared.desc.PropType.TheVariants as types
 use Rattle.mof_metamodel.specs.declared.limits.TheConstants.{MAX_DEPTH, MAX_XMI_NESTING}
-use Rattle.mof_metamodel.specs.Metamodels.{class_count, prop_count, props_of, prop_at, type_of, opposite_of, owner_of, enum_at, no_enum, enum_count, literal_at}
+use Rattle.mof_metamodel.specs.Metamodels.{class_count, prop_count, props_of, prop_at, type_of, opposite_of, enum_at, no_enum, enum_count, literal_at}
 use Rattle.mof_metamodel.proofs.MetaLaws.{has_exactly}
 use Rattle.mof_metamodel.proofs.OnceLemmas.{props_of_once}
 use Rattle.mof_metamodel.proofs.PropLemmas.{prop_known}
 use Rattle.object_tables.specs.declared.value.Value.{Value}
 use Rattle.object_tables.specs.declared.value.Value.TheVariants as values
 use Rattle.object_tables.specs.Objects.{Object}
-use Rattle.object_tables.specs.Models.{ModelData, object_at, class_at, id_at, values_at, partners_at, is_class_type, is_value_of, IsAttributeOf, IsLive}
+use Rattle.object_tables.specs.Models.{ModelData, object_at, class_at, values_at, partners_at, is_class_type, is_value_of, IsAttributeOf}
 use Rattle.object_tables.specs.Kept.{Kept}
 use Rattle.object_tables.specs.Validity.{IsPropertyOf}
 use Rattle.xmi_text.specs.Names.{is_name}
-use Rattle.xmi_text.specs.Writing.{Written, has, may_open, may_attr, opened, with_attr, nothing, is_whole, is_inside}
+use Rattle.xmi_text.specs.Writing.{Written, has, opened, with_attr, nothing, is_whole}
 use Rattle.xmi_text.specs.Calls.{Call, Open, Attr, Data, Close, Declare, Line, after_call, wrote}
-use Rattle.xmi_profile.specs.declared.form.Form.{Form}
 use Rattle.xmi_profile.specs.declared.form.Form.TheVariants as forms
-use Rattle.xmi_profile.specs.Forms.{is_one, is_composite, form_of}
+use Rattle.xmi_profile.specs.Forms.{is_one, is_composite}
 use Rattle.xmi_profile.specs.Profile.{xmi_id, xmi_type, prop_name, class_name, id_or_none, id_text, name_or_none, class_text, props_or_none, object_props, live_numbers, is_part}
-use Rattle.xmi_profile.specs.Canon.{value_text, boolean_text, spaced, spaced_behind, typed_name, value_attr, partners_attr, attr_by, attr_calls, tag_calls, value_element, children_by, child_calls, ended, depth_over, object_calls, top_calls, top_numbers, head, foot, canon_calls}
-use Rattle.xmi_profile.specs.Writable.{Can, CanWrite, children_calls}
-use Rattle.xmi_profile.proofs.WritingCalls.{data_rooted, wrote_both, can_both, Fits, fits_none, fits_both, fits_each, fits_line, Begins, fits_element, fits_text, length-opened, length-closed, inside_of, may_open_inside, IsAttr, AreAttrs, attrs_come, contains_head, contains_tail}
+use Rattle.xmi_profile.specs.Canon.{value_text, spaced, spaced_behind, typed_name, value_attr, partners_attr, attr_by, attr_calls, tag_calls, value_element, children_by, child_calls, depth_over, object_calls, top_calls, top_numbers, head, foot, canon_calls}
+use Rattle.xmi_profile.specs.Writable.{CanWrite, children_calls}
+use Rattle.xmi_profile.proofs.WritingCalls.{data_rooted, wrote_both, Fits, fits_none, fits_both, fits_each, fits_line, Begins, fits_element, fits_text, length-opened, length-closed, inside_of, may_open_inside, IsAttr, AreAttrs, attrs_come, contains_head, contains_tail}
 use Rattle.xmi_profile.proofs.WritingNames.{markup_name, prefixed_name, name_storable, number_storable}
 
 -- ---- metamodels

@@ -1,16 +1,14 @@
 -- Names of a metamodel in markup, and texts of storable characters.
-use Rattle.std.proofs.Common.{◌≡◌, ℕ, zero, suc, ◌+◌, ◌<◌, ◌≤◌, ◌/◌, ◌%◌, Bool, true, false, cond, List, [], ◌∷◌, ◌++◌, length, refl, sym, ◌∙◌, ap, ap₂, subst, arith, ◌⊎◌, inl, inr}
-use Rattle.std.specs.Prelude.{◌≢◌, ◌==◌, ◌||◌, ◌&&◌, not, nat_le, nat_lt, nat_eq, IsTrue, ℤ, pos, negsuc}
-use Rattle.std.specs.List.{list_all, list_any}
+use Rattle.std.proofs.Common.{◌≡◌, ℕ, zero, suc, ◌<◌, ◌/◌, ◌%◌, Bool, true, false, cond, List, [], ◌∷◌, length, refl, sym, ◌∙◌, ap, ap₂, arith}
+use Rattle.std.specs.Prelude.{◌==◌, ◌||◌, ◌&&◌, not, ℤ, pos, negsuc}
+use Rattle.std.specs.List.{list_all}
 use Rattle.std.specs.Fmt.{digit_glyph, digits_onto, digits, decimal, signed_decimal}
-use Rattle.std.proofs.lemmas.Bool.{and_parts, and_from, eqb-true, true≢false, ltb-true, lt-ltb}
+use Rattle.std.proofs.lemmas.Bool.{and_parts, eqb-true, true≢false}
 use Rattle.std.proofs.lemmas.Bool.Decides.{nat_tests}
-use Rattle.std.proofs.lemmas.Grind.{common_steps}
-use Rattle.std.proofs.lemmas.List.Folds.{list_all-append}
-use Rattle.mof_metamodel.specs.Characters.{is_storable_character, is_storable_text, is_identifier_text}
+use Rattle.mof_metamodel.specs.Characters.{is_storable_character, is_storable_text}
 use Rattle.mof_metamodel.specs.WellMeta as meta
 use Rattle.mof_metamodel.specs.WellMeta.{is_letter, is_digit, is_name_character, begins_with_digit}
-use Rattle.xmi_text.specs.ByteClass.{begins_name, continues_name, within}
+use Rattle.xmi_text.specs.ByteClass.{begins_name, continues_name}
 use Rattle.xmi_text.specs.Names.{is_far, goes_on, is_name}
 
 -- ---- characters of names

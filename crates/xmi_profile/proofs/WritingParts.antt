@@ -1,15 +1,15 @@
 -- An object has a container exactly where some object's composite property has it as a partner.
-use Rattle.std.proofs.Common.{◌≡◌, ℕ, zero, suc, ◌+◌, ◌<◌, ◌≤◌, Bool, true, false, cond, List, [], ◌∷◌, length, get_or, refl, sym, ◌∙◌, ap, ap₂, subst, arith, Option, None, Some, ◌⊎◌, inl, inr}
-use Rattle.std.specs.Prelude.{◌&&◌, ◌||◌, not, nat_eq, Contains, IsTrue, IsSome, is_some, filter}
+use Rattle.std.proofs.Common.{◌≡◌, ℕ, zero, suc, ◌<◌, Bool, true, false, cond, List, [], ◌∷◌, length, get_or, refl, sym, ◌∙◌, ap, ap₂, subst, arith, Option, None, Some, inl, inr}
+use Rattle.std.specs.Prelude.{◌&&◌, nat_eq, Contains, is_some, filter}
 use Rattle.std.specs.List.{list_any, range_with_len}
 use Rattle.std.specs.Option.{option_map}
-use Rattle.std.proofs.lemmas.Bool.{and_parts, and_from, or_cases, eqb-true, eq-eqb, cases_lt, true≢false}
+use Rattle.std.proofs.lemmas.Bool.{and_parts, or_cases, eqb-true, eq-eqb, cases_lt, true≢false}
 use Rattle.std.proofs.lemmas.List.{get_or_past}
 use Rattle.std.proofs.lemmas.List.Folds.{list_any_at}
 use Rattle.std.proofs.lemmas.List.FromFn.{length-range_with_len, get_or-range_with_len}
-use Rattle.mof_metamodel.specs.Metamodels.{props_of, prop_at}
+use Rattle.mof_metamodel.specs.Metamodels.{prop_at}
 use Rattle.object_tables.specs.Objects.{Object}
-use Rattle.object_tables.specs.Models.{ModelData, object_at, class_at, partners_at, IsLive, IsReferenceOf, IsContainedIn, IsTop}
+use Rattle.object_tables.specs.Models.{ModelData, object_at, class_at, partners_at, IsReferenceOf, IsContainedIn, IsTop}
 use Rattle.xmi_profile.specs.Profile.{props_or_none, object_props, live_numbers, contains_by, is_part}
 use Rattle.xmi_profile.proofs.WritingCalls.{contains_head, contains_tail}
 

@@ -1,12 +1,12 @@
 -- Steps of a writer through a list of calls: what is left of them can still be written.
-use Rattle.std.proofs.Common.{◌≡◌, ℕ, zero, suc, ◌+◌, ◌<◌, ◌≤◌, Bool, true, false, cond, List, [], ◌∷◌, ◌++◌, length, get_or, map, drop, drop_of_length-le, refl, sym, ◌∙◌, ap, ap₂, subst, arith, add-one, Option, None, Some, append_assoc}
-use Rattle.std.specs.Prelude.{◌==◌, ◌||◌, ◌&&◌, ◌-◌, not, filter, IsTrue, is_some}
-use Rattle.std.specs.List.{flat_map, range_with_len}
+use Rattle.std.proofs.Common.{◌≡◌, ℕ, zero, suc, ◌+◌, ◌<◌, ◌≤◌, Bool, true, false, cond, List, [], ◌∷◌, ◌++◌, length, get_or, map, drop, drop_of_length-le, refl, sym, ◌∙◌, ap, ap₂, subst, arith, add-one}
+use Rattle.std.specs.Prelude.{◌==◌, ◌||◌, not}
+use Rattle.std.specs.List.{flat_map}
 use Rattle.std.proofs.Math.Seq.{drop-cons}
 use Rattle.std.proofs.lemmas.Bool.{ne_eqb}
 use Rattle.object_tables.specs.Models.{ModelData}
 use Rattle.xmi_text.specs.Writing.{Written, with_line}
-use Rattle.xmi_text.specs.Calls.{Call, Close, Line, after_call, wrote}
+use Rattle.xmi_text.specs.Calls.{Call, Close, Line, wrote}
 use Rattle.xmi_profile.specs.Canon.{depth_over, tag_calls, object_calls}
 use Rattle.xmi_profile.specs.Writable.{CanWrite, Left, has_some, children_calls, end_calls}
 use Rattle.xmi_profile.proofs.WritingCalls.{wrote_both, can_first, can_rest}

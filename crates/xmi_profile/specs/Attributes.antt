@@ -1,6 +1,6 @@
 -- Names of elements and attributes with prefixes, which are known by their letters, and what XMI's own attributes are read as
 -- (Namespaces in XML 1.0, section 4; XMI 2.5.1, 7.6: XMI attributes).
-use Rattle.std.specs.Prelude.{ℕ, suc, ◌==◌, ◌||◌, ◌&&◌, Bool, true, false, not, List, [], ◌∷◌, ◌++◌, codes, Option, None, Some, if◌then◌else◌}
+use Rattle.std.specs.Prelude.{ℕ, suc, ◌==◌, ◌||◌, ◌&&◌, Bool, false, not, List, [], ◌∷◌, ◌++◌, codes, Option, None, Some, if◌then◌else◌}
 use Rattle.std.specs.Option.{option_map, unwrap_or}
 use Rattle.mof_metamodel.specs.Characters.{same_name}
 use Rattle.xmi_text.specs.Markup.{begins}

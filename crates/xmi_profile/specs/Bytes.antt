@@ -1,5 +1,5 @@
 -- The elements that the bytes of a file spell, or the fault of its markup.
-use Rattle.std.specs.Prelude.{ℕ, ◌+◌, true, List, [], ◌∷◌, drop, Option, None, Some, Result, Ok, Err}
+use Rattle.std.specs.Prelude.{ℕ, ◌+◌, List, [], ◌∷◌, drop, Option, None, Some, Result, Ok, Err}
 use Rattle.mof_metamodel.specs.declared.desc.MetaDesc.{MetaDesc}
 use Rattle.xmi_text.specs.declared.error.TextFault.{TextFault}
 use Rattle.xmi_text.specs.declared.error.TextError.{TextError}
@@ -16,9 +16,14 @@ use Rattle.xmi_profile.specs.declared.fault.XmiError.TheVariants as errors
 use Rattle.xmi_profile.specs.Listing.{Listing, nothing, listed}
 
 -- the fault of the markup
-abbrev pub text_fault : XmiError → Option TextFault
-text_fault (errors.Text fault) = Some fault
-text_fault error = None
+abbrev pub text_fault : TextError → Option TextFault
+text_fault (faults.Fault fault) = Some fault
+text_fault faults.NoMemory = None
+
+-- as an error of a reader of models
+abbrev pub error_of : TextError → XmiError
+error_of (faults.Fault fault) = errors.Text fault
+error_of faults.NoMemory = errors.NoMemory
 
 -- the next mark of a whole text, or none behind the last one, or the fault
 abbrev pub next_by : Option TextFault → List Mark → Result (Option Mark) TextFault
@@ -38,14 +43,13 @@ abbrev pub unless_end : Mark → Option Mark
 unless_end marks.End = None
 unless_end mark = Some mark
 
-abbrev pub mark_of : Result Step TextError → Result (Option Mark) XmiError
+abbrev pub mark_of : Result Step TextError → Result (Option Mark) TextError
 mark_of (Ok (answers.Mark mark)) = Ok (unless_end mark)
 mark_of (Ok answers.NotYet) = Ok None
-mark_of (Err (faults.Fault fault)) = Err (errors.Text fault)
-mark_of (Err faults.NoMemory) = Err errors.NoMemory
+mark_of (Err error) = Err error
 
 -- one more mark was given
-abbrev pub behind_next : Result (Option Mark) XmiError → Fed → Fed
+abbrev pub behind_next : Result (Option Mark) TextError → Fed → Fed
 behind_next (Ok (Some mark)) fed = record fed { given = fed.given + 1 }
 behind_next result fed = fed
 

@@ -1,6 +1,6 @@
 -- The canonical text of a model as XMI (XMI 2.5.1, clause 9), as the calls of a writer that make it: two lines of head, a line for
 -- the start of each object's element and of each value, each element's end under its start, and a line of foot.
-use Rattle.std.specs.Prelude.{ℕ, zero, suc, ◌-◌, ◌==◌, Bool, true, false, not, List, [], ◌∷◌, ◌++◌, map, filter, length, codes, encode_utf8_all, if◌then◌else◌}
+use Rattle.std.specs.Prelude.{ℕ, zero, suc, ◌-◌, ◌==◌, Bool, not, List, [], ◌∷◌, ◌++◌, map, filter, length, codes, encode_utf8_all, if◌then◌else◌}
 use Rattle.std.specs.List.{flat_map}
 use Rattle.std.specs.Fmt.{signed_decimal}
 use Rattle.mof_metamodel.specs.declared.desc.MetaDesc.{MetaDesc}

@@ -3,9 +3,8 @@
 --
 -- Places in a tree count, in document order, the start of each element, its attributes, its runs of characters and its end. What
 -- stands directly behind a start tag has the place of what follows in the tree.
-use Rattle.std.specs.Prelude.{ℕ, suc, ◌+◌, ◌==◌, ◌||◌, ◌&&◌, Bool, true, false, not, is_some, List, [], ◌∷◌, ◌++◌, length, filter, codes, Option, None, Some, if◌then◌else◌}
-use Rattle.std.specs.List.{list_any}
-use Rattle.std.specs.Option.{option_map, option_and_then, unwrap_or}
+use Rattle.std.specs.Prelude.{ℕ, suc, ◌+◌, Bool, is_some, List, [], ◌∷◌, ◌++◌, length, filter, Option, None, Some, if◌then◌else◌}
+use Rattle.std.specs.Option.{option_map, unwrap_or}
 use Rattle.mof_metamodel.specs.declared.desc.MetaDesc.{MetaDesc}
 use Rattle.mof_metamodel.specs.declared.desc.PropType.{PropType}
 use Rattle.mof_metamodel.specs.declared.desc.PropType.TheVariants as types

@@ -1,8 +1,7 @@
 -- The faults of a tree of elements, by a metamodel: those that are told by a place in the tree, and those of references, which are told
 -- by the object, the property and the number of what is written there (MOF 2.5.1, 12.4; UML 2.5.1, 7.5, 9.5.3 and 11.5).
-use Rattle.std.specs.Prelude.{◌≡◌, ◌≢◌, ◌⊎◌, ℕ, ◌<◌, ◌==◌, Bool, true, false, List, length, slice_get, Contains, Option, None, Some}
-use Rattle.mof_metamodel.specs.declared.desc.MetaDesc.{MetaDesc}
-use Rattle.mof_metamodel.specs.Metamodels.{props_of, prop_at, type_of, opposite_of}
+use Rattle.std.specs.Prelude.{◌≡◌, ◌≢◌, ◌⊎◌, ℕ, ◌<◌, true, List, slice_get, Contains, Some}
+use Rattle.mof_metamodel.specs.Metamodels.{prop_at, type_of, opposite_of}
 use Rattle.object_tables.specs.Models.{ConformsTo}
 use Rattle.xmi_profile.specs.declared.fault.ModelFault.{ModelFault}
 use Rattle.xmi_profile.specs.declared.fault.ModelFault.TheVariants as faults

@@ -1,7 +1,7 @@
 -- Which fault of a tree of elements is told: too many objects; else the first by its place, and of those at one place the first by its
 -- kind; else the first dangling reference, the first object that is contained twice, the first mismatch of ends; else the model isn't
 -- valid; else it nests too deeply.
-use Rattle.std.specs.Prelude.{◌≡◌, ◌⊎◌, ℕ, ◌<◌, ◌≤◌, List, Option, None, Some}
+use Rattle.std.specs.Prelude.{◌≡◌, ◌⊎◌, ℕ, ◌<◌, ◌≤◌, List, Some}
 use Rattle.mof_metamodel.specs.declared.limits.TheConstants.{MAX_OBJECTS, MAX_DEPTH}
 use Rattle.object_tables.specs.declared.breach.Breach.{Breach}
 use Rattle.object_tables.specs.declared.limit.LimitKind.{LimitKind}

@@ -1,6 +1,6 @@
 -- How a property is written in an object's element (XMI 2.5.1, clause 9): values as attributes or as child elements, references as
 -- attributes of identifiers, and contained objects as child elements.
-use Rattle.std.specs.Prelude.{ℕ, ◌==◌, Bool, true, false, List, Option, None, Some, if◌then◌else◌}
+use Rattle.std.specs.Prelude.{ℕ, ◌==◌, Bool, false, Option, None, Some, if◌then◌else◌}
 use Rattle.mof_metamodel.specs.declared.desc.MetaDesc.{MetaDesc}
 use Rattle.mof_metamodel.specs.Metamodels.{prop_at, type_of, opposite_of}
 use Rattle.object_tables.specs.Models.{is_class_type}

@@ -1,6 +1,5 @@
 -- Which kinds of faults stand at an element, seen by itself (XMI 2.5.1, clause 7).
-use Rattle.std.specs.Prelude.{◌≡◌, ◌⊎◌, ℕ, suc, ◌+◌, ◌||◌, ◌&&◌, Bool, true, false, not, is_some, List, [], ◌∷◌, length, codes, slice_get, Contains, Option, None, Some, if◌then◌else◌}
-use Rattle.std.specs.Option.{option_map}
+use Rattle.std.specs.Prelude.{◌≡◌, ◌⊎◌, ℕ, suc, ◌||◌, ◌&&◌, Bool, true, false, not, is_some, List, [], ◌∷◌, codes, slice_get, Contains, Option, None, Some, if◌then◌else◌}
 use Rattle.mof_metamodel.specs.declared.desc.MetaDesc.{MetaDesc}
 use Rattle.mof_metamodel.specs.Characters.{is_identifier_text}
 use Rattle.mof_metamodel.specs.Metamodels.{prop_number, type_of}

@@ -12,7 +12,12 @@ pub mod Judged
 pub mod Faults
 pub mod Content
 pub mod FirstFault
+pub mod Reads
 pub mod Scanning
 pub mod Listing
 pub mod Bytes
+pub mod Lexical
+pub mod Judging
+pub mod Firsts
+pub mod Numbering
 pub mod Writable

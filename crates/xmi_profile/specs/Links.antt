@@ -1,6 +1,6 @@
 -- Links as a file writes them (XMI 2.5.1, 7.10; UML 2.5.1, 11.5: a link of an association has two ends). An object speaks at a reference
 -- where it writes it in any form. A pair of objects is linked where one that speaks names the other.
-use Rattle.std.specs.Prelude.{◌≡◌, ◌⊎◌, ℕ, ◌<◌, ◌||◌, Bool, true, false, not, is_some, List, [], ◌∷◌, AllPairs, Option, None, Some}
+use Rattle.std.specs.Prelude.{◌≡◌, ◌⊎◌, ℕ, ◌<◌, ◌||◌, Bool, true, false, is_some, List, [], ◌∷◌, AllPairs, Some}
 use Rattle.mof_metamodel.specs.Metamodels.{opposite_of}
 use Rattle.object_tables.specs.Models.{ModelData, IsLinked, partners_at}
 use Rattle.xmi_profile.specs.References.{Target}

@@ -1,5 +1,5 @@
 -- The elements of a tree as a list, which grows with each start tag, run of characters and end in document order.
-use Rattle.std.specs.Prelude.{ℕ, suc, ◌+◌, ◌-◌, ◌<◌, ◌≤◌, All, Bool, List, [], ◌∷◌, ◌++◌, length, take, slice_get, Option, None, Some, if◌then◌else◌}
+use Rattle.std.specs.Prelude.{ℕ, suc, ◌+◌, ◌-◌, ◌^◌, ◌<◌, ◌≤◌, All, Bool, List, [], ◌∷◌, ◌++◌, length, take, slice_get, Option, None, Some, if◌then◌else◌}
 use Rattle.std.specs.Option.{option_and_then}
 use Rattle.mof_metamodel.specs.declared.desc.MetaDesc.{MetaDesc}
 use Rattle.object_tables.specs.Lists.{update_at}
@@ -99,3 +99,10 @@ pub record IsSound (meta : MetaDesc) (l : Listing) : Type 0 where
   pub ancestors : All (λ n. n < length l.elements) l.ancestors
   pub within : All (λ (e : Element). IsWithin meta e.role) l.elements
   pub number : l.number ≤ length l.elements
+  pub places : All (λ (e : Element). e.place ≤ l.place) l.elements
+
+-- what is known of elements that are to be judged: their classes and properties are those of the metamodel, and places behind theirs
+-- have room
+pub record AreKnown (meta : MetaDesc) (es : List Element) : Type 0 where
+  pub within : All (λ (e : Element). IsWithin meta e.role) es
+  pub room : All (λ (e : Element). e.place + 2 ^ 64 < 2 ^ 128) es

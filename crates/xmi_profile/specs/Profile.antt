@@ -1,5 +1,5 @@
 -- Words of the profile, and a model by the names of its metamodel (XMI 2.5.1, clause 7; MOF 2.5.1, 12.4).
-use Rattle.std.specs.Prelude.{ℕ, ◌==◌, ◌&&◌, Bool, true, false, nat_eq, is_some, List, [], ◌++◌, map, filter, length, codes, Option, None, Some}
+use Rattle.std.specs.Prelude.{ℕ, ◌&&◌, Bool, nat_eq, is_some, List, [], filter, length, codes, Option, None, Some}
 use Rattle.std.specs.List.{list_any, range_with_len}
 use Rattle.mof_metamodel.specs.declared.desc.MetaDesc.{MetaDesc}
 use Rattle.mof_metamodel.specs.Metamodels.{props_of, prop_at, class_at as meta_class}

@@ -1,6 +1,5 @@
 -- What the words of an attribute, `xmi:idref` and `href` name (XMI 2.5.1, 7.10: linking).
-use Rattle.std.specs.Prelude.{ℕ, ◌==◌, ◌||◌, Bool, true, false, is_some, List, [], ◌∷◌, ◌++◌, length, map, codes, Option, None, Some, if◌then◌else◌}
-use Rattle.std.specs.List.{list_any}
+use Rattle.std.specs.Prelude.{ℕ, ◌==◌, ◌||◌, Bool, List, [], ◌∷◌, ◌++◌, length, map, codes, Option, None, Some, if◌then◌else◌}
 use Rattle.std.specs.Option.{option_map}
 use Rattle.mof_metamodel.specs.Characters.{is_blank, same_name}
 use Rattle.xmi_profile.specs.declared.fault.Externs.{Externs}

@@ -1,7 +1,7 @@
 -- What the elements of a file write: identifiers, values and references by objects and properties (XMI 2.5.1, clauses 7 and 9).
-use Rattle.std.specs.Prelude.{ℕ, suc, ◌+◌, ◌==◌, ◌||◌, ◌&&◌, Bool, true, false, not, nat_eq, is_some, List, [], ◌∷◌, ◌++◌, length, map, filter, filter_map, position, codes, slice_get, Option, None, Some, if◌then◌else◌}
-use Rattle.std.specs.List.{list_any, flat_map}
-use Rattle.std.specs.Option.{option_map, option_and_then, unwrap_or}
+use Rattle.std.specs.Prelude.{ℕ, suc, ◌==◌, ◌&&◌, Bool, false, not, nat_eq, is_some, List, [], ◌∷◌, ◌++◌, length, map, filter, filter_map, position, codes, slice_get, Option, None, Some, if◌then◌else◌}
+use Rattle.std.specs.List.{list_any}
+use Rattle.std.specs.Option.{unwrap_or}
 use Rattle.std.specs.Fmt.{decimal}
 use Rattle.mof_metamodel.specs.declared.desc.MetaDesc.{MetaDesc}
 use Rattle.mof_metamodel.specs.Characters.{same_name, is_identifier_text}

@@ -1,5 +1,5 @@
 -- When calls of a writer may come one after another. What makes numbers characters is left out, since each text of the code has such alone.
-use Rattle.std.specs.Prelude.{◌≡◌, ◌==◌, ◌<◌, ◌&&◌, ℕ, suc, Bool, not, List, [], ◌∷◌, ◌++◌, IsTrue, length, is_some, All, map, if◌then◌else◌}
+use Rattle.std.specs.Prelude.{◌≡◌, ◌==◌, ◌<◌, ◌&&◌, ℕ, suc, Bool, not, List, [], ◌∷◌, IsTrue, length, is_some, All, map, if◌then◌else◌}
 use Rattle.std.specs.List.{flat_map}
 use Rattle.mof_metamodel.specs.Characters.{is_storable_text}
 use Rattle.xmi_text.specs.Names.{is_name}

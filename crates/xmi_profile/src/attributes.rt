@@ -1,7 +1,7 @@
 ghost use Rattle.std.specs.Prelude.{◌≡◌, List, map, length, chars, option_copied, option_map, IsTrue, is_some};
 ghost use Rattle.xmi_text.specs.Trees.{pair_of};
 ghost use Rattle.xmi_profile.specs.Attributes as names;
-ghost use Rattle.xmi_profile.specs.Scanning.{is_own, pairs_of};
+ghost use Rattle.xmi_profile.specs.Scanning.{is_own, number_from, number_where, pairs_of};
 
 use crate::names::{Own, is_named, is_own};
 use mof_metamodel::{Seq, Text};
@@ -38,6 +38,20 @@ impl Attributes {
         self.items.len()
     }
 
+    /// The attributes in their order.
+    pub(crate) fn as_slice(&self) -> &[Attr]
+        ensures { pairs_of result.now ≡ self.now }
+    {
+        self.items.as_slice()
+    }
+
+    /// The number, from 0, of the first one of this name.
+    pub(crate) fn number(&self, own: Own) -> Option<usize>
+        ensures { result ≡ number_where (is_own own) self.now }
+    {
+        first_number(self.items.as_slice(), own)
+    }
+
     /// The value of the first one of this name.
     pub(crate) fn value(&self, own: Own) -> Option<&Text>
         ensures { option_copied result ≡ names.value_where (is_own own) self.now }
@@ -64,6 +78,18 @@ fn first_value(attrs: &[Attr], own: Own) -> Option<&Text>
     for attr in attrs {
         if is_own(own, attr.name.as_str()) {
             return Some(&attr.value);
+        }
+    }
+    None
+}
+
+/// The number of the first attribute of this name.
+fn first_number(attrs: &[Attr], own: Own) -> Option<usize>
+    ensures { result ≡ number_from (is_own own) 0 (pairs_of attrs.now) }
+{
+    for (number, attr) in attrs.iter().enumerate() {
+        if is_own(own, attr.name.as_str()) {
+            return Some(number);
         }
     }
     None

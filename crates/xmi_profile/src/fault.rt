@@ -3,7 +3,7 @@ ghost use Rattle.xmi_profile.specs.Words.{fault_word};
 
 use mof_metamodel::{NoMemory, Text};
 use object_tables::{Breach, LimitKind};
-use xmi_text::TextFault;
+use xmi_text::{TextError, TextFault};
 
 /// What a reference to something outside the file may name.
 #[derive(Clone, Copy)]
@@ -95,5 +95,18 @@ impl From<NoMemory> for XmiError {
 
     fn from(_error: NoMemory) -> XmiError {
         XmiError::NoMemory
+    }
+}
+
+impl From<TextError> for XmiError {
+    ghost use Rattle.xmi_profile.specs.Bytes.{error_of};
+
+    ghost from_gives = { λ given e. e ≡ error_of given };
+
+    fn from(error: TextError) -> XmiError {
+        match error {
+            TextError::Fault(fault) => XmiError::Text(fault),
+            TextError::NoMemory => XmiError::NoMemory,
+        }
     }
 }

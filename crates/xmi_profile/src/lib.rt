@@ -4,10 +4,15 @@
 mod attributes;
 mod element;
 mod fault;
+mod fault_laws;
 mod form;
+mod judging;
+mod lexical;
 mod listing;
 mod listing_laws;
 mod names;
+mod numbering;
+mod reading;
 mod role;
 mod roles;
 mod target;

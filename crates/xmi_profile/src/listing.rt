@@ -137,6 +137,13 @@ impl Listing {
         }
     }
 
+    /// The elements.
+    pub(crate) fn elements(&self) -> &[Element]
+        ensures { result.now ≡ self.now.elements }
+    {
+        self.elements.as_slice()
+    }
+
     /// What the next element is.
     fn next_role(
         &self,

@@ -161,7 +161,7 @@ fn behind_on(
     }
 }
 
-fn is_blank(c: char) -> bool
+pub(crate) fn is_blank(c: char) -> bool
     ensures { result ≡ blank c }
 {
     matches!(c, ' ' | '\t' | '\n' | '\r')

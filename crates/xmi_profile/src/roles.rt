@@ -1,10 +1,11 @@
 ghost use Rattle.std.specs.Prelude.{◌≡◌, ◌<◌, ◌↔◌, chars, option_copied, option_map, IfOk, IfSome, IsTrue, None, Some};
+ghost use Rattle.mof_metamodel.specs.declared.desc.MetaDesc.{MetaDesc};
 ghost use Rattle.mof_metamodel.specs.Metamodels.{class_count, prop_count, type_of, IsProp};
 ghost use Rattle.object_tables.specs.Models.{is_class_type};
 ghost use Rattle.xmi_profile.specs.Elements as elements;
 ghost use Rattle.xmi_profile.specs.Profile as words;
 ghost use Rattle.xmi_profile.specs.References as references;
-ghost use Rattle.xmi_profile.specs.Scanning.{IsWithin};
+ghost use Rattle.xmi_profile.specs.Scanning.{IsWithin, HasProperty};
 
 use crate::attributes::Attributes;
 use crate::fault::Externs;
@@ -52,6 +53,7 @@ fn class_named_by(alloc: Global, attrs: &Attributes, name: &str) -> Result<Text,
 
 /// The element of an object whose class has this name.
 fn object_role(meta: &MetaModel, number: u64, named: Text, within: Option<(u64, u32)>) -> Role
+    requires { HasProperty meta.now within }
     ensures role { result ≡ elements.object_role meta.now number named within }
     ensures within { IsWithin meta.now result }
 {
@@ -131,7 +133,8 @@ impl<'m> Profile<'m> {
         class: ClassId,
         attrs: &Attributes,
     ) -> Result<Role, NoMemory>
-        requires { class.0 < class_count self.now.meta.now }
+        requires class { class.0 < class_count self.now.meta.now }
+        requires within { within.1 < prop_count self.now.meta.now }
         ensures role { IfOk result (λ r. r ≡ elements.object_role self.now.meta.now number (elements.class_named_by attrs.now (words.class_name self.now.meta.now class.0)) (Some within)) }
         ensures within { IfOk result (IsWithin self.now.meta.now) }
     {
@@ -238,7 +241,8 @@ impl<'m> Profile<'m> {
 
 /// An element in the element of a value or of a reference.
 fn role_in_property(o: u64, p: u32, name: &str) -> Role
-    ensures { result ≡ elements.role_in_property o p (chars name.now) }
+    ensures role { result ≡ elements.role_in_property o p (chars name.now) }
+    ensures within { (meta : MetaDesc) → p < prop_count meta → IsWithin meta result }
 {
     if is_skipped_name(name) {
         Role::Skipped

@@ -1,8 +1,7 @@
-use Rattle.std.proofs.Common.{◌≡◌, ℕ, List, sym, ap, ◌∙◌, None}
+use Rattle.std.proofs.Common.{◌≡◌, sym, ap, ◌∙◌, None}
 use Rattle.std.specs.Prelude.{chars}
 use Rattle.std.specs.List.{fold}
 use Rattle.std.proofs.lemmas.List.{map-id}
-use Rattle.std.proofs.lemmas.List.Sums.{fold-append}
 use Rattle.std.proofs.lemmas.Iterator.{YieldsList-from_chars}
 use Rattle.std.proofs.lemmas.Iterator.Consumers.{YieldsList-end}
 use Rattle.xmi_profile.specs.Scanning.{behind_on}

@@ -1,4 +1,4 @@
-use Rattle.std.proofs.Common.{◌≡◌, sym, ap, ap₂, ◌∙◌, refl}
+use Rattle.std.proofs.Common.{ap, ap₂, ◌∙◌, refl}
 use Rattle.std.specs.Prelude.{encode_utf8_all}
 use Rattle.xmi_text.specs.Calls.{wrote}
 use Rattle.xmi_profile.specs.Canon.{head}

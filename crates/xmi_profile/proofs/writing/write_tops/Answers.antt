@@ -1,4 +1,4 @@
-use Rattle.std.proofs.Common.{◌≡◌, ◌<◌, ◌+◌, ◌-◌, ℕ, List, sym, ap, subst, ◌∙◌, arith, length}
+use Rattle.std.proofs.Common.{◌≡◌, ◌<◌, ◌+◌, ◌-◌, ℕ, List, subst, arith, length}
 use Rattle.std.specs.List.{flat_map, range_with_len}
 use Rattle.xmi_text.specs.Calls.{Call, wrote}
 use Rattle.xmi_profile.specs.Canon.{top_calls, top_numbers}

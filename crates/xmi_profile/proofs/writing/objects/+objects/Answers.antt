@@ -6,7 +6,6 @@ use Rattle.mof_metamodel.specs.Metamodels.{prop_count, props_of}
 use Rattle.mof_metamodel.specs.Tables.{prop_numbers}
 use Rattle.object_tables.specs.Models.{partners_at}
 use Rattle.xmi_text.specs.Calls.{wrote}
-use Rattle.xmi_text.specs.Writing.{Written}
 use Rattle.xmi_profile.specs.declared.form.Form.TheVariants as forms
 use Rattle.xmi_profile.specs.Forms.{form_of}
 use Rattle.xmi_profile.specs.Profile.{prop_name, object_props}

@@ -1,5 +1,4 @@
-use Rattle.std.proofs.Common.{◌≡◌, ◌∷◌, ◌++◌, length}
-use Rattle.std.specs.List.{flat_map}
+use Rattle.std.proofs.Common.{◌≡◌, length}
 use Rattle.xmi_profile.specs.Profile.{id_text}
 use Rattle.xmi_profile.specs.Canon.{spaced_behind}
 use Rattle.xmi_profile.specs.Writable.{AreLive, ids_of}

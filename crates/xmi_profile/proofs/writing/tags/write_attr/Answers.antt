@@ -1,4 +1,4 @@
-use Rattle.std.proofs.Common.{◌≡◌, ◌<◌, sym, ap, subst, ◌∙◌, refl, true, false}
+use Rattle.std.proofs.Common.{◌<◌, sym, ap, subst, ◌∙◌, refl}
 use Rattle.std.proofs.lemmas.Result.{on_ok_weaker}
 use Rattle.mof_metamodel.specs.Metamodels.{prop_count}
 use Rattle.xmi_text.specs.Calls.{wrote}

@@ -1,9 +1,9 @@
-use Rattle.std.proofs.Common.{◌≡◌, ◌∷◌, [], sym, ap, ap₂, subst, ◌∙◌, List}
+use Rattle.std.proofs.Common.{sym, ap, ap₂, subst, ◌∙◌}
 use Rattle.std.proofs.lemmas.Result.{on_ok_weaker}
 use Rattle.mof_metamodel.specs.Characters.{is_storable_text}
 use Rattle.object_tables.specs.Models.{partners_at}
 use Rattle.xmi_text.specs.Writing.{with_attr}
-use Rattle.xmi_text.specs.Calls.{Call, wrote}
+use Rattle.xmi_text.specs.Calls.{wrote}
 use Rattle.xmi_profile.specs.Profile.{prop_name}
 use Rattle.xmi_profile.specs.Writable.{CanWrite}
 use Rattle.xmi_profile.proofs.WritingForms.{rest_live, ids_live, partners_written}

@@ -1,0 +1,7 @@
+use Rattle.std.proofs.Common.{ℕ, List, ◌∙◌, ap}
+use Rattle.xmi_profile.specs.Elements.{concrete_class}
+use Rattle.xmi_profile.proofs.Literals.{primitive}
+use Rattle.xmi_profile.proofs.numbering.primitive_class.Goals as goal
+
+pub returns : goal.returns
+returns c = c.concrete_class.ensures.class ∙ ap (λ (name : List ℕ). concrete_class c.args.meta.now name) primitive
