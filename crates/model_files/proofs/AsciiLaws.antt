@@ -1,6 +1,7 @@
 -- The characters of an ASCII text are its bytes.
-use Rattle.std.proofs.Common.{◌≡◌, ℕ, zero, suc, ◌<◌, ◌&&◌, Bool, true, false, nat_lt, List, [], ◌∷◌, get_or, IsTrue, arith, refl, sym, chars, true≢false}
+use Rattle.std.proofs.Common.{◌≡◌, ℕ, zero, suc, ◌&&◌, Bool, true, false, nat_lt, List, [], ◌∷◌, IsTrue, arith, refl, sym, chars, true≢false}
 use Rattle.std.specs.Str.{IsAscii}
+use Rattle.std.specs.Str as texts
 use Rattle.std.proofs.lemmas.Bool.Decides.{nat_tests}
 use Rattle.std.proofs.lemmas.Str.{chars-IsAscii}
 use Rattle.model_files.specs.Ascii.{is_ascii}
@@ -20,3 +21,7 @@ below (b ∷ bs) e (suc i) = below bs (rest_passes (nat_lt b 128) (is_ascii bs) 
 
 pub ascii_characters : (text : List ℕ) → IsTrue (is_ascii text) → chars text ≡ text
 ascii_characters text e = chars-IsAscii text (below text e)
+
+pub no_characters : texts.chars [] ≡ []
+unfolding texts.chars
+no_characters = refl

@@ -1,14 +1,13 @@
 -- No fault stands in the metamodel EMOF.
-use Rattle.std.proofs.Common.{◌≡◌, true, ℕ, zero, suc, ◌<◌, arith, refl, sym, ap, ◌∙◌, subst, List, [], ◌∷◌, ◌++◌, None, IsSome, IsTrue, rules, Result, Ok, Err}
+use Rattle.std.proofs.Common.{◌≡◌, true, zero, suc, arith, refl, sym, ap, ◌∙◌, subst, List, [], ◌∷◌, ◌++◌, None, rules, Result, Ok, Err}
 use Rattle.std.specs.Prelude.{IsOkUnless}
 use Rattle.mof_metamodel.specs.declared.desc.MetaDesc.{MetaDesc}
 use Rattle.mof_metamodel.specs.declared.fault.MetaError.{MetaError}
 use Rattle.mof_metamodel.specs.declared.fault.MetaError.TheVariants as errors
 use Rattle.mof_metamodel.specs.declared.fault.MetaFault.{MetaFault}
-use Rattle.mof_metamodel.specs.Metamodels.{class_count, lineage_within}
 use Rattle.mof_metamodel.specs.Tables.{IsGrounded}
 use Rattle.mof_metamodel.specs.WellMeta.{WellMeta}
-use Rattle.mof_metamodel.specs.MetaFaults.{IsSearchedWell, is_within_limits, first_bad_name, first_duplicate, first_unknown, first_bad_bounds, first_bad_opposite, first_two_containers}
+use Rattle.mof_metamodel.specs.MetaFaults.{is_within_limits, first_bad_name, first_duplicate, first_unknown, first_bad_bounds, first_bad_opposite, first_two_containers}
 use Rattle.mof_metamodel.proofs.LineageLemmas.{acyclic_from_grounded}
 use Rattle.mof_metamodel.proofs.WellLemmas.{well_from_searched}
 use Rattle.model_files.specs.Emof.{emof}

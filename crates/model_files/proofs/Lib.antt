@@ -1,5 +1,11 @@
 pub mod AsciiLaws
+pub mod BoundLaws
 pub mod DepthLaws
+pub mod DescriptionExamples
+pub mod DescriptionLaws
 pub mod EmofLaws
 pub mod Examples
+pub mod JsonFaultLaws
 pub mod JsonLaws
+pub mod JsonReadingLaws
+pub mod ShapeLaws

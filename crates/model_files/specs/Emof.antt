@@ -1,9 +1,8 @@
 -- The metamodel of files that hold metamodels: after the class part of EMOF (MOF 2.5.1, 12.4).
-use Rattle.std.specs.Prelude.{ℕ, Bool, true, false, List, [], ◌∷◌, ◌++◌, codes, Option, None, Some}
+use Rattle.std.specs.Prelude.{ℕ, Bool, true, false, List, [], ◌∷◌, ◌++◌, codes, None, Some}
 use Rattle.mof_metamodel.specs.declared.desc.MetaDesc.{MetaDesc}
 use Rattle.mof_metamodel.specs.declared.desc.ClassDesc.{ClassDesc}
 use Rattle.mof_metamodel.specs.declared.desc.PropDesc.{PropDesc}
-use Rattle.mof_metamodel.specs.declared.desc.OppDesc.{OppDesc}
 
 -- a property of at most one value or partner
 abbrev pub optional : List ℕ → List ℕ → PropDesc

@@ -1,12 +1,14 @@
 -- What a model as a value of JSON says, and its faults. Its objects are in the order of the list. What they write is what a tree of
 -- elements writes (XMI 2.5.1, clause 9): each slot of a reference as an attribute of identifiers, also where it is empty, and each value
 -- as a child element. So links, their orders and the faults of references are those of such a tree.
-use Rattle.std.specs.Prelude.{◌≡◌, ◌⊎◌, ℕ, suc, Bool, true, false, not, is_some, List, [], ◌∷◌, ◌++◌, map, codes, chars, MatchBool, Option, None, Some, if◌then◌else◌}
+use Rattle.std.specs.Prelude.{◌≡◌, ◌<◌, ◌≤◌, ℕ, suc, Bool, false, not, is_some, List, [], ◌∷◌, ◌++◌, length, map, codes, chars, Option, None, Some, if◌then◌else◌}
 use Rattle.std.specs.Fmt.{signed_decimal}
 use Rattle.std.specs.List.{list_any}
 use Rattle.std.specs.Option.{option_map, option_and_then, option_or, unwrap_or}
 use Rattle.serde_json.specs.Data.{Data, boolean, number, string, array, object, Items, no_items, item, Members, no_members, member}
 use Rattle.serde_json.specs.Find.{get_member, as_i64}
+use Rattle.mof_metamodel.specs.declared.limits.TheConstants.{MAX_OBJECTS}
+use Rattle.object_tables.specs.declared.limit.LimitKind.{LimitKind}
 use Rattle.object_tables.specs.declared.limit.LimitKind.TheVariants as limits
 use Rattle.mof_metamodel.specs.declared.desc.MetaDesc.{MetaDesc}
 use Rattle.mof_metamodel.specs.declared.desc.PropType.{PropType}
@@ -194,25 +196,36 @@ pub record SpellsModel (meta : MetaDesc) (d : Data) (m : ModelData) : Type 0 whe
   pub right : first_wrong meta (objects_of d) ≡ None
   pub model : IsModel (source_of meta d) m
 
--- the fault is one that is told by its place
-abbrev pub is_told_by_place : ModelFault → Bool
-is_told_by_place (faults.UnknownClass name) = true
-is_told_by_place (faults.UnknownProperty id prop) = true
-is_told_by_place (faults.WrongValue id prop) = true
-is_told_by_place (faults.DuplicateId id) = true
-is_told_by_place fault = false
+-- there are more objects than a model may have
+pub record HasTooMany (d : Data) : Type 0 where
+  pub shape : first_amiss d ≡ None
+  pub more : MAX_OBJECTS < length (objects_of d)
 
--- the fault is the one that is told of a value that has the form of a model: too many objects come first, then the faults that are
--- told by their place, and then those of references, of validity and of depth
+-- the fault is the first that is told by its place
 pub record IsFirstOfPlaces (meta : MetaDesc) (d : Data) (fault : ModelFault) : Type 0 where
   pub shape : first_amiss d ≡ None
-  pub fewer : ¬ IsFirstFault (source_of meta d) (faults.Limit limits.Objects)
+  pub fewer : length (objects_of d) ≤ MAX_OBJECTS
   pub first : first_wrong meta (objects_of d) ≡ Some fault
 
+-- no fault is told by its place, and of those of references, of validity and of depth this is the first
 pub record IsFirstOfOthers (meta : MetaDesc) (d : Data) (fault : ModelFault) : Type 0 where
   pub shape : first_amiss d ≡ None
-  pub right : (fault ≡ faults.Limit limits.Objects) ⊎ (first_wrong meta (objects_of d) ≡ None)
+  pub fewer : length (objects_of d) ≤ MAX_OBJECTS
+  pub right : first_wrong meta (objects_of d) ≡ None
   pub first : IsFirstFault (source_of meta d) fault
 
+-- the fault is the one that is told of a value that has the form of a model
+abbrev pub IsLimit : MetaDesc → Data → LimitKind → Type 0
+IsLimit meta d limits.Objects = HasTooMany d
+IsLimit meta d limits.Depth = IsFirstOfOthers meta d (faults.Limit limits.Depth)
+
 abbrev pub IsFirstContentFault : MetaDesc → Data → ModelFault → Type 0
-IsFirstContentFault meta d fault = MatchBool (is_told_by_place fault) (IsFirstOfPlaces meta d fault) (IsFirstOfOthers meta d fault)
+IsFirstContentFault meta d (faults.UnknownClass name) = IsFirstOfPlaces meta d (faults.UnknownClass name)
+IsFirstContentFault meta d (faults.UnknownProperty id prop) = IsFirstOfPlaces meta d (faults.UnknownProperty id prop)
+IsFirstContentFault meta d (faults.WrongValue id prop) = IsFirstOfPlaces meta d (faults.WrongValue id prop)
+IsFirstContentFault meta d (faults.DuplicateId id) = IsFirstOfPlaces meta d (faults.DuplicateId id)
+IsFirstContentFault meta d (faults.Dangling id prop reference) = IsFirstOfOthers meta d (faults.Dangling id prop reference)
+IsFirstContentFault meta d (faults.TwoContainers id) = IsFirstOfOthers meta d (faults.TwoContainers id)
+IsFirstContentFault meta d (faults.Mismatch id prop other other_prop) = IsFirstOfOthers meta d (faults.Mismatch id prop other other_prop)
+IsFirstContentFault meta d (faults.Invalid breach id) = IsFirstOfOthers meta d (faults.Invalid breach id)
+IsFirstContentFault meta d (faults.Limit kind) = IsLimit meta d kind

@@ -1,6 +1,13 @@
 pub mod Ascii
+pub mod Bounds
 pub mod CanonJson
+pub mod Described
 pub mod Emof
 pub mod JsonContent
+pub mod JsonFaults
+pub mod JsonSteps
+pub mod JsonText
 pub mod Literals
+pub mod Reflection
 pub mod Shape
+pub mod ShapeSteps

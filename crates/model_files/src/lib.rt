@@ -1,13 +1,23 @@
 //! Models and metamodels as files: models as JSON (RFC 8259), and metamodels as models of EMOF (MOF 2.5.1, 12.4).
 //!
 //! Costs: `write_json` takes time and memory by the length of the text, with a logarithm for the order of names; `emof_metamodel`
-//! a constant.
+//! a constant; `metamodel_of` by the objects of the model, beside `MetaModel::new`.
 #![tactic(auto)]
 
+mod bounds;
+mod description;
 mod emof;
+mod fault;
+mod json_faults;
+mod json_reading;
 mod json_values;
 mod json_writing;
+mod metamodels;
 mod names;
+mod reflection;
+mod shape;
 
 pub use emof::emof_metamodel;
+pub use fault::{FileError, JsonFault};
 pub use json_writing::write_json;
+pub use metamodels::metamodel_of;

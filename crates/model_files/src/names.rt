@@ -1,5 +1,5 @@
 //! Names, and the fixed texts that they are compared with.
-ghost use Rattle.std.specs.Prelude.{◌≡◌, IsTrue, IfOk, chars};
+ghost use Rattle.std.specs.Prelude.{◌≡◌, [], IsTrue, IfOk, chars};
 ghost use Rattle.mof_metamodel.specs.Metamodels.{same_name, is_primitive};
 ghost use Rattle.model_files.specs.Ascii.{is_ascii};
 
@@ -13,6 +13,14 @@ pub(crate) fn ascii(alloc: Global, text: &str) -> Result<Text, NoMemory>
     ensures { IfOk result (λ t. t ≡ text.now) }
 {
     Text::new(alloc, text)
+}
+
+/// The text without characters.
+#[tactic(auto, using(crate::proofs::AsciiLaws::no_characters))]
+pub(crate) fn empty_text() -> &'static str
+    ensures { chars result.now ≡ [] }
+{
+    ""
 }
 
 /// Whether a name is a text of ASCII characters.
