@@ -1,11 +1,11 @@
-use crate::expansion::expanded;
 use crate::expression_answers::{put_end, put_expr, put_type, put_typed};
-use crate::pen::Pen;
-use crate::setting::{environment, metamodels};
+use crate::setting::environment;
 use crate::tokens::{put_count, put_tokens};
 use crate::type_answers::{
     put_conforms, put_path, put_same, put_storable, put_type_text, put_upper, put_values,
 };
+use case_texts::{Pen, expanded};
+use expression_settings::metamodels;
 use mof_metamodel::{NoMemory, Text};
 use ocl_types::{Env, Metas};
 use std::alloc::Global;

@@ -1,9 +1,9 @@
 //! Answers on expressions: their trees, where they end, and their types.
 use crate::expressions::put_tree;
-use crate::faults::put_type_fault;
-use crate::pen::Pen;
 use crate::reading::{Reading, read};
 use crate::typed_trees::put_typed_tree;
+use case_texts::Pen;
+use expression_settings::put_type_fault;
 use ocl_types::{Env, Metas, type_expr, type_text};
 use std::alloc::Global;
 

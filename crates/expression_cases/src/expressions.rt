@@ -1,5 +1,6 @@
-use crate::pen::Pen;
-use crate::words::{bool_word, kind_word, operator_word};
+use crate::words::operator_word;
+use case_texts::Pen;
+use expression_settings::{bool_word, kind_word};
 use ocl_types::path_text;
 use qv_syntax::{Args, Expr, Infix, Kind, Literal, Name, Path, Postfix, TypeTree};
 use std::alloc::Global;

@@ -27,16 +27,13 @@
 #![tactic(auto)]
 
 mod cases;
-mod expansion;
 mod expression_answers;
 mod expressions;
 mod faults;
-mod pen;
 mod reading;
 mod setting;
 mod tokens;
 mod type_answers;
-mod type_names;
 mod typed_trees;
 mod words;
 

@@ -1,5 +1,5 @@
 use crate::faults::{put_lex_fault, put_parse_fault};
-use crate::pen::Pen;
+use case_texts::Pen;
 use ocl_parser::parse_expr;
 use ql_lex::{Tokens, lex};
 use qv_syntax::Expr;

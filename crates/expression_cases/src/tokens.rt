@@ -1,5 +1,5 @@
 use crate::faults::put_lex_fault;
-use crate::pen::Pen;
+use case_texts::Pen;
 use ql_lex::{Tokens, lex};
 use std::alloc::Global;
 

@@ -1,8 +1,7 @@
 //! Answers on types by their names.
-use crate::faults::put_type_fault;
-use crate::pen::Pen;
-use crate::type_names::{Refused, meta_named, type_named};
 use crate::words::yes_or_no;
+use case_texts::Pen;
+use expression_settings::{Refused, meta_named, put_type_fault, type_named};
 use mof_metamodel::{NoMemory, Seq, Span, Text};
 use ocl_types::{Env, Metas, type_text, written_type};
 use qv_syntax::{Literal, Name, Path, Ty, TypeTree, Values};

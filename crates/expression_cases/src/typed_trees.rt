@@ -1,6 +1,7 @@
 use crate::expressions::put_string;
-use crate::pen::Pen;
-use crate::words::{bool_word, kind_word, operator_word};
+use crate::words::operator_word;
+use case_texts::Pen;
+use expression_settings::{bool_word, kind_word};
 use mof_metamodel::{ClassId, EnumId};
 use ocl_types::{Metas, type_text};
 use qv_syntax::{Call, Node, Ty, Typed, TypedInfix, TypedPostfix};

@@ -1,4 +1,4 @@
-use qv_syntax::{Kind, Operator};
+use qv_syntax::Operator;
 
 /// An operator as it is written.
 pub fn operator_word(operator: Operator) -> &'static str {
@@ -17,32 +17,6 @@ pub fn operator_word(operator: Operator) -> &'static str {
         Operator::Minus => "-",
         Operator::Times => "*",
     }
-}
-
-/// A kind of collection as it is written.
-pub fn kind_word(kind: Kind) -> &'static str {
-    match kind {
-        Kind::Set => "Set",
-        Kind::Bag => "Bag",
-        Kind::Sequence => "Sequence",
-        Kind::OrderedSet => "OrderedSet",
-    }
-}
-
-/// The kind of collection of a word.
-pub fn kind_named(word: &str) -> Option<Kind> {
-    match word {
-        "Set" => Some(Kind::Set),
-        "Bag" => Some(Kind::Bag),
-        "Sequence" => Some(Kind::Sequence),
-        "OrderedSet" => Some(Kind::OrderedSet),
-        _ => None,
-    }
-}
-
-/// A Boolean as it is written.
-pub fn bool_word(value: bool) -> &'static str {
-    if value { "true" } else { "false" }
 }
 
 /// A yes or a no.

@@ -1,7 +1,7 @@
-use crate::expansion::expanded;
 use crate::printing::shown;
 use crate::reading::{outcome, outcomes, prefixes, times};
 use crate::writing::written;
+use case_texts::expanded;
 use mof_metamodel::NoMemory;
 use std::alloc::Global;
 use std::str;

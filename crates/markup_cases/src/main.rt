@@ -18,7 +18,6 @@
 #![tactic(auto)]
 
 mod cases;
-mod expansion;
 mod printing;
 mod reading;
 mod writing;

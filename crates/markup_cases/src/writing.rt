@@ -1,6 +1,6 @@
-use crate::expansion::expanded;
 use crate::printing::{shown, shown_up_to};
 use crate::reading::outcomes;
+use case_texts::expanded;
 use mof_metamodel::{NoMemory, is_storable};
 use std::alloc::Global;
 use std::str;

@@ -1,6 +1,5 @@
-use crate::expansion::expanded;
-use crate::pen::Pen;
 use crate::scripts::put_script;
+use case_texts::{Pen, expanded};
 use mof_metamodel::{NoMemory, Text};
 use ql_lex::{LexError, Tokens, lex};
 use qvtr_parser::{ParseError, parse_script};

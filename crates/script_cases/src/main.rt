@@ -8,8 +8,6 @@
 #![tactic(auto)]
 
 mod cases;
-mod expansion;
-mod pen;
 mod relations;
 mod scripts;
 mod templates;

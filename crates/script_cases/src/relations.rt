@@ -1,6 +1,6 @@
-use crate::pen::Pen;
 use crate::scripts::put_names;
 use crate::templates::put_template;
+use case_texts::Pen;
 use qv_syntax::{BlockTree, DomainMark, DomainTree, RelationTree, VarsTree};
 
 /// A relation in short.

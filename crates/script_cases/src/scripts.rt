@@ -1,6 +1,6 @@
-use crate::pen::Pen;
 use crate::relations::put_relation;
 use crate::templates::put_path;
+use case_texts::Pen;
 use qv_syntax::{Declaration, KeyTree, ModelTree, Name, ParamTree, QueryTree, Script};
 
 /// A script in short.

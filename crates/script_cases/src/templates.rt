@@ -1,4 +1,4 @@
-use crate::pen::Pen;
+use case_texts::Pen;
 use qv_syntax::{ItemTree, ItemValueTree, Path, TemplateTree};
 
 /// The names of a path.

@@ -1,19 +1,10 @@
 //! Types by their names.
+use crate::refused::Refused;
 use crate::words::kind_named;
 use mof_metamodel::{Boxed, ClassId, EnumId, MetaModel, NoMemory};
 use ocl_types::Metas;
 use qv_syntax::{Kind, Ty};
 use std::alloc::Global;
-
-/// What a line asks for is not there, or may not stand.
-#[derive(Clone, Copy)]
-pub struct Refused;
-
-impl From<NoMemory> for Refused {
-    fn from(_error: NoMemory) -> Refused {
-        Refused
-    }
-}
 
 /// The number of a metamodel, by its name.
 pub fn meta_named(metas: &Metas, name: &str) -> Option<u32> {

@@ -1,0 +1,133 @@
+use crate::models::models;
+use crate::printing::put_out;
+use crate::queries::{queries, reach};
+use crate::reading::{Fault, typed};
+use crate::variables::{Stage, bound};
+use case_texts::Pen;
+use expression_settings::{bool_word, metamodels, slots};
+use mof_metamodel::{NoMemory, Seq, Text};
+use ocl_eval::{eval, holds};
+use ocl_types::{Env, Metas};
+use qv_syntax::{ModelSlot, Program, Query};
+use qvtr_semantics::Binding;
+use std::alloc::Global;
+
+/// The answers to the cases of a setting, whose name is its first line.
+pub fn answers(alloc: Global, setting: &str) -> Result<Text, NoMemory> {
+    let mut pen = Pen::new(alloc)?;
+    put_heading(&mut pen, setting);
+    let metas = metamodels(alloc, &mut pen, setting)?;
+    put_answers(alloc, &mut pen, &metas, setting)?;
+    pen.written()
+}
+
+fn put_answers(alloc: Global, pen: &mut Pen, metas: &Metas, setting: &str) -> Result<(), NoMemory> {
+    let models = models(alloc, pen, metas, setting)?;
+    let program = program(alloc, metas, setting)?;
+    let stage = Stage {
+        alloc,
+        metas,
+        program: &program,
+        models: &models,
+    };
+    put_cases(pen, &stage, setting)
+}
+
+fn put_cases(pen: &mut Pen, stage: &Stage<'_, '_>, setting: &str) -> Result<(), NoMemory> {
+    let mut env = reach(stage.alloc, pen, stage.metas, setting)?;
+    let binding = bound(pen, stage, &mut env, setting)?;
+    put_lines(pen, stage, &env, &binding, setting);
+    Ok(())
+}
+
+fn put_lines(
+    pen: &mut Pen,
+    stage: &Stage<'_, '_>,
+    env: &Env<'_>,
+    binding: &Binding,
+    setting: &str,
+) {
+    for line in setting.lines() {
+        answer_line(pen, stage, env, binding, line);
+    }
+}
+
+/// Names the setting, but not where a comment stands above the first one.
+fn put_heading(pen: &mut Pen, setting: &str) {
+    if !setting.starts_with('#') {
+        pen.put("setting ");
+        pen.put(setting.lines().next().unwrap_or(""));
+        pen.put("\n");
+    }
+}
+
+/// The program of a setting: its models and queries alone.
+fn program(alloc: Global, metas: &Metas, setting: &str) -> Result<Program, NoMemory> {
+    let mut silent = Pen::new(alloc)?;
+    let queries = queries(alloc, &mut silent, metas, setting)?;
+    let models = slots(alloc, &mut silent, metas, setting)?;
+    with_queries(alloc, models, queries)
+}
+
+fn with_queries(
+    alloc: Global,
+    models: Seq<ModelSlot>,
+    queries: Seq<Query>,
+) -> Result<Program, NoMemory> {
+    let name = Text::new(alloc, "Cases")?;
+    Ok(Program {
+        name,
+        models,
+        target: 0,
+        keys: Seq::new(alloc),
+        rels: Seq::new(alloc),
+        queries,
+    })
+}
+
+/// Prints a line that is a case, and its answer.
+fn answer_line(pen: &mut Pen, stage: &Stage<'_, '_>, env: &Env<'_>, binding: &Binding, line: &str) {
+    let (word, text) = line.split_once(' ').unwrap_or((line, ""));
+    if word != "value" && word != "holds" {
+        return;
+    }
+    pen.put(line);
+    pen.put(" => ");
+    let answered = if word == "value" {
+        put_value(pen, stage, env, binding, text)
+    } else {
+        put_holds(pen, stage, env, binding, text)
+    };
+    if let Err(fault) = answered {
+        pen.put(fault.0);
+    }
+    pen.put("\n");
+}
+
+/// The value of an expression.
+fn put_value(
+    pen: &mut Pen,
+    stage: &Stage<'_, '_>,
+    env: &Env<'_>,
+    binding: &Binding,
+    text: &str,
+) -> Result<(), Fault> {
+    let typed = typed(stage.alloc, env, text)?;
+    let out = eval(stage.alloc, stage.program, &typed, stage.models, binding)?;
+    put_out(pen, stage, &out);
+    Ok(())
+}
+
+/// Whether the value of an expression is true.
+fn put_holds(
+    pen: &mut Pen,
+    stage: &Stage<'_, '_>,
+    env: &Env<'_>,
+    binding: &Binding,
+    text: &str,
+) -> Result<(), Fault> {
+    let typed = typed(stage.alloc, env, text)?;
+    let holds = holds(stage.alloc, stage.program, &typed, stage.models, binding)?;
+    pen.put(bool_word(holds));
+    Ok(())
+}

@@ -1,0 +1,60 @@
+//! Expressions by their text.
+use case_texts::expanded;
+use mof_metamodel::NoMemory;
+use ocl_parser::{ParseError, parse_expr};
+use ocl_types::{Env, TypeError, type_expr};
+use ql_lex::{LexError, Tokens, lex};
+use qv_syntax::{Expr, Typed};
+use std::alloc::Global;
+
+/// Why a text is no expression.
+#[derive(Clone, Copy)]
+pub struct Fault(pub &'static str);
+
+impl From<NoMemory> for Fault {
+    fn from(_error: NoMemory) -> Fault {
+        Fault("no memory")
+    }
+}
+
+impl From<LexError> for Fault {
+    fn from(error: LexError) -> Fault {
+        match error {
+            LexError::Fault(fault) => Fault(fault.kind.word()),
+            LexError::NoMemory => Fault("no memory"),
+        }
+    }
+}
+
+impl From<ParseError> for Fault {
+    fn from(error: ParseError) -> Fault {
+        Fault(error.word())
+    }
+}
+
+impl From<TypeError> for Fault {
+    fn from(error: TypeError) -> Fault {
+        match error {
+            TypeError::Fault(fault) => Fault(fault.word()),
+            TypeError::NoMemory => Fault("no memory"),
+        }
+    }
+}
+
+/// The expression of a text, with its types.
+pub fn typed(alloc: Global, env: &Env<'_>, text: &str) -> Result<Typed, Fault> {
+    let bytes = expanded(alloc, text)?;
+    let tokens = lex(alloc, bytes.as_slice())?;
+    let expr = read(alloc, &tokens)?;
+    Ok(type_expr(alloc, env, &expr)?)
+}
+
+/// The expression that the tokens are, with nothing behind it.
+fn read(alloc: Global, tokens: &Tokens<'_>) -> Result<Expr, Fault> {
+    let (expr, end) = parse_expr(alloc, tokens, 0)?;
+    if end == tokens.len() {
+        Ok(expr)
+    } else {
+        Err(Fault("Parse"))
+    }
+}
