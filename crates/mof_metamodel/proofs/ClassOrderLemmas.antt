@@ -11,15 +11,15 @@ use Rattle.std.proofs.lemmas.Grind.{flat_map-append}
 use Rattle.std.proofs.lemmas.List.Sums.{sum_by-cons}
 use Rattle.mof_metamodel.specs.declared.desc.MetaDesc.{MetaDesc}
 use Rattle.mof_metamodel.specs.declared.desc.ClassDesc.{ClassDesc}
-use Rattle.mof_metamodel.specs.Metamodels.{class_count, class_at, no_class, supers_of, with_item, joined, all_joined, lineage_within, reached_classes, lineage_of, first_own, own_props, props_of, joined_lists, inherited_props}
+use Rattle.mof_metamodel.specs.Metamodels.{class_count, class_at, no_class, supers_of, with_item, united, all_united, lineage_within, reached_classes, lineage_of, first_own, own_props, props_of, united_lists, inherited_props}
 use Rattle.mof_metamodel.specs.Tables.{IsGrounded}
-use Rattle.mof_metamodel.proofs.LineageLemmas.{Has, Contains-from_Has, Has-append_cases, Has-append_right, Has-append_left, Has-one, or_cases, or_left, or_right, all_joined-cases, lineage_parts, lineage_sound, lineage_more, acyclic_from_grounded}
+use Rattle.mof_metamodel.proofs.LineageLemmas.{Has, Contains-from_Has, Has-append_cases, Has-append_right, Has-append_left, Has-one, or_cases, or_left, or_right, all_united-cases, lineage_parts, lineage_sound, lineage_more, acyclic_from_grounded}
 
 -- ---- items of joint lists
 
-pub joined-append : (xs ys zs : List ℕ) → joined xs (ys ++ zs) ≡ joined (joined xs ys) zs
-joined-append xs [] zs = refl
-joined-append xs (y ∷ ys) zs = joined-append (with_item xs y) ys zs
+pub united-append : (xs ys zs : List ℕ) → united xs (ys ++ zs) ≡ united (united xs ys) zs
+united-append xs [] zs = refl
+united-append xs (y ∷ ys) zs = united-append (with_item xs y) ys zs
 
 with_present : (xs : List ℕ) (x : ℕ) → Has xs x → with_item xs x ≡ xs
 with_present xs x h = ap (λ b. cond b xs (xs ++ x ∷ [])) h
@@ -28,11 +28,11 @@ with_absent : (xs : List ℕ) (x : ℕ) → list_any (nat_eq x) xs ≡ false →
 with_absent xs x h = ap (λ b. cond b xs (xs ++ x ∷ [])) h
 
 -- items that are there add nothing
-pub joined-present : (xs ys : List ℕ) → ((q : ℕ) → Has ys q → Has xs q) → joined xs ys ≡ xs
-joined-present xs [] there = refl
-joined-present xs (y ∷ ys) there =
-    ap (λ zs. joined zs ys) (with_present xs y (there y (or_left _ _ (eq-eqb y y refl))))
-    ∙ joined-present xs ys (λ q h. there q (or_right _ _ h))
+pub united-present : (xs ys : List ℕ) → ((q : ℕ) → Has ys q → Has xs q) → united xs ys ≡ xs
+united-present xs [] there = refl
+united-present xs (y ∷ ys) there =
+    ap (λ zs. united zs ys) (with_present xs y (there y (or_left _ _ (eq-eqb y y refl))))
+    ∙ united-present xs ys (λ q h. there q (or_right _ _ h))
 
 absent : (xs : List ℕ) (q : ℕ) → (Has xs q → ⊥) → list_any (nat_eq q) xs ≡ false
 absent xs q lacks = by (list_any (nat_eq q) xs) refl
@@ -42,11 +42,11 @@ absent xs q lacks = by (list_any (nat_eq q) xs) refl
     by false e = refl
 
 -- numbers in a row, none of them there, stand behind
-joined-fresh : (n a : ℕ) (xs : List ℕ) → ((q : ℕ) → a ≤ q → q < a + n → Has xs q → ⊥) → joined xs (range_with_len a n) ≡ xs ++ range_with_len a n
-joined-fresh zero a xs fresh = sym (append-nil xs)
-joined-fresh (suc n) a xs fresh =
-    ap (λ zs. joined zs (range_with_len (a + 1) n)) (with_absent xs a (absent xs a (fresh a (omega arith) (omega arith))))
-    ∙ joined-fresh n (a + 1) (xs ++ a ∷ []) (λ q l u h. elim (Has-append_cases xs (a ∷ []) q h) [
+united-fresh : (n a : ℕ) (xs : List ℕ) → ((q : ℕ) → a ≤ q → q < a + n → Has xs q → ⊥) → united xs (range_with_len a n) ≡ xs ++ range_with_len a n
+united-fresh zero a xs fresh = sym (append-nil xs)
+united-fresh (suc n) a xs fresh =
+    ap (λ zs. united zs (range_with_len (a + 1) n)) (with_absent xs a (absent xs a (fresh a (omega arith) (omega arith))))
+    ∙ united-fresh n (a + 1) (xs ++ a ∷ []) (λ q l u h. elim (Has-append_cases xs (a ∷ []) q h) [
       | inl e ↦ fresh q (omega (arith, l)) (omega (arith, u)) e
       | inr e ↦ (let same : q ≡ a = Has-one a q e in omega (arith, l))
     ])
@@ -115,15 +115,15 @@ module _ (desc : MetaDesc) where
   ])
 
   -- one more class brings its own properties
-  flat_with_item : (cs : List ℕ) (c : ℕ) → flat_map (own_props desc) (with_item cs c) ≡ joined (flat_map (own_props desc) cs) (own_props desc c)
+  flat_with_item : (cs : List ℕ) (c : ℕ) → flat_map (own_props desc) (with_item cs c) ≡ united (flat_map (own_props desc) cs) (own_props desc c)
   flat_with_item cs c = by (list_any (nat_eq c) cs) refl
     where
-      by : (b : Bool) → list_any (nat_eq c) cs ≡ b → flat_map (own_props desc) (cond b cs (cs ++ c ∷ [])) ≡ joined (flat_map (own_props desc) cs) (own_props desc c)
-      by true e = sym (joined-present (flat_map (own_props desc) cs) (own_props desc c) (λ q h. flat_has cs c q e h))
+      by : (b : Bool) → list_any (nat_eq c) cs ≡ b → flat_map (own_props desc) (cond b cs (cs ++ c ∷ [])) ≡ united (flat_map (own_props desc) cs) (own_props desc c)
+      by true e = sym (united-present (flat_map (own_props desc) cs) (own_props desc c) (λ q h. flat_has cs c q e h))
       by false e =
           flat_map-append (own_props desc) cs (c ∷ [])
           ∙ ap (λ xs. flat_map (own_props desc) cs ++ xs) (flat_map-cons (own_props desc) c [] ∙ append-nil (own_props desc c))
-          ∙ sym (joined-fresh (length (class_at desc c).props) (first_own desc c) (flat_map (own_props desc) cs) fresh)
+          ∙ sym (united-fresh (length (class_at desc c).props) (first_own desc c) (flat_map (own_props desc) cs) fresh)
         where
           fresh : (q : ℕ) → first_own desc c ≤ q → q < first_own desc c + length (class_at desc c).props → Has (flat_map (own_props desc) cs) q → ⊥
           fresh q l u h =
@@ -132,27 +132,27 @@ module _ (desc : MetaDesc) where
               let there : Has cs c = let P : ℕ → Type 0 = λ z. Has cs z in subst P same owner.1 in
               cc
 
-  flat_joined : (xs ys : List ℕ) → flat_map (own_props desc) (joined xs ys) ≡ joined (flat_map (own_props desc) xs) (flat_map (own_props desc) ys)
-  flat_joined xs [] = refl
-  flat_joined xs (y ∷ ys) =
-      flat_joined (with_item xs y) ys
-      ∙ ap (λ zs. joined zs (flat_map (own_props desc) ys)) (flat_with_item xs y)
-      ∙ sym (joined-append (flat_map (own_props desc) xs) (own_props desc y) (flat_map (own_props desc) ys))
-      ∙ ap (joined (flat_map (own_props desc) xs)) (sym (flat_map-cons (own_props desc) y ys))
+  flat_united : (xs ys : List ℕ) → flat_map (own_props desc) (united xs ys) ≡ united (flat_map (own_props desc) xs) (flat_map (own_props desc) ys)
+  flat_united xs [] = refl
+  flat_united xs (y ∷ ys) =
+      flat_united (with_item xs y) ys
+      ∙ ap (λ zs. united zs (flat_map (own_props desc) ys)) (flat_with_item xs y)
+      ∙ sym (united-append (flat_map (own_props desc) xs) (own_props desc y) (flat_map (own_props desc) ys))
+      ∙ ap (united (flat_map (own_props desc) xs)) (sym (flat_map-cons (own_props desc) y ys))
 
   -- the properties of the superclasses' joint class order are their joint properties
-  flat_all_joined : (k : ℕ) → ((s : ℕ) (r : List ℕ) → lineage_within desc k s ≡ Some r → lineage_of desc s ≡ r) → (acc ss out : List ℕ)
-      → all_joined acc (map (lineage_within desc k) ss) ≡ Some out → flat_map (own_props desc) out ≡ joined_lists (flat_map (own_props desc) acc) (map (props_of desc) ss)
-  flat_all_joined k same acc [] out = λ e. let there : out ≡ acc = cc in ap (flat_map (own_props desc)) there
-  flat_all_joined k same acc (s ∷ ss) out = by (lineage_within desc k s) refl (λ ys. flat_all_joined k same (joined acc ys) ss out)
+  flat_all_united : (k : ℕ) → ((s : ℕ) (r : List ℕ) → lineage_within desc k s ≡ Some r → lineage_of desc s ≡ r) → (acc ss out : List ℕ)
+      → all_united acc (map (lineage_within desc k) ss) ≡ Some out → flat_map (own_props desc) out ≡ united_lists (flat_map (own_props desc) acc) (map (props_of desc) ss)
+  flat_all_united k same acc [] out = λ e. let there : out ≡ acc = cc in ap (flat_map (own_props desc)) there
+  flat_all_united k same acc (s ∷ ss) out = by (lineage_within desc k s) refl (λ ys. flat_all_united k same (united acc ys) ss out)
     where
       by : (o : Option (List ℕ)) → lineage_within desc k s ≡ o
-          → ((ys : List ℕ) → all_joined (joined acc ys) (map (lineage_within desc k) ss) ≡ Some out → flat_map (own_props desc) out ≡ joined_lists (flat_map (own_props desc) (joined acc ys)) (map (props_of desc) ss))
-          → all_joined acc (o ∷ map (lineage_within desc k) ss) ≡ Some out → flat_map (own_props desc) out ≡ joined_lists (flat_map (own_props desc) acc) (map (props_of desc) (s ∷ ss))
+          → ((ys : List ℕ) → all_united (united acc ys) (map (lineage_within desc k) ss) ≡ Some out → flat_map (own_props desc) out ≡ united_lists (flat_map (own_props desc) (united acc ys)) (map (props_of desc) ss))
+          → all_united acc (o ∷ map (lineage_within desc k) ss) ≡ Some out → flat_map (own_props desc) out ≡ united_lists (flat_map (own_props desc) acc) (map (props_of desc) (s ∷ ss))
       by None g rest e = absurd (cc)
       by (Some ys) g rest e =
           rest ys e
-          ∙ ap (λ xs. joined_lists xs (map (props_of desc) ss)) (flat_joined acc ys ∙ ap (λ l. joined (flat_map (own_props desc) acc) (flat_map (own_props desc) l)) (sym (same s ys g)))
+          ∙ ap (λ xs. united_lists xs (map (props_of desc) ss)) (flat_united acc ys ∙ ap (λ l. united (flat_map (own_props desc) acc) (flat_map (own_props desc) l)) (sym (same s ys g)))
 
   -- a class's properties are those that it inherits, and then its own
   pub class_order : IsGrounded desc → (c : ℕ) → c < class_count desc → props_of desc c ≡ inherited_props desc c ++ own_props desc c
@@ -172,11 +172,11 @@ module _ (desc : MetaDesc) where
               ap (λ o. flat_map (own_props desc) (unwrap_or o (reached_classes desc c))) g
               ∙ ap (flat_map (own_props desc)) (sym p.2 ∙ with_absent p.0 c (absent p.0 c (λ h. circle p.0 p.1 h)))
               ∙ flat_map-append (own_props desc) p.0 (c ∷ [])
-              ∙ ap (λ xs. xs ++ flat_map (own_props desc) (c ∷ [])) (flat_all_joined k found [] (supers_of desc c) p.0 p.1)
+              ∙ ap (λ xs. xs ++ flat_map (own_props desc) (c ∷ [])) (flat_all_united k found [] (supers_of desc c) p.0 p.1)
               ∙ ap (λ xs. inherited_props desc c ++ xs) (flat_map-cons (own_props desc) c [] ∙ append-nil (own_props desc c))
             where
-              circle : (cs : List ℕ) → all_joined [] (map (lineage_within desc k) (supers_of desc c)) ≡ Some cs → Has cs c → ⊥
-              circle cs j h = elim (all_joined-cases (lineage_within desc k) [] (supers_of desc c) cs c j h) [
+              circle : (cs : List ℕ) → all_united [] (map (lineage_within desc k) (supers_of desc c)) ≡ Some cs → Has cs c → ⊥
+              circle cs j h = elim (all_united-cases (lineage_within desc k) [] (supers_of desc c) cs c j h) [
                 | inl none ↦ cc
                 | inr m ↦ (let back = lineage_sound desc k m.0 c m.1 m.3 m.4 in
                     acyclic_from_grounded desc grounded c l (m.0, back.0, Contains-from_Has (supers_of desc c) m.0 m.2, back.1))

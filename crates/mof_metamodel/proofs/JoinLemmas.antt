@@ -1,4 +1,4 @@
--- Class orders that are joined: the order of a class that is there adds nothing.
+-- Class orders that are united: the order of a class that is there adds nothing.
 use Rattle.std.proofs.Common.{◌≡◌, ℕ, ◌<◌, ◌+◌, List, [], ◌∷◌, refl, sym, ◌∙◌, ap, arith, length, get_or, drop, map, inl, inr}
 use Rattle.std.specs.Prelude.{Option, Some, None}
 use Rattle.std.proofs.lemmas.Bool.{eqb-true, cases_lt}
@@ -6,44 +6,44 @@ use Rattle.std.proofs.lemmas.List.{get_or-map, get_or_past, length-map, drop_mor
 use Rattle.indexmap.specs.IndexSet.{IndexSet}
 use Rattle.mof_metamodel.specs.declared.desc.ClassId.{ClassId}
 use Rattle.mof_metamodel.specs.declared.desc.MetaDesc.{MetaDesc}
-use Rattle.mof_metamodel.specs.Metamodels.{class_count, joined, all_joined, lineage_within}
+use Rattle.mof_metamodel.specs.Metamodels.{class_count, united, all_united, lineage_within}
 use Rattle.mof_metamodel.specs.Tables.{class_numbers, line, lines, line_at, AreLines, AreClosed, HasOrders}
-use Rattle.mof_metamodel.proofs.LineageLemmas.{Has, Has-from_Contains, or_cases, joined-keeps, joined-right, joined-cases, lineage_sound, lineage_complete}
+use Rattle.mof_metamodel.proofs.LineageLemmas.{Has, Has-from_Contains, or_cases, united-keeps, united-right, united-cases, lineage_sound, lineage_complete}
 use Rattle.mof_metamodel.proofs.ReachLemmas.{conforms_through, path_ends}
 use Rattle.mof_metamodel.proofs.RoundLemmas.{line_at_is, lines_count}
 
 module _ {S : Type 0} (orders : List (Option (IndexSet ℕ S))) where
   -- with the order of a class, the orders of its classes come in
-  pub has_more : AreClosed orders → (xs : List ℕ) (c : ℕ) (r : List ℕ) → line_at orders c ≡ Some r → HasOrders orders xs → HasOrders orders (joined xs r)
-  has_more closed xs c r e has q s h f x m = elim (joined-cases xs r q h) [
-    | inl k ↦ joined-keeps xs r x (has q s k f x m)
-    | inr k ↦ joined-right xs r x (closed.among c q r s e k f x m)
+  pub has_more : AreClosed orders → (xs : List ℕ) (c : ℕ) (r : List ℕ) → line_at orders c ≡ Some r → HasOrders orders xs → HasOrders orders (united xs r)
+  has_more closed xs c r e has q s h f x m = elim (united-cases xs r q h) [
+    | inl k ↦ united-keeps xs r x (has q s k f x m)
+    | inr k ↦ united-right xs r x (closed.among c q r s e k f x m)
   ]
 
   -- a class without an order, and there is no joint order
-  joined_none : (acc ss : List ℕ) (s : ℕ) → Has ss s → line_at orders s ≡ None → all_joined acc (map (line_at orders) ss) ≡ None
-  joined_none acc [] s h none = absurd (cc)
-  joined_none acc (t ∷ ss) s h none = by (line_at orders t) refl (λ ys k. joined_none (joined acc ys) ss s k none)
+  united_none : (acc ss : List ℕ) (s : ℕ) → Has ss s → line_at orders s ≡ None → all_united acc (map (line_at orders) ss) ≡ None
+  united_none acc [] s h none = absurd (cc)
+  united_none acc (t ∷ ss) s h none = by (line_at orders t) refl (λ ys k. united_none (united acc ys) ss s k none)
     where
-      by : (o : Option (List ℕ)) → line_at orders t ≡ o → ((ys : List ℕ) → Has ss s → all_joined (joined acc ys) (map (line_at orders) ss) ≡ None) → all_joined acc (o ∷ map (line_at orders) ss) ≡ None
+      by : (o : Option (List ℕ)) → line_at orders t ≡ o → ((ys : List ℕ) → Has ss s → all_united (united acc ys) (map (line_at orders) ss) ≡ None) → all_united acc (o ∷ map (line_at orders) ss) ≡ None
       by None e rest = refl
       by (Some ys) e rest = elim (or_cases _ _ h) [
         | inl same ↦ absurd (let is : line_at orders s ≡ line_at orders t = ap (line_at orders) (eqb-true s t same) in cc)
         | inr k ↦ rest ys k
       ]
 
-  pub joined_none_at : (supers : List ClassId) (i : ℕ) (d : ClassId) → i < length supers → line_at orders (get_or supers i d).0 ≡ None → all_joined [] (map (line_at orders) (class_numbers supers)) ≡ None
-  joined_none_at supers i d l e =
+  pub united_none_at : (supers : List ClassId) (i : ℕ) (d : ClassId) → i < length supers → line_at orders (get_or supers i d).0 ≡ None → all_united [] (map (line_at orders) (class_numbers supers)) ≡ None
+  united_none_at supers i d l e =
       let n = length-map supers (λ (x : ClassId). x.0) in
       let at : get_or (class_numbers supers) i (get_or supers i d).0 ≡ (get_or supers i d).0 = get_or-map (λ (x : ClassId). x.0) supers i d (get_or supers i d).0 l in
-      joined_none [] (class_numbers supers) (get_or supers i d).0 (Has-from_Contains (class_numbers supers) (get_or supers i d).0 (i, omega (arith, n, l), at)) e
+      united_none [] (class_numbers supers) (get_or supers i d).0 (Has-from_Contains (class_numbers supers) (get_or supers i d).0 (i, omega (arith, n, l), at)) e
 
   -- one superclass's order more
-  pub joined_step : (supers : List ClassId) (i : ℕ) (d : ClassId) (acc r : List ℕ) → i < length supers → line_at orders (get_or supers i d).0 ≡ Some r
-      → all_joined acc (map (line_at orders) (class_numbers (drop i supers))) ≡ all_joined (joined acc r) (map (line_at orders) (class_numbers (drop (i + 1) supers)))
-  joined_step supers i d acc r l e =
-      ap (λ xs. all_joined acc (map (line_at orders) (class_numbers xs))) (drop_more supers i d l)
-      ∙ ap (λ o. all_joined acc (o ∷ map (line_at orders) (class_numbers (drop (i + 1) supers)))) e
+  pub united_step : (supers : List ClassId) (i : ℕ) (d : ClassId) (acc r : List ℕ) → i < length supers → line_at orders (get_or supers i d).0 ≡ Some r
+      → all_united acc (map (line_at orders) (class_numbers (drop i supers))) ≡ all_united (united acc r) (map (line_at orders) (class_numbers (drop (i + 1) supers)))
+  united_step supers i d acc r l e =
+      ap (λ xs. all_united acc (map (line_at orders) (class_numbers xs))) (drop_more supers i d l)
+      ∙ ap (λ o. all_united acc (o ∷ map (line_at orders) (class_numbers (drop (i + 1) supers)))) e
 
   -- what the rounds find is closed
   module _ (desc : MetaDesc) (k : ℕ) (are : AreLines desc k orders) where

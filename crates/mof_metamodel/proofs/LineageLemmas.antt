@@ -12,7 +12,7 @@ use Rattle.std.proofs.lemmas.Bool.{eqb-true, ne_eqb}
 use Rattle.std.proofs.lemmas.List.Folds.{list_any-append, list_any_at, Any-from_list_any}
 use Rattle.std.proofs.lemmas.Map.Steps.{length-le_from_distinct_below}
 use Rattle.mof_metamodel.specs.declared.desc.MetaDesc.{MetaDesc}
-use Rattle.mof_metamodel.specs.Metamodels.{class_count, class_number, supers_of, IsPath, Conforms, IsCircular, with_item, joined, all_joined, lineage_within, reached_classes, lineage_of, class_at, no_class}
+use Rattle.mof_metamodel.specs.Metamodels.{class_count, class_number, supers_of, IsPath, Conforms, IsCircular, with_item, united, all_united, lineage_within, reached_classes, lineage_of, class_at, no_class}
 use Rattle.mof_metamodel.specs.MetaFaults.{IsAcyclic}
 use Rattle.mof_metamodel.specs.Tables.{IsGrounded, class_numbers, IsClassOf}
 
@@ -77,20 +77,20 @@ with_item-cases xs x q = by (list_any (nat_eq x) xs)
 
 -- ---- the items of two lists
 
-pub joined-keeps : (xs ys : List ℕ) (q : ℕ) → Has xs q → Has (joined xs ys) q
-joined-keeps xs [] q h = h
-joined-keeps xs (y ∷ ys) q h = joined-keeps (with_item xs y) ys q (with_item-keeps xs y q h)
+pub united-keeps : (xs ys : List ℕ) (q : ℕ) → Has xs q → Has (united xs ys) q
+united-keeps xs [] q h = h
+united-keeps xs (y ∷ ys) q h = united-keeps (with_item xs y) ys q (with_item-keeps xs y q h)
 
-pub joined-right : (xs ys : List ℕ) (q : ℕ) → Has ys q → Has (joined xs ys) q
-joined-right xs [] q h = cc
-joined-right xs (y ∷ ys) q h = elim (or_cases _ _ h) [
-  | inl e ↦ joined-keeps (with_item xs y) ys q (let P : ℕ → Type 0 = λ z. Has (with_item xs y) z in subst P (sym (eqb-true q y e)) (with_item-has xs y))
-  | inr e ↦ joined-right (with_item xs y) ys q e
+pub united-right : (xs ys : List ℕ) (q : ℕ) → Has ys q → Has (united xs ys) q
+united-right xs [] q h = cc
+united-right xs (y ∷ ys) q h = elim (or_cases _ _ h) [
+  | inl e ↦ united-keeps (with_item xs y) ys q (let P : ℕ → Type 0 = λ z. Has (with_item xs y) z in subst P (sym (eqb-true q y e)) (with_item-has xs y))
+  | inr e ↦ united-right (with_item xs y) ys q e
 ]
 
-pub joined-cases : (xs ys : List ℕ) (q : ℕ) → Has (joined xs ys) q → Has xs q ⊎ Has ys q
-joined-cases xs [] q h = inl h
-joined-cases xs (y ∷ ys) q h = elim (joined-cases (with_item xs y) ys q h) [
+pub united-cases : (xs ys : List ℕ) (q : ℕ) → Has (united xs ys) q → Has xs q ⊎ Has ys q
+united-cases xs [] q h = inl h
+united-cases xs (y ∷ ys) q h = elim (united-cases (with_item xs y) ys q h) [
   | inl e ↦ elim (with_item-cases xs y q e) [ inl f ↦ inl f | inr f ↦ inr (or_left _ _ (eq-eqb q y f)) ]
   | inr e ↦ inr (or_right _ _ e)
 ]
@@ -98,22 +98,22 @@ joined-cases xs (y ∷ ys) q h = elim (joined-cases (with_item xs y) ys q h) [
 -- ---- the items of several lists
 
 module _ (f : ℕ → Option (List ℕ)) where
-  pub all_joined-keeps : (acc : List ℕ) (ss : List ℕ) (out : List ℕ) (q : ℕ) → all_joined acc (map f ss) ≡ Some out → Has acc q → Has out q
-  all_joined-keeps acc [] out q = λ e h. let same : acc ≡ out = cc in subst (λ xs. Has xs q) same h
-  all_joined-keeps acc (s ∷ ss) out q = by (f s) (λ ys. all_joined-keeps (joined acc ys) ss out q)
+  pub all_united-keeps : (acc : List ℕ) (ss : List ℕ) (out : List ℕ) (q : ℕ) → all_united acc (map f ss) ≡ Some out → Has acc q → Has out q
+  all_united-keeps acc [] out q = λ e h. let same : acc ≡ out = cc in subst (λ xs. Has xs q) same h
+  all_united-keeps acc (s ∷ ss) out q = by (f s) (λ ys. all_united-keeps (united acc ys) ss out q)
     where
-      by : (r : Option (List ℕ)) → ((ys : List ℕ) → all_joined (joined acc ys) (map f ss) ≡ Some out → Has (joined acc ys) q → Has out q)
-          → all_joined acc (r ∷ map f ss) ≡ Some out → Has acc q → Has out q
+      by : (r : Option (List ℕ)) → ((ys : List ℕ) → all_united (united acc ys) (map f ss) ≡ Some out → Has (united acc ys) q → Has out q)
+          → all_united acc (r ∷ map f ss) ≡ Some out → Has acc q → Has out q
       by None rest e h = absurd (cc)
-      by (Some ys) rest e h = rest ys e (joined-keeps acc ys q h)
+      by (Some ys) rest e h = rest ys e (united-keeps acc ys q h)
 
   -- each list is there
-  pub all_joined-there : (acc : List ℕ) (ss : List ℕ) (out : List ℕ) (s : ℕ) → all_joined acc (map f ss) ≡ Some out → Has ss s → (r : List ℕ) × (f s ≡ Some r)
-  all_joined-there acc [] out s = λ e h. absurd (cc)
-  all_joined-there acc (t ∷ ss) out s = by (f t) refl (λ ys. all_joined-there (joined acc ys) ss out s)
+  pub all_united-there : (acc : List ℕ) (ss : List ℕ) (out : List ℕ) (s : ℕ) → all_united acc (map f ss) ≡ Some out → Has ss s → (r : List ℕ) × (f s ≡ Some r)
+  all_united-there acc [] out s = λ e h. absurd (cc)
+  all_united-there acc (t ∷ ss) out s = by (f t) refl (λ ys. all_united-there (united acc ys) ss out s)
     where
-      by : (o : Option (List ℕ)) → f t ≡ o → ((ys : List ℕ) → all_joined (joined acc ys) (map f ss) ≡ Some out → Has ss s → (r : List ℕ) × (f s ≡ Some r))
-          → all_joined acc (o ∷ map f ss) ≡ Some out → Has (t ∷ ss) s → (r : List ℕ) × (f s ≡ Some r)
+      by : (o : Option (List ℕ)) → f t ≡ o → ((ys : List ℕ) → all_united (united acc ys) (map f ss) ≡ Some out → Has ss s → (r : List ℕ) × (f s ≡ Some r))
+          → all_united acc (o ∷ map f ss) ≡ Some out → Has (t ∷ ss) s → (r : List ℕ) × (f s ≡ Some r)
       by None g rest e h = absurd (cc)
       by (Some ys) g rest e h = elim (or_cases _ _ h) [
         | inl k ↦ (ys, ap f (eqb-true s t k) ∙ g)
@@ -121,50 +121,50 @@ module _ (f : ℕ → Option (List ℕ)) where
       ]
 
   -- and its items are among the items
-  pub all_joined-each : (acc : List ℕ) (ss : List ℕ) (out : List ℕ) (s q : ℕ) (r : List ℕ) → all_joined acc (map f ss) ≡ Some out → Has ss s → f s ≡ Some r → Has r q → Has out q
-  all_joined-each acc [] out s q r = λ e h g m. absurd (cc)
-  all_joined-each acc (t ∷ ss) out s q r = by (f t) refl (λ ys. all_joined-each (joined acc ys) ss out s q r)
+  pub all_united-each : (acc : List ℕ) (ss : List ℕ) (out : List ℕ) (s q : ℕ) (r : List ℕ) → all_united acc (map f ss) ≡ Some out → Has ss s → f s ≡ Some r → Has r q → Has out q
+  all_united-each acc [] out s q r = λ e h g m. absurd (cc)
+  all_united-each acc (t ∷ ss) out s q r = by (f t) refl (λ ys. all_united-each (united acc ys) ss out s q r)
     where
-      by : (o : Option (List ℕ)) → f t ≡ o → ((ys : List ℕ) → all_joined (joined acc ys) (map f ss) ≡ Some out → Has ss s → f s ≡ Some r → Has r q → Has out q)
-          → all_joined acc (o ∷ map f ss) ≡ Some out → Has (t ∷ ss) s → f s ≡ Some r → Has r q → Has out q
+      by : (o : Option (List ℕ)) → f t ≡ o → ((ys : List ℕ) → all_united (united acc ys) (map f ss) ≡ Some out → Has ss s → f s ≡ Some r → Has r q → Has out q)
+          → all_united acc (o ∷ map f ss) ≡ Some out → Has (t ∷ ss) s → f s ≡ Some r → Has r q → Has out q
       by None k rest e h g m = absurd (cc)
       by (Some ys) k rest e h g m = elim (or_cases _ _ h) [
-        | inl l ↦ all_joined-keeps (joined acc ys) ss out q e (joined-right acc ys q (let same : r ≡ ys = let fs : f s ≡ f t = ap f (eqb-true s t l) in cc in subst (λ xs. Has xs q) same m))
+        | inl l ↦ all_united-keeps (united acc ys) ss out q e (united-right acc ys q (let same : r ≡ ys = let fs : f s ≡ f t = ap f (eqb-true s t l) in cc in subst (λ xs. Has xs q) same m))
         | inr l ↦ rest ys e l g m
       ]
 
-  pub all_joined-cases : (acc : List ℕ) (ss : List ℕ) (out : List ℕ) (q : ℕ) → all_joined acc (map f ss) ≡ Some out → Has out q → Has acc q ⊎ ((s : ℕ) × (r : List ℕ) × Has ss s × (f s ≡ Some r) × Has r q)
-  all_joined-cases acc [] out q = λ e h. inl (let same : out ≡ acc = cc in subst (λ xs. Has xs q) same h)
-  all_joined-cases acc (t ∷ ss) out q = by (f t) refl (λ ys. all_joined-cases (joined acc ys) ss out q)
+  pub all_united-cases : (acc : List ℕ) (ss : List ℕ) (out : List ℕ) (q : ℕ) → all_united acc (map f ss) ≡ Some out → Has out q → Has acc q ⊎ ((s : ℕ) × (r : List ℕ) × Has ss s × (f s ≡ Some r) × Has r q)
+  all_united-cases acc [] out q = λ e h. inl (let same : out ≡ acc = cc in subst (λ xs. Has xs q) same h)
+  all_united-cases acc (t ∷ ss) out q = by (f t) refl (λ ys. all_united-cases (united acc ys) ss out q)
     where
       by : (o : Option (List ℕ)) → f t ≡ o
-          → ((ys : List ℕ) → all_joined (joined acc ys) (map f ss) ≡ Some out → Has out q → Has (joined acc ys) q ⊎ ((s : ℕ) × (r : List ℕ) × Has ss s × (f s ≡ Some r) × Has r q))
-          → all_joined acc (o ∷ map f ss) ≡ Some out → Has out q → Has acc q ⊎ ((s : ℕ) × (r : List ℕ) × Has (t ∷ ss) s × (f s ≡ Some r) × Has r q)
+          → ((ys : List ℕ) → all_united (united acc ys) (map f ss) ≡ Some out → Has out q → Has (united acc ys) q ⊎ ((s : ℕ) × (r : List ℕ) × Has ss s × (f s ≡ Some r) × Has r q))
+          → all_united acc (o ∷ map f ss) ≡ Some out → Has out q → Has acc q ⊎ ((s : ℕ) × (r : List ℕ) × Has (t ∷ ss) s × (f s ≡ Some r) × Has r q)
       by None k rest e h = absurd (cc)
       by (Some ys) k rest e h = elim (rest ys e h) [
-        | inl l ↦ elim (joined-cases acc ys q l) [ inl m ↦ inl m | inr m ↦ inr (t, ys, or_left _ _ (eq-eqb t t refl), k, m) ]
+        | inl l ↦ elim (united-cases acc ys q l) [ inl m ↦ inl m | inr m ↦ inr (t, ys, or_left _ _ (eq-eqb t t refl), k, m) ]
         | inr l ↦ inr (l.0, l.1, or_right _ _ l.2, l.3, l.4)
       ]
 
   -- where they have no joint list, one of them is missing
-  pub all_joined-missing : (acc : List ℕ) (ss : List ℕ) → all_joined acc (map f ss) ≡ None → (s : ℕ) × Has ss s × (f s ≡ None)
-  all_joined-missing acc [] = λ e. absurd (cc)
-  all_joined-missing acc (t ∷ ss) = by (f t) refl (λ ys. all_joined-missing (joined acc ys) ss)
+  pub all_united-missing : (acc : List ℕ) (ss : List ℕ) → all_united acc (map f ss) ≡ None → (s : ℕ) × Has ss s × (f s ≡ None)
+  all_united-missing acc [] = λ e. absurd (cc)
+  all_united-missing acc (t ∷ ss) = by (f t) refl (λ ys. all_united-missing (united acc ys) ss)
     where
-      by : (o : Option (List ℕ)) → f t ≡ o → ((ys : List ℕ) → all_joined (joined acc ys) (map f ss) ≡ None → (s : ℕ) × Has ss s × (f s ≡ None))
-          → all_joined acc (o ∷ map f ss) ≡ None → (s : ℕ) × Has (t ∷ ss) s × (f s ≡ None)
+      by : (o : Option (List ℕ)) → f t ≡ o → ((ys : List ℕ) → all_united (united acc ys) (map f ss) ≡ None → (s : ℕ) × Has ss s × (f s ≡ None))
+          → all_united acc (o ∷ map f ss) ≡ None → (s : ℕ) × Has (t ∷ ss) s × (f s ≡ None)
       by None k rest e = (t, or_left _ _ (eq-eqb t t refl), k)
       by (Some ys) k rest e = let m = rest ys e in (m.0, or_right _ _ m.1, m.2)
 
 -- more lists that are there, and the same of those that were
-pub all_joined-agree : (f g : ℕ → Option (List ℕ)) → ((s : ℕ) (r : List ℕ) → f s ≡ Some r → g s ≡ Some r) → (acc ss out : List ℕ) → all_joined acc (map f ss) ≡ Some out → all_joined acc (map g ss) ≡ Some out
-all_joined-agree f g more acc [] out = λ e. e
-all_joined-agree f g more acc (s ∷ ss) out = by (f s) refl (λ ys. all_joined-agree f g more (joined acc ys) ss out)
+pub all_united-agree : (f g : ℕ → Option (List ℕ)) → ((s : ℕ) (r : List ℕ) → f s ≡ Some r → g s ≡ Some r) → (acc ss out : List ℕ) → all_united acc (map f ss) ≡ Some out → all_united acc (map g ss) ≡ Some out
+all_united-agree f g more acc [] out = λ e. e
+all_united-agree f g more acc (s ∷ ss) out = by (f s) refl (λ ys. all_united-agree f g more (united acc ys) ss out)
   where
-    by : (o : Option (List ℕ)) → f s ≡ o → ((ys : List ℕ) → all_joined (joined acc ys) (map f ss) ≡ Some out → all_joined (joined acc ys) (map g ss) ≡ Some out)
-        → all_joined acc (o ∷ map f ss) ≡ Some out → all_joined acc (g s ∷ map g ss) ≡ Some out
+    by : (o : Option (List ℕ)) → f s ≡ o → ((ys : List ℕ) → all_united (united acc ys) (map f ss) ≡ Some out → all_united (united acc ys) (map g ss) ≡ Some out)
+        → all_united acc (o ∷ map f ss) ≡ Some out → all_united acc (g s ∷ map g ss) ≡ Some out
     by None k rest e = absurd (cc)
-    by (Some ys) k rest e = ap (λ o. all_joined acc (o ∷ map g ss)) (more s ys k) ∙ rest ys e
+    by (Some ys) k rest e = ap (λ o. all_united acc (o ∷ map g ss)) (more s ys k) ∙ rest ys e
 
 -- two functions that agree on the items of a list give one list
 pub map_agree_on : {X : Type 0} (f g : ℕ → X) (ss : List ℕ) → ((s : ℕ) → Has ss s → f s ≡ g s) → map f ss ≡ map g ss
@@ -175,11 +175,11 @@ map_agree_on f g (s ∷ ss) same = ap (λ x. x ∷ map f ss) (same s (or_left _ 
 
 -- the superclasses' joint order, where there is one
 module _ (desc : MetaDesc) where
-  pub lineage_parts : (n c : ℕ) (r : List ℕ) → lineage_within desc (suc n) c ≡ Some r → (cs : List ℕ) × (all_joined [] (map (lineage_within desc n) (supers_of desc c)) ≡ Some cs) × (with_item cs c ≡ r)
-  lineage_parts n c r = by (all_joined [] (map (lineage_within desc n) (supers_of desc c))) refl
+  pub lineage_parts : (n c : ℕ) (r : List ℕ) → lineage_within desc (suc n) c ≡ Some r → (cs : List ℕ) × (all_united [] (map (lineage_within desc n) (supers_of desc c)) ≡ Some cs) × (with_item cs c ≡ r)
+  lineage_parts n c r = by (all_united [] (map (lineage_within desc n) (supers_of desc c))) refl
     where
-      by : (o : Option (List ℕ)) → all_joined [] (map (lineage_within desc n) (supers_of desc c)) ≡ o → option_map (λ cs. with_item cs c) o ≡ Some r
-          → (cs : List ℕ) × (all_joined [] (map (lineage_within desc n) (supers_of desc c)) ≡ Some cs) × (with_item cs c ≡ r)
+      by : (o : Option (List ℕ)) → all_united [] (map (lineage_within desc n) (supers_of desc c)) ≡ o → option_map (λ cs. with_item cs c) o ≡ Some r
+          → (cs : List ℕ) × (all_united [] (map (lineage_within desc n) (supers_of desc c)) ≡ Some cs) × (with_item cs c ≡ r)
       by None k e = absurd (cc)
       by (Some cs) k e = (cs, k, cc)
 
@@ -190,7 +190,7 @@ module _ (desc : MetaDesc) where
       let p = lineage_parts n c r e in
       elim (with_item-cases p.0 c q (subst (λ xs. Has xs q) (sym p.2) h)) [
         | inr same ↦ ([], sym same)
-        | inl inside ↦ elim (all_joined-cases (lineage_within desc n) [] (supers_of desc c) p.0 q p.1 inside) [
+        | inl inside ↦ elim (all_united-cases (lineage_within desc n) [] (supers_of desc c) p.0 q p.1 inside) [
           | inl none ↦ absurd (cc)
           | inr m ↦ let rest = lineage_sound n m.0 q m.1 m.3 m.4 in (m.0 ∷ rest.0, (Contains-from_Has (supers_of desc c) m.0 m.2, rest.1))
         ]
@@ -206,9 +206,9 @@ module _ (desc : MetaDesc) where
   lineage_complete (suc n) c q r (s ∷ path) e h =
       let p = lineage_parts n c r e in
       let super : Has (supers_of desc c) s = Has-from_Contains (supers_of desc c) s h.0 in
-      let order = all_joined-there (lineage_within desc n) [] (supers_of desc c) p.0 s p.1 super in
+      let order = all_united-there (lineage_within desc n) [] (supers_of desc c) p.0 s p.1 super in
       let below : Has order.0 q = lineage_complete n s q order.0 path order.1 h.1 in
-      let inside : Has p.0 q = all_joined-each (lineage_within desc n) [] (supers_of desc c) p.0 s q order.0 p.1 super order.1 below in
+      let inside : Has p.0 q = all_united-each (lineage_within desc n) [] (supers_of desc c) p.0 s q order.0 p.1 super order.1 below in
       subst (λ xs. Has xs q) p.2 (with_item-keeps p.0 c q inside)
 
   -- an order that is there within n steps is there within more
@@ -216,8 +216,8 @@ module _ (desc : MetaDesc) where
   lineage_more zero c r e = absurd (cc)
   lineage_more (suc n) c r e =
       let p = lineage_parts n c r e in
-      let above : all_joined [] (map (lineage_within desc (suc n)) (supers_of desc c)) ≡ Some p.0 =
-      all_joined-agree (lineage_within desc n) (lineage_within desc (suc n)) (lineage_more n) [] (supers_of desc c) p.0 p.1 in
+      let above : all_united [] (map (lineage_within desc (suc n)) (supers_of desc c)) ≡ Some p.0 =
+      all_united-agree (lineage_within desc n) (lineage_within desc (suc n)) (lineage_more n) [] (supers_of desc c) p.0 p.1 in
       ap (option_map (λ cs. with_item cs c)) above ∙ ap Some p.2
 
   -- ---- circles
@@ -231,7 +231,7 @@ module _ (desc : MetaDesc) where
   acyclic_at zero c r e h = cc
   acyclic_at (suc n) c r e h =
       let p = lineage_parts n c r e in
-      let order = all_joined-there (lineage_within desc n) [] (supers_of desc c) p.0 h.0 p.1 (Has-from_Contains (supers_of desc c) h.0 h.2) in
+      let order = all_united-there (lineage_within desc n) [] (supers_of desc c) p.0 h.0 p.1 (Has-from_Contains (supers_of desc c) h.0 h.2) in
       acyclic_at n h.0 order.0 order.1 (turned h.0 h.2 h.1 h.3)
     where
       turned : (e : ℕ) → Contains (supers_of desc c) e → (path : List ℕ) → IsPath desc e path c → IsCircular desc e
@@ -251,7 +251,7 @@ module _ (desc : MetaDesc) where
   stuck : (n c : ℕ) → lineage_within desc n c ≡ None → (path : List ℕ) × (d : ℕ) × (length path ≡ n) × IsPath desc c path d
   stuck zero c e = ([], c, refl, refl)
   stuck (suc n) c e =
-      let m = all_joined-missing (lineage_within desc n) [] (supers_of desc c) (by (all_joined [] (map (lineage_within desc n) (supers_of desc c))) e) in
+      let m = all_united-missing (lineage_within desc n) [] (supers_of desc c) (by (all_united [] (map (lineage_within desc n) (supers_of desc c))) e) in
       let rest = stuck n m.0 m.2 in
       (m.0 ∷ rest.0, rest.1, ap suc rest.2, (Contains-from_Has (supers_of desc c) m.0 m.1, rest.3))
     where
@@ -351,5 +351,5 @@ module _ (desc : MetaDesc) where
   lineage_stays n zero stays c l = ap (λ m. lineage_within desc m c) (omega arith)
   lineage_stays n (suc j) stays c l =
       ap (λ m. lineage_within desc m c) (let e : suc j + n ≡ suc (j + n) = omega arith in e)
-      ∙ ap (λ rows. option_map (λ cs. with_item cs c) (all_joined [] rows)) (map_agree_on _ _ (supers_of desc c) (λ s h. lineage_stays n j stays s (supers_within c s h)))
+      ∙ ap (λ rows. option_map (λ cs. with_item cs c) (all_united [] rows)) (map_agree_on _ _ (supers_of desc c) (λ s h. lineage_stays n j stays s (supers_within c s h)))
       ∙ stays c l

@@ -4,7 +4,7 @@ use Rattle.std.specs.Prelude.{Option, Some, None, Contains, nat_eq, filter}
 use Rattle.std.specs.List.{list_any, range_with_len}
 use Rattle.std.specs.Option.{unwrap_or}
 use Rattle.mof_metamodel.specs.declared.desc.MetaDesc.{MetaDesc}
-use Rattle.mof_metamodel.specs.Metamodels.{class_count, supers_of, with_item, joined, all_joined, lineage_within, conforms_within, reached_classes, lineage_of, props_of}
+use Rattle.mof_metamodel.specs.Metamodels.{class_count, supers_of, with_item, united, all_united, lineage_within, conforms_within, reached_classes, lineage_of, props_of}
 use Rattle.mof_metamodel.proofs.LineageLemmas.{Has-from_Contains, lineage_parts}
 use Rattle.mof_metamodel.proofs.DistinctLemmas.{IsOnce, once_nil, once_append, once_range, props_once}
 use Rattle.std.proofs.lemmas.Bool.{false≢true}
@@ -26,20 +26,20 @@ with_item-once xs x h = by (list_any (nat_eq x) xs) refl
     by true e = h
     by false e = once_append xs (x ∷ []) h (once_one x) (λ q a b. false≢true (sym e ∙ Has-from_Contains xs x (subst (Contains xs) (sym (one_is x q b)) a)))
 
-joined-once : (xs ys : List ℕ) → IsOnce xs → IsOnce (joined xs ys)
-joined-once xs [] h = h
-joined-once xs (y ∷ ys) h = joined-once (with_item xs y) ys (with_item-once xs y h)
+united-once : (xs ys : List ℕ) → IsOnce xs → IsOnce (united xs ys)
+united-once xs [] h = h
+united-once xs (y ∷ ys) h = united-once (with_item xs y) ys (with_item-once xs y h)
 
-all_joined-once : (xs : List ℕ) (rest : List (Option (List ℕ))) (out : List ℕ) → IsOnce xs → all_joined xs rest ≡ Some out → IsOnce out
-all_joined-once xs [] out h e = subst IsOnce (ap (λ o. unwrap_or o []) e) h
-all_joined-once xs (None ∷ rest) out h e = absurd cc
-all_joined-once xs ((Some ys) ∷ rest) out h e = all_joined-once (joined xs ys) rest out (joined-once xs ys h) e
+all_united-once : (xs : List ℕ) (rest : List (Option (List ℕ))) (out : List ℕ) → IsOnce xs → all_united xs rest ≡ Some out → IsOnce out
+all_united-once xs [] out h e = subst IsOnce (ap (λ o. unwrap_or o []) e) h
+all_united-once xs (None ∷ rest) out h e = absurd cc
+all_united-once xs ((Some ys) ∷ rest) out h e = all_united-once (united xs ys) rest out (united-once xs ys h) e
 
 lineage_within-once : (desc : MetaDesc) (n c : ℕ) (r : List ℕ) → lineage_within desc n c ≡ Some r → IsOnce r
 lineage_within-once desc zero c r h = absurd cc
 lineage_within-once desc (suc n) c r h =
     let (cs, joint, all) = lineage_parts desc n c r h in
-    subst IsOnce all (with_item-once cs c (all_joined-once [] (map (lineage_within desc n) (supers_of desc c)) cs once_nil joint))
+    subst IsOnce all (with_item-once cs c (all_united-once [] (map (lineage_within desc n) (supers_of desc c)) cs once_nil joint))
 
 filter_has : (p : ℕ → Bool) (xs : List ℕ) (q : ℕ) → Contains (filter p xs) q → Contains xs q
 filter_has p [] q h = h

@@ -7,7 +7,7 @@ use Rattle.std.proofs.lemmas.List.{get_or-set_same, get_or-set_other, get_or-map
 use Rattle.std.proofs.lemmas.List.FromFn.{get_or-map-range_with_len, fill_by_all, length-map-range_with_len}
 use Rattle.indexmap.specs.IndexSet.{IndexSet}
 use Rattle.mof_metamodel.specs.declared.desc.MetaDesc.{MetaDesc}
-use Rattle.mof_metamodel.specs.Metamodels.{class_count, supers_of, with_item, all_joined, lineage_within}
+use Rattle.mof_metamodel.specs.Metamodels.{class_count, supers_of, with_item, all_united, lineage_within}
 use Rattle.mof_metamodel.specs.Tables.{line, lines, line_at, AreLines, new_line, later_line, table}
 use Rattle.mof_metamodel.proofs.TableLemmas.{table_agree}
 use Rattle.mof_metamodel.proofs.LineageLemmas.{map_agree_on, supers_within, lineage_later, lineage_stays, lineage_more}
@@ -46,7 +46,7 @@ module _ {S : Type 0} where
 
     new_line_is : (c : ℕ) → new_line desc orders c ≡ lineage_within desc (suc k) c
     new_line_is c =
-        ap (λ rows. option_map (λ cs. with_item cs c) (all_joined [] rows)) (map_agree_on (line_at orders) (lineage_within desc k) (supers_of desc c) (λ s h. line_at_is s (supers_within desc c s h)))
+        ap (λ rows. option_map (λ cs. with_item cs c) (all_united [] rows)) (map_agree_on (line_at orders) (lineage_within desc k) (supers_of desc c) (λ s h. line_at_is s (supers_within desc c s h)))
 
     later_is : (c : ℕ) → c < class_count desc → later_line desc orders c ≡ cond (is_some (lineage_within desc k c)) None (lineage_within desc (suc k) c)
     later_is c l =

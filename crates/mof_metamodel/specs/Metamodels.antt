@@ -80,21 +80,21 @@ abbrev pub with_item : List ℕ → ℕ → List ℕ
 with_item xs x = if list_any (nat_eq x) xs then xs else xs ++ x ∷ []
 
 -- the items of both lists, each once and at its first place
-abbrev pub joined : List ℕ → List ℕ → List ℕ
-joined xs [] = xs
-joined xs (y ∷ ys) = joined (with_item xs y) ys
+abbrev pub united : List ℕ → List ℕ → List ℕ
+united xs [] = xs
+united xs (y ∷ ys) = united (with_item xs y) ys
 
 -- the same of a list and of several lists; none where one of them is missing
-abbrev pub all_joined : List ℕ → List (Option (List ℕ)) → Option (List ℕ)
-all_joined xs [] = Some xs
-all_joined xs (None ∷ rest) = None
-all_joined xs ((Some ys) ∷ rest) = all_joined (joined xs ys) rest
+abbrev pub all_united : List ℕ → List (Option (List ℕ)) → Option (List ℕ)
+all_united xs [] = Some xs
+all_united xs (None ∷ rest) = None
+all_united xs ((Some ys) ∷ rest) = all_united (united xs ys) rest
 
 -- The class and those that it inherits from, in class order: for each superclass in the written order its classes, each once
 -- and at its first place, and then the class itself. There are none within n steps where a path of n superclasses begins there.
 abbrev pub lineage_within : MetaDesc → ℕ → ℕ → Option (List ℕ)
 lineage_within desc zero c = None
-lineage_within desc (suc n) c = option_map (λ cs. with_item cs c) (all_joined [] (map (lineage_within desc n) (supers_of desc c)))
+lineage_within desc (suc n) c = option_map (λ cs. with_item cs c) (all_united [] (map (lineage_within desc n) (supers_of desc c)))
 
 -- whether c is d, or reaches it by at most n superclasses
 abbrev pub conforms_within : MetaDesc → ℕ → ℕ → ℕ → Bool
@@ -151,13 +151,13 @@ abbrev pub props_of : MetaDesc → ℕ → List ℕ
 props_of desc c = flat_map (own_props desc) (lineage_of desc c)
 
 -- the items of a list and of several lists, each once and at its first place
-abbrev pub joined_lists : List ℕ → List (List ℕ) → List ℕ
-joined_lists xs [] = xs
-joined_lists xs (ys ∷ rest) = joined_lists (joined xs ys) rest
+abbrev pub united_lists : List ℕ → List (List ℕ) → List ℕ
+united_lists xs [] = xs
+united_lists xs (ys ∷ rest) = united_lists (united xs ys) rest
 
 -- what the class inherits: the properties of its superclasses in the written order, each once and at its first place
 abbrev pub inherited_props : MetaDesc → ℕ → List ℕ
-inherited_props desc c = joined_lists [] (map (props_of desc) (supers_of desc c))
+inherited_props desc c = united_lists [] (map (props_of desc) (supers_of desc c))
 
 abbrev pub is_primitive : List ℕ → Bool
 is_primitive name = same_name name (codes "String") || same_name name (codes "Integer") || same_name name (codes "Boolean")

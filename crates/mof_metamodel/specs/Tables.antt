@@ -11,7 +11,7 @@ use Rattle.mof_metamodel.specs.declared.desc.ClassId.{ClassId}
 use Rattle.mof_metamodel.specs.declared.desc.EnumId.{EnumId}
 use Rattle.mof_metamodel.specs.declared.desc.PropId.{PropId}
 use Rattle.mof_metamodel.specs.declared.desc.Prop.{Prop}
-use Rattle.mof_metamodel.specs.Metamodels.{same_name, class_count, class_at, enum_count, enum_at, no_prop, prop_count, declared_props, prop_at, first_own, supers_of, with_item, all_joined, IsCircular, lineage_within, reached_classes, lineage_of, own_props, props_of, IsProp}
+use Rattle.mof_metamodel.specs.Metamodels.{same_name, class_count, class_at, enum_count, enum_at, no_prop, prop_count, declared_props, prop_at, first_own, supers_of, with_item, all_united, IsCircular, lineage_within, reached_classes, lineage_of, own_props, props_of, IsProp}
 use Rattle.mof_metamodel.specs.WellMeta.{WellMeta}
 use Rattle.mof_metamodel.specs.MetaFaults.{is_within_limits}
 
@@ -134,7 +134,7 @@ HasOrders orders xs = (q : ℕ) (s : List ℕ) → IsTrue (list_any (nat_eq q) x
 
 -- what a class's superclasses give: their joint order, and the class behind it
 abbrev pub new_line : {S : Type 0} → MetaDesc → List (Option (IndexSet ℕ S)) → ℕ → Option (List ℕ)
-new_line desc orders c = option_map (λ cs. with_item cs c) (all_joined [] (map (line_at orders) (supers_of desc c)))
+new_line desc orders c = option_map (λ cs. with_item cs c) (all_united [] (map (line_at orders) (supers_of desc c)))
 
 -- the same, for a class that has none yet
 abbrev pub later_line : {S : Type 0} → MetaDesc → List (Option (IndexSet ℕ S)) → ℕ → Option (List ℕ)

@@ -8,7 +8,7 @@
 ghost use Rattle.std.specs.Prelude.{◌≡◌, ◌≢◌, ℕ, ◌<◌, [], length, map, nat_eq, All, IfOk, OnOk, IsTrue, None, false};
 ghost use Rattle.std.specs.Option.{option_map, option_or, is_some};
 ghost use Rattle.std.specs.List.{list_any, list_all};
-ghost use Rattle.mof_metamodel.specs.Metamodels.{class_count, supers_of, joined, all_joined, with_item, lineage_of};
+ghost use Rattle.mof_metamodel.specs.Metamodels.{class_count, supers_of, united, all_united, with_item, lineage_of};
 ghost use Rattle.mof_metamodel.specs.Tables.{class_numbers, lines, line, line_at, AreLines, table, new_line, later_line, lineage_in, AreBelow, AreAmong, AreMarks, AreClosed, ReachesOver};
 
 use crate::closure::{Rows, classes_in, closure};
@@ -30,7 +30,7 @@ fn join(
 ) -> Result<(), NoMemory>
     requires within { AreBelow (length marks.old) order.now.keys }
     requires marks { AreMarks marks.old joint.old.keys }
-    ensures keys { OnOk result (joint.new.keys ≡ joined joint.old.keys order.now.keys) }
+    ensures keys { OnOk result (joint.new.keys ≡ united joint.old.keys order.now.keys) }
     ensures marks { OnOk result (AreMarks marks.new joint.new.keys) }
 {
     for c in order.as_slice() {
@@ -53,7 +53,7 @@ fn join_one(
     requires within { AreBelow (length marks.old) order.now.keys }
     requires there { IsTrue (list_any (nat_eq c) joint.old.keys) → AreAmong order.now.keys joint.old.keys }
     requires marks { AreMarks marks.old joint.old.keys }
-    ensures keys { OnOk result (joint.new.keys ≡ joined joint.old.keys order.now.keys) }
+    ensures keys { OnOk result (joint.new.keys ≡ united joint.old.keys order.now.keys) }
     ensures marks { OnOk result (AreMarks marks.new joint.new.keys) }
 {
     if marks[c as usize] {
@@ -66,7 +66,7 @@ fn join_one(
 fn join_all(alloc: Global, orders: &[Line], supers: &[ClassId]) -> Result<Line, NoMemory>
     requires within { All (λ c. c.0 < length orders.now) supers.now }
     requires orders { AreClosed orders.now }
-    ensures { IfOk result (λ o. line o ≡ all_joined [] (map (line_at orders.now) (class_numbers supers.now))) }
+    ensures { IfOk result (λ o. line o ≡ all_united [] (map (line_at orders.now) (class_numbers supers.now))) }
 {
     let mut joint = IndexSet::new(alloc);
     let mut marks = Vec::new(alloc);
@@ -83,7 +83,7 @@ fn join_all(alloc: Global, orders: &[Line], supers: &[ClassId]) -> Result<Line, 
 /// How many superclasses in a row have orders, where so many are known to have them.
 fn found_first(orders: &[Line], supers: &[ClassId], known: usize) -> usize
     requires { All (λ c. c.0 < length orders.now) supers.now }
-    ensures { result < length supers.now → all_joined [] (map (line_at orders.now) (class_numbers supers.now)) ≡ None }
+    ensures { result < length supers.now → all_united [] (map (line_at orders.now) (class_numbers supers.now)) ≡ None }
 {
     let mut next = known;
     while next < supers.len() {

@@ -12,7 +12,7 @@ use Rattle.qv_syntax.specs.declared.expr.Expr.TheVariants as exprs
 use Rattle.qv_syntax.specs.declared.expr.Postfix.TheVariants as postfixes
 use Rattle.qv_syntax.specs.Operators.{level_of}
 use Rattle.ocl_parser.specs.Grammar.{takes_class}
-use Rattle.ocl_parser.specs.Moves.{Move, Reduced, move, to, refused, from_to, base_of, subtree_of, with_postfix, path_of, extended, chained, reduced, operator_on, close_by, behind, begins_expression, none_in_parentheses, none_in_braces, operand, after, arguments, after_path, path_by, on_path, dotted, call_of, arrow_call, arrow_first, arrow_second, class_path, type_begin, type_end, type_path, on_name, on_colon, on_brace, on_type_parenthesis, on_arrow_parenthesis}
+use Rattle.ocl_parser.specs.Moves.{Move, Reduced, move, to, refused, from_to, base_of, subtree_of, with_postfix, path_of, extended, chained, reduced, operator_on, close_by, ended_by, begins_expression, none_in_parentheses, none_in_braces, operand, after, arguments, after_path, path_by, on_path, dotted, call_of, arrow_call, arrow_first, arrow_second, class_path, type_begin, type_end, type_path, on_name, on_colon, on_brace, on_type_parenthesis, on_arrow_parenthesis}
 use Rattle.ocl_parser.specs.Completion.{are_expressions, is_type, is_open}
 use Rattle.ql_lex.specs.declared.symbol.Symbol.{Symbol}
 use Rattle.ql_lex.specs.declared.symbol.Symbol.TheVariants as symbols
@@ -71,7 +71,7 @@ operator_kept : (operator : Operator) (stack : List Frame) (subtree : Subtree) �
 operator_kept operator (frames.Row first rest waiting ∷ stack) subtree h = kept_both (level_of waiting == level_of operator) _ _ h h
 operator_kept operator stack subtree h = h
 
-behind_kept : (stack : List Frame) (subtree : Subtree) (symbol : Symbol) (span : Span) → are_expressions stack ≡ true → is_kept (behind stack subtree symbol span) ≡ true
+behind_kept : (stack : List Frame) (subtree : Subtree) (symbol : Symbol) (span : Span) → are_expressions stack ≡ true → is_kept (ended_by stack subtree symbol span) ≡ true
 behind_kept stack subtree (symbols.Operator operator) span h =
     let s : Reduced = reduced (level_of operator + 1) stack subtree in
     operator_kept operator s.stack s.subtree (reduced_plain (level_of operator + 1) stack subtree h)

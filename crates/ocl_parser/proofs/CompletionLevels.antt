@@ -17,7 +17,7 @@ use Rattle.ocl_parser.specs.Grammar.{takes_class}
 use Rattle.ql_lex.specs.Lexemes.{is_sign, is_word}
 use Rattle.ocl_parser.specs.Beginnings.{opens}
 use Rattle.ql_lex.specs.Symbols.{symbol_of}
-use Rattle.ocl_parser.specs.Moves.{Move, Reduced, move, to, refused, from_to, base_of, subtree_of, with_postfix, path_of, extended, chained, reduced, operator_on, close_by, behind, none_in_parentheses, none_in_braces, operand, after, after_path, path_by, on_path, dotted, arrow_call, arrow_first, arrow_second, class_path, type_begin, type_end, type_path, on_name, on_colon, on_brace, on_type_parenthesis, on_arrow_parenthesis, open_levels, state_levels}
+use Rattle.ocl_parser.specs.Moves.{Move, Reduced, move, to, refused, from_to, base_of, subtree_of, with_postfix, path_of, extended, chained, reduced, operator_on, close_by, ended_by, none_in_parentheses, none_in_braces, operand, after, after_path, path_by, on_path, dotted, arrow_call, arrow_first, arrow_second, class_path, type_begin, type_end, type_path, on_name, on_colon, on_brace, on_type_parenthesis, on_arrow_parenthesis, open_levels, state_levels}
 use Rattle.ql_lex.specs.declared.symbol.Symbol.{Symbol}
 use Rattle.ql_lex.specs.declared.symbol.Symbol.TheVariants as symbols
 use Rattle.ocl_parser.specs.declared.frame.Subtree.{Subtree}
@@ -149,7 +149,7 @@ operator_within bound operator (frames.Row first rest waiting ∷ stack) subtree
     taken_both bound (level_of waiting == level_of operator) _ _ (one_row_taken bound (open_levels stack) h) (two_rows_taken bound (open_levels stack) h)
 operator_within bound operator stack subtree h = row_taken bound _ h
 
-behind_within : (bound : ℕ) (stack : List Frame) (subtree : Subtree) (symbol : Symbol) (span : Span) → open_levels stack ≤ bound → taken (behind stack subtree symbol span) ≤ bound
+behind_within : (bound : ℕ) (stack : List Frame) (subtree : Subtree) (symbol : Symbol) (span : Span) → open_levels stack ≤ bound → taken (ended_by stack subtree symbol span) ≤ bound
 behind_within bound stack subtree (symbols.Operator operator) span h =
     let s : Reduced = reduced (level_of operator + 1) stack subtree in
     operator_within bound operator s.stack s.subtree (reduced_within bound (level_of operator + 1) stack subtree h)

@@ -12,7 +12,7 @@ use Rattle.qv_syntax.specs.declared.expr.Expr.TheVariants as exprs
 use Rattle.qv_syntax.specs.declared.expr.Postfix.TheVariants as postfixes
 use Rattle.qv_syntax.specs.Operators.{level_of}
 use Rattle.ocl_parser.specs.Grammar.{takes_class}
-use Rattle.ocl_parser.specs.Moves.{Move, Reduced, move, to, refused, base_of, subtree_of, with_postfix, path_of, extended, reduced, operator_on, close_by, behind, begins_expression, operand, after, arguments, call_of, infixed, after_path, path_by, on_path, dotted, arrow_call, arrow_first, arrow_second, class_path, type_begin, type_end, type_path, on_name, on_colon, on_brace, on_type_parenthesis, on_arrow_parenthesis}
+use Rattle.ocl_parser.specs.Moves.{Move, Reduced, move, to, refused, base_of, subtree_of, with_postfix, path_of, extended, reduced, operator_on, close_by, ended_by, begins_expression, operand, after, arguments, call_of, infixed, after_path, path_by, on_path, dotted, arrow_call, arrow_first, arrow_second, class_path, type_begin, type_end, type_path, on_name, on_colon, on_brace, on_type_parenthesis, on_arrow_parenthesis}
 use Rattle.ocl_parser.specs.Completion.{opening_levels}
 use Rattle.ql_lex.specs.declared.symbol.Symbol.{Symbol}
 use Rattle.ql_lex.specs.declared.symbol.Symbol.TheVariants as symbols
@@ -56,7 +56,7 @@ operator_opening operator (frames.Row first rest waiting ∷ stack) subtree =
     (to (frames.Row subtree [] operator ∷ frames.Row first rest waiting ∷ stack) states.Operand) refl refl
 operator_opening operator stack subtree = refl
 
-behind_opening : (stack : List Frame) (subtree : Subtree) (symbol : Symbol) (span : Span) → opening (behind stack subtree symbol span) ≡ 0
+behind_opening : (stack : List Frame) (subtree : Subtree) (symbol : Symbol) (span : Span) → opening (ended_by stack subtree symbol span) ≡ 0
 behind_opening stack subtree (symbols.Operator operator) span =
     let s : Reduced = reduced (level_of operator + 1) stack subtree in
     operator_opening operator s.stack s.subtree

@@ -10,7 +10,7 @@ use Rattle.qv_syntax.specs.declared.expr.Expr.TheVariants as exprs
 use Rattle.qv_syntax.specs.declared.expr.Postfix.TheVariants as postfixes
 use Rattle.qv_syntax.specs.Operators.{level_of}
 use Rattle.ocl_parser.specs.Grammar.{takes_class}
-use Rattle.ocl_parser.specs.Moves.{Move, Reduced, move, to, base_of, subtree_of, with_postfix, reduced, operator_on, close_by, behind, after, arguments, call_of, infixed, after_path, path_by, dotted, arrow_first, arrow_second, type_end}
+use Rattle.ocl_parser.specs.Moves.{Move, Reduced, move, to, base_of, subtree_of, with_postfix, reduced, operator_on, close_by, ended_by, after, arguments, call_of, infixed, after_path, path_by, dotted, arrow_first, arrow_second, type_end}
 use Rattle.ql_lex.specs.declared.symbol.Symbol.{Symbol}
 use Rattle.ql_lex.specs.declared.symbol.Symbol.TheVariants as symbols
 use Rattle.ocl_parser.specs.declared.frame.Subtree.{Subtree}
@@ -56,7 +56,7 @@ operator_same operator (frames.Row first rest waiting ∷ stack) subtree d e h =
     (to (frames.Row subtree [] operator ∷ frames.Row first rest waiting ∷ stack) states.Operand) d e (read_same states.Operand d e) (read_same states.Operand d e) h
 operator_same operator stack subtree d e h = read_same states.Operand d e h
 
-behind_same : (stack : List Frame) (subtree : Subtree) (symbol : Symbol) (span other : Span) (d e : Expr) → (behind stack subtree symbols.Other other).action ≡ actions.Whole d → (behind stack subtree symbol span).action ≡ actions.Whole e → d ≡ e
+behind_same : (stack : List Frame) (subtree : Subtree) (symbol : Symbol) (span other : Span) (d e : Expr) → (ended_by stack subtree symbols.Other other).action ≡ actions.Whole d → (ended_by stack subtree symbol span).action ≡ actions.Whole e → d ≡ e
 behind_same stack subtree (symbols.Operator operator) span other d e g h =
     let s : Reduced = reduced (level_of operator + 1) stack subtree in
     operator_same operator s.stack s.subtree d e h
@@ -64,7 +64,7 @@ behind_same stack subtree symbol span other d e g h =
     let s : Reduced = reduced 0 stack subtree in
     close_same s.stack s.subtree symbol span other d e g h
 
-after_same : (stack : List Frame) (base : Base) (symbol : Symbol) (span other : Span) (d e : Expr) → (behind stack (subtree_of base) symbols.Other other).action ≡ actions.Whole d → (after stack base symbol span).action ≡ actions.Whole e → d ≡ e
+after_same : (stack : List Frame) (base : Base) (symbol : Symbol) (span other : Span) (d e : Expr) → (ended_by stack (subtree_of base) symbols.Other other).action ≡ actions.Whole d → (after stack base symbol span).action ≡ actions.Whole e → d ≡ e
 after_same stack base symbols.Dot span other d e g h = cc
 after_same stack base symbols.Arrow span other d e g h = cc
 after_same stack base symbol span other d e g h = behind_same stack (subtree_of base) symbol span other d e g h
@@ -74,12 +74,12 @@ arguments_same stack called d e h =
     same_both (takes_class called.name.text) (to stack (states.ClassName called)) (to (frames.Arguments called [] ∷ stack) states.Operand) d e (read_same (states.ClassName called) d e) (read_same states.Operand d e) h
 
 path_ended : (names : List Name) (stack : List Frame) (path : Path) (other : Span) (d : Expr) → (path_by names stack path symbols.Other other).action ≡ actions.Whole d
-    → (behind stack (subtree_of (base_of (exprs.Named path) path.span)) symbols.Other other).action ≡ actions.Whole d
+    → (ended_by stack (subtree_of (base_of (exprs.Named path) path.span)) symbols.Other other).action ≡ actions.Whole d
 path_ended [] stack path other d h = h
 path_ended (x ∷ []) stack path other d h = h
 path_ended (x ∷ y ∷ ns) stack path other d h = h
 
-path_same : (names : List Name) (stack : List Frame) (path : Path) (symbol : Symbol) (span other : Span) (d e : Expr) → (behind stack (subtree_of (base_of (exprs.Named path) path.span)) symbols.Other other).action ≡ actions.Whole d
+path_same : (names : List Name) (stack : List Frame) (path : Path) (symbol : Symbol) (span other : Span) (d e : Expr) → (ended_by stack (subtree_of (base_of (exprs.Named path) path.span)) symbols.Other other).action ≡ actions.Whole d
     → (path_by names stack path symbol span).action ≡ actions.Whole e → d ≡ e
 path_same (name ∷ []) stack path symbols.OpenParenthesis span other d e g h = arguments_same stack (call_of name) d e h
 path_same names stack path symbols.DoubleColon span other d e g h =
@@ -88,7 +88,7 @@ path_same names stack path symbols.DoubleColon span other d e g h =
 path_same names stack path symbol span other d e g h = after_same stack (base_of (exprs.Named path) path.span) symbol span other d e g h
 
 dotted_same : (stack : List Frame) (base : Base) (start : ℕ) (name : Name) (symbol : Symbol) (span other : Span) (d e : Expr)
-    → (behind stack (subtree_of (with_postfix base (postfixes.Property name) name.span.end)) symbols.Other other).action ≡ actions.Whole d → (dotted stack base start name symbol span).action ≡ actions.Whole e → d ≡ e
+    → (ended_by stack (subtree_of (with_postfix base (postfixes.Property name) name.span.end)) symbols.Other other).action ≡ actions.Whole d → (dotted stack base start name symbol span).action ≡ actions.Whole e → d ≡ e
 dotted_same stack base start name symbols.OpenParenthesis span other d e g h = arguments_same stack (record { before = before.Dot base start; name = name }) d e h
 dotted_same stack base start name symbol span other d e g h = after_same stack (with_postfix base (postfixes.Property name) name.span.end) symbol span other d e g h
 

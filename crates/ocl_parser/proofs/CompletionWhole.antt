@@ -10,7 +10,7 @@ use Rattle.qv_syntax.specs.declared.expr.Expr.TheVariants as exprs
 use Rattle.qv_syntax.specs.declared.expr.Postfix.TheVariants as postfixes
 use Rattle.qv_syntax.specs.Operators.{level_of}
 use Rattle.ocl_parser.specs.Grammar.{takes_class}
-use Rattle.ocl_parser.specs.Moves.{Move, Reduced, move, to, refused, base_of, subtree_of, with_postfix, path_of, reduced, operator_on, close_by, behind, operand, after, arguments, call_of, infixed, after_path, path_by, on_path, dotted, arrow_call, arrow_first, arrow_second, class_path, type_end}
+use Rattle.ocl_parser.specs.Moves.{Move, Reduced, move, to, refused, base_of, subtree_of, with_postfix, path_of, reduced, operator_on, close_by, ended_by, operand, after, arguments, call_of, infixed, after_path, path_by, on_path, dotted, arrow_call, arrow_first, arrow_second, class_path, type_end}
 use Rattle.ql_lex.specs.declared.symbol.Symbol.{Symbol}
 use Rattle.ql_lex.specs.declared.symbol.Symbol.TheVariants as symbols
 use Rattle.ocl_parser.specs.declared.frame.Subtree.{Subtree}
@@ -62,7 +62,7 @@ operator_read operator (frames.Row first rest waiting ∷ stack) subtree =
     (to (frames.Row subtree [] operator ∷ frames.Row first rest waiting ∷ stack) states.Operand) refl refl
 operator_read operator stack subtree = refl
 
-behind_whole : (stack : List Frame) (subtree : Subtree) (symbol : Symbol) (span other : Span) → is_whole (behind stack subtree symbols.Other other) ≡ true → is_refused (behind stack subtree symbol span) ≡ false
+behind_whole : (stack : List Frame) (subtree : Subtree) (symbol : Symbol) (span other : Span) → is_whole (ended_by stack subtree symbols.Other other) ≡ true → is_refused (ended_by stack subtree symbol span) ≡ false
 behind_whole stack subtree (symbols.Operator operator) span other h =
     let s : Reduced = reduced (level_of operator + 1) stack subtree in
     operator_read operator s.stack s.subtree
@@ -70,7 +70,7 @@ behind_whole stack subtree symbol span other h =
     let s : Reduced = reduced 0 stack subtree in
     close_whole s.stack s.subtree symbol span other h
 
-after_whole : (stack : List Frame) (base : Base) (symbol : Symbol) (span other : Span) → is_whole (behind stack (subtree_of base) symbols.Other other) ≡ true → is_refused (after stack base symbol span) ≡ false
+after_whole : (stack : List Frame) (base : Base) (symbol : Symbol) (span other : Span) → is_whole (ended_by stack (subtree_of base) symbols.Other other) ≡ true → is_refused (after stack base symbol span) ≡ false
 after_whole stack base symbols.Dot span other h = refl
 after_whole stack base symbols.Arrow span other h = refl
 after_whole stack base symbol span other h = behind_whole stack (subtree_of base) symbol span other h
@@ -79,12 +79,12 @@ arguments_read : (stack : List Frame) (called : CallHead) → is_refused (argume
 arguments_read stack called = refused_both (takes_class called.name.text) (to stack (states.ClassName called)) (to (frames.Arguments called [] ∷ stack) states.Operand) refl refl
 
 path_other : (names : List Name) (stack : List Frame) (path : Path) (other : Span) → is_whole (path_by names stack path symbols.Other other) ≡ true
-    → is_whole (behind stack (subtree_of (base_of (exprs.Named path) path.span)) symbols.Other other) ≡ true
+    → is_whole (ended_by stack (subtree_of (base_of (exprs.Named path) path.span)) symbols.Other other) ≡ true
 path_other [] stack path other h = h
 path_other (x ∷ []) stack path other h = h
 path_other (x ∷ y ∷ ns) stack path other h = h
 
-path_whole : (names : List Name) (stack : List Frame) (path : Path) (symbol : Symbol) (span other : Span) → is_whole (behind stack (subtree_of (base_of (exprs.Named path) path.span)) symbols.Other other) ≡ true
+path_whole : (names : List Name) (stack : List Frame) (path : Path) (symbol : Symbol) (span other : Span) → is_whole (ended_by stack (subtree_of (base_of (exprs.Named path) path.span)) symbols.Other other) ≡ true
     → is_refused (path_by names stack path symbol span) ≡ false
 path_whole (name ∷ []) stack path symbols.OpenParenthesis span other h = arguments_read stack (call_of name)
 path_whole names stack path symbols.DoubleColon span other h =
@@ -92,7 +92,7 @@ path_whole names stack path symbols.DoubleColon span other h =
     (after_whole stack (base_of (exprs.Named path) path.span) symbols.DoubleColon span other h)
 path_whole names stack path symbol span other h = after_whole stack (base_of (exprs.Named path) path.span) symbol span other h
 
-dotted_whole : (stack : List Frame) (base : Base) (start : ℕ) (name : Name) (symbol : Symbol) (span other : Span) → is_whole (behind stack (subtree_of (with_postfix base (postfixes.Property name) name.span.end)) symbols.Other other) ≡ true
+dotted_whole : (stack : List Frame) (base : Base) (start : ℕ) (name : Name) (symbol : Symbol) (span other : Span) → is_whole (ended_by stack (subtree_of (with_postfix base (postfixes.Property name) name.span.end)) symbols.Other other) ≡ true
     → is_refused (dotted stack base start name symbol span) ≡ false
 dotted_whole stack base start name symbols.OpenParenthesis span other h = arguments_read stack (record { before = before.Dot base start; name = name })
 dotted_whole stack base start name symbol span other h = after_whole stack (with_postfix base (postfixes.Property name) name.span.end) symbol span other h

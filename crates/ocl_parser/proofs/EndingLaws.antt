@@ -7,7 +7,7 @@ use Rattle.qv_syntax.specs.declared.type_tree.TypeTree.TheVariants as types
 use Rattle.qv_syntax.specs.declared.expr.Expr.{Expr}
 use Rattle.qv_syntax.specs.declared.expr.Expr.TheVariants as exprs
 use Rattle.qv_syntax.specs.declared.expr.Postfix.TheVariants as postfixes
-use Rattle.ocl_parser.specs.Moves.{Move, Reduced, move, base_of, subtree_of, with_postfix, reduced, close_by, behind, after, path_by, dotted, arrow_first, arrow_second, type_end}
+use Rattle.ocl_parser.specs.Moves.{Move, Reduced, move, base_of, subtree_of, with_postfix, reduced, close_by, ended_by, after, path_by, dotted, arrow_first, arrow_second, type_end}
 use Rattle.ql_lex.specs.declared.symbol.Symbol.{Symbol}
 use Rattle.ql_lex.specs.declared.symbol.Symbol.TheVariants as symbols
 use Rattle.ocl_parser.specs.declared.frame.Subtree.{Subtree}
@@ -39,33 +39,33 @@ close_ended (frames.VariableType it ∷ stack) subtree symbol span other d h = c
 close_ended (frames.Body it ty ∷ stack) subtree symbol span other d h = cc
 close_ended (frames.OfKind start kind ∷ stack) subtree symbol span other d h = cc
 
-behind_ended : (stack : List Frame) (subtree : Subtree) (symbol : Symbol) (span other : Span) (d : Expr) → closes symbol ≡ true → (behind stack subtree symbols.Other other).action ≡ actions.Whole d
-    → (behind stack subtree symbol span).action ≡ actions.Whole d
+behind_ended : (stack : List Frame) (subtree : Subtree) (symbol : Symbol) (span other : Span) (d : Expr) → closes symbol ≡ true → (ended_by stack subtree symbols.Other other).action ≡ actions.Whole d
+    → (ended_by stack subtree symbol span).action ≡ actions.Whole d
 behind_ended stack subtree (symbols.Operator operator) span other d c h = cc
 behind_ended stack subtree symbol span other d c h =
     let s : Reduced = reduced 0 stack subtree in
     close_ended s.stack s.subtree symbol span other d h
 
-after_ended : (stack : List Frame) (base : Base) (symbol : Symbol) (span other : Span) (d : Expr) → closes symbol ≡ true → (behind stack (subtree_of base) symbols.Other other).action ≡ actions.Whole d
+after_ended : (stack : List Frame) (base : Base) (symbol : Symbol) (span other : Span) (d : Expr) → closes symbol ≡ true → (ended_by stack (subtree_of base) symbols.Other other).action ≡ actions.Whole d
     → (after stack base symbol span).action ≡ actions.Whole d
 after_ended stack base symbols.Dot span other d c h = cc
 after_ended stack base symbols.Arrow span other d c h = cc
 after_ended stack base symbol span other d c h = behind_ended stack (subtree_of base) symbol span other d c h
 
 path_before : (names : List Name) (stack : List Frame) (path : Path) (other : Span) (d : Expr) → (path_by names stack path symbols.Other other).action ≡ actions.Whole d
-    → (behind stack (subtree_of (base_of (exprs.Named path) path.span)) symbols.Other other).action ≡ actions.Whole d
+    → (ended_by stack (subtree_of (base_of (exprs.Named path) path.span)) symbols.Other other).action ≡ actions.Whole d
 path_before [] stack path other d h = h
 path_before (x ∷ []) stack path other d h = h
 path_before (x ∷ y ∷ ns) stack path other d h = h
 
 path_ended : (names : List Name) (stack : List Frame) (path : Path) (symbol : Symbol) (span other : Span) (d : Expr) → closes symbol ≡ true
-    → (behind stack (subtree_of (base_of (exprs.Named path) path.span)) symbols.Other other).action ≡ actions.Whole d → (path_by names stack path symbol span).action ≡ actions.Whole d
+    → (ended_by stack (subtree_of (base_of (exprs.Named path) path.span)) symbols.Other other).action ≡ actions.Whole d → (path_by names stack path symbol span).action ≡ actions.Whole d
 path_ended (name ∷ []) stack path symbols.OpenParenthesis span other d c h = cc
 path_ended names stack path symbols.DoubleColon span other d c h = cc
 path_ended names stack path symbol span other d c h = after_ended stack (base_of (exprs.Named path) path.span) symbol span other d c h
 
 dotted_ended : (stack : List Frame) (base : Base) (start : ℕ) (name : Name) (symbol : Symbol) (span other : Span) (d : Expr) → closes symbol ≡ true
-    → (behind stack (subtree_of (with_postfix base (postfixes.Property name) name.span.end)) symbols.Other other).action ≡ actions.Whole d → (dotted stack base start name symbol span).action ≡ actions.Whole d
+    → (ended_by stack (subtree_of (with_postfix base (postfixes.Property name) name.span.end)) symbols.Other other).action ≡ actions.Whole d → (dotted stack base start name symbol span).action ≡ actions.Whole d
 dotted_ended stack base start name symbols.OpenParenthesis span other d c h = cc
 dotted_ended stack base start name symbol span other d c h = after_ended stack (with_postfix base (postfixes.Property name) name.span.end) symbol span other d c h
 

@@ -15,7 +15,7 @@ use Rattle.qv_syntax.specs.declared.expr.Args.TheVariants as args
 use Rattle.qv_syntax.specs.Operators.{level_of}
 use Rattle.ql_lex.specs.Lexemes.{stands, end_of}
 use Rattle.ocl_parser.specs.Grammar.{binding, spelled, are_of_level}
-use Rattle.ocl_parser.specs.Moves.{Move, Reduced, reduced, from_to, infixed, operator_on, close_by, closed, behind, after, subtree_of, open_levels, state_levels}
+use Rattle.ocl_parser.specs.Moves.{Move, Reduced, reduced, from_to, infixed, operator_on, close_by, closed, ended_by, after, subtree_of, open_levels, state_levels}
 use Rattle.ql_lex.specs.declared.symbol.Symbol.{Symbol}
 use Rattle.ql_lex.specs.declared.symbol.Symbol.TheVariants as symbols
 use Rattle.ocl_parser.specs.declared.frame.Subtree.{Subtree}
@@ -299,7 +299,7 @@ reduced_fits ts from levels level s symbol c h e = close_fits ts from levels s.s
 
 pub behind_fits : (ts : List Lexeme) (from levels : ℕ) (stack : List Frame) (subtree : Subtree) (s : Symbol) (a b n : ℕ) → Holds ts from levels stack a n
     → PartAt ts n subtree a b → 9 ≤ binding ts subtree.tree → IsAt ts b s
-    → Fits ts from levels b (behind stack subtree s (here ts b))
+    → Fits ts from levels b (ended_by stack subtree s (here ts b))
 behind_fits ts from levels stack subtree (symbols.Operator operator) a b n h p tight e =
     let level = level_of operator + 1 in
     let s = reduced_holds ts from levels level stack subtree a b n (omega (arith, level_most operator)) h p (omega (arith, floor_most stack, tight))

@@ -158,9 +158,9 @@ abbrev pub closed : Reduced → Symbol → Span → Move
 closed s symbol span = close_by s.stack s.subtree symbol span
 
 -- behind an operand, which ends
-abbrev pub behind : List Frame → Subtree → Symbol → Span → Move
-behind stack subtree (symbols.Operator operator) span = at_operator operator (reduced (level_of operator + 1) stack subtree)
-behind stack subtree symbol span = closed (reduced 0 stack subtree) symbol span
+abbrev pub ended_by : List Frame → Subtree → Symbol → Span → Move
+ended_by stack subtree (symbols.Operator operator) span = at_operator operator (reduced (level_of operator + 1) stack subtree)
+ended_by stack subtree symbol span = closed (reduced 0 stack subtree) symbol span
 
 -- ---- the states
 
@@ -203,7 +203,7 @@ operand stack symbol span = refused stack
 abbrev pub after : List Frame → Base → Symbol → Span → Move
 after stack base symbols.Dot span = to stack (states.DotName base span.start)
 after stack base symbols.Arrow span = to stack (states.ArrowName base span.start)
-after stack base symbol span = behind stack (subtree_of base) symbol span
+after stack base symbol span = ended_by stack (subtree_of base) symbol span
 
 -- the `(` of a call
 abbrev pub arguments : List Frame → CallHead → Move

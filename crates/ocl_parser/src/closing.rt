@@ -1,5 +1,5 @@
 ghost use Rattle.std.specs.Prelude.{◌≡◌, [], ◌∷◌, IfOk};
-ghost use Rattle.ocl_parser.specs.Moves.{after as after_move, behind as behind_move, close_by, operator_on, to};
+ghost use Rattle.ocl_parser.specs.Moves.{after as after_move, ended_by as ended_move, close_by, operator_on, to};
 ghost use Rattle.ocl_parser.specs.Answers.{made};
 ghost use Rattle.ocl_parser.specs.declared.frame.Frame.TheVariants as frames;
 ghost use Rattle.ocl_parser.specs.declared.state.State.TheVariants as states;
@@ -336,13 +336,13 @@ fn close(
 }
 
 /// A symbol behind an operand, which ends.
-fn behind(
+fn ended_by(
     alloc: Global,
     stack: &mut Stack,
     subtree: Subtree,
     terminal: Terminal,
 ) -> Result<Action, NoMemory>
-    ensures { IfOk result (λ o. made stack.new o ≡ behind_move stack.old subtree terminal.symbol terminal.span) }
+    ensures { IfOk result (λ o. made stack.new o ≡ ended_move stack.old subtree terminal.symbol terminal.span) }
 {
     let Terminal { symbol, span } = terminal;
     match symbol {
@@ -381,7 +381,7 @@ pub(crate) fn after(
                 symbol: other,
                 span,
             };
-            behind(alloc, stack, subtree, terminal)
+            ended_by(alloc, stack, subtree, terminal)
         }
     }
 }

@@ -5,7 +5,7 @@ use Rattle.std.specs.Option.{unwrap_or}
 use Rattle.std.specs.Fmt.{decimal}
 use Rattle.mof_metamodel.specs.declared.desc.MetaDesc.{MetaDesc}
 use Rattle.mof_metamodel.specs.Characters.{same_name, is_identifier_text}
-use Rattle.mof_metamodel.specs.Metamodels.{joined, prop_number}
+use Rattle.mof_metamodel.specs.Metamodels.{united, prop_number}
 use Rattle.xmi_text.specs.Trees.{Nodes, Ends, Run, Element, Tree}
 use Rattle.xmi_profile.specs.declared.fault.Externs.{Externs}
 use Rattle.xmi_profile.specs.Attributes.{Attrs, value_where, written_id, is_nil}
@@ -172,7 +172,7 @@ target_number s (Nowhere text) = None
 
 -- the objects that an object names at a reference, each once and at its first place
 abbrev pub named_at : Source → ℕ → ℕ → List ℕ
-named_at s o p = joined [] (filter_map (target_number s) (targets_at s o p))
+named_at s o p = united [] (filter_map (target_number s) (targets_at s o p))
 
 abbrev pub names : Source → ℕ → ℕ → ℕ → Bool
 names s o p b = list_any (nat_eq b) (named_at s o p)

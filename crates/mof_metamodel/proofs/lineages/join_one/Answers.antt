@@ -1,7 +1,7 @@
 use Rattle.std.proofs.Common.{◌∙◌, sym}
-use Rattle.mof_metamodel.proofs.ClassOrderLemmas.{joined-present}
+use Rattle.mof_metamodel.proofs.ClassOrderLemmas.{united-present}
 use Rattle.mof_metamodel.proofs.lineages.join_one.Goals as goal
 
 pub returns-then-marks-c-clause-keys : goal.returns-then-marks-c-clause-keys
 returns-then-marks-c-clause-keys c =
-    sym (joined-present c.args.joint.now.keys c.args.order.now.keys (c.requires.there (sym (c.requires.marks c.args.c c.requires.class) ∙ c.if-marks-c.true)))
+    sym (united-present c.args.joint.now.keys c.args.order.now.keys (c.requires.there (sym (c.requires.marks c.args.c c.requires.class) ∙ c.if-marks-c.true)))
