@@ -174,17 +174,17 @@ leads_at g u i row is within = (i, subst (λ r. i < length r) is within, ap (λ 
 
 -- ---- the search over all nodes
 
-mark_new : (n u : ℕ) → (mark_at (replicate n New) u ≡ New) ⊎ (n ≤ u)
+pub mark_new : (n u : ℕ) → (mark_at (replicate n New) u ≡ New) ⊎ (n ≤ u)
 mark_new zero u = inr (omega arith)
 mark_new (suc n) zero = inl refl
 mark_new (suc n) (suc u) = ⊎_elim (λ new. inl new) (λ past. inr (omega (arith, past))) (mark_new n u)
 
-past_end : (g : Graph) (u : ℕ) → length g ≤ u → neighbours g u ≡ []
+pub past_end : (g : Graph) (u : ℕ) → length g ≤ u → neighbours g u ≡ []
 past_end [] u past = refl
 past_end (row ∷ g) zero past = absurd (omega (arith, past))
 past_end (row ∷ g) (suc u) past = let behind : length g ≤ u = omega (arith, past) in past_end g u behind
 
-none_passed : (n u : ℕ) → passed_at (replicate n 0) u ≡ 0
+pub none_passed : (n u : ℕ) → passed_at (replicate n 0) u ≡ 0
 none_passed zero u = refl
 none_passed (suc n) zero = refl
 none_passed (suc n) (suc u) = none_passed n u

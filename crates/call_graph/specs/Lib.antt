@@ -1,2 +1,4 @@
 pub mod Graphs
+pub mod Orders
 pub mod Searches
+pub mod Strata

@@ -1,0 +1,10 @@
+use mof_metamodel::Seq;
+
+/// What the calls of a graph with two kinds of calls allow.
+#[derive(Drop)]
+pub enum Layers {
+    /// This node lies on a cycle of calls.
+    Cyclic(usize),
+    /// There is no cycle, and these are the strata, each in the place of its node.
+    Layered(Seq<usize>),
+}
