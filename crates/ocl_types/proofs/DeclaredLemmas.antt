@@ -21,12 +21,11 @@ use Rattle.ocl_types.specs.declared.classifier.Wanted.{Wanted}
 use Rattle.ocl_types.specs.declared.classifier.Wanted.TheVariants.{Types, Classes, Enums}
 use Rattle.ocl_types.specs.declared.fault.TypeFault.{TypeFault}
 use Rattle.ocl_types.specs.declared.fault.TypeError.{TypeError}
-use Rattle.ocl_types.specs.declared.fault.TypeError.TheVariants as errors
-use Rattle.mof_metamodel.specs.Giving as giving
+use Rattle.mof_metamodel.specs.Giving.{Gives}
 use Rattle.ocl_types.specs.Environments.{Environment, meta_at, no_meta, is_over, is_over_step, single_step, is_single_value, is_flat_layer, is_flat, is_type}
 use Rattle.ocl_types.specs.Naming.{names_of}
 use Rattle.ocl_types.specs.Classifiers.{class_in, enum_in, is_meant, wanted_classes, wanted_enums, classifiers_in, classifiers_from, path_classifiers, classifier_type, only}
-use Rattle.ocl_types.specs.Written.{Gives, fault_in, found_type, collection_of, written, written_step}
+use Rattle.ocl_types.specs.Written.{fault_in, found_type, collection_of, written, written_step}
 use Rattle.ocl_types.specs.Outcomes.{RuleResult, and_then}
 use Rattle.ocl_types.specs.Agreement.{collection_layer}
 use Rattle.ocl_types.specs.TypingScopes.{no_collection, element, flat_by, flat, declared_type}
@@ -243,12 +242,6 @@ module _ (env : Environment) where
   declared_is_type tree ty h = declared_by (written env tree) (written_sound tree) ty h
 
 -- what a function answers is such a type
-pub variable_typed : (r : Result Ty TypeError) (env : Environment) (tree : TypeTree) → Gives r (declared_type env tree) → IfOk r (λ ty. IsTrue (is_type env.metas ty))
+pub variable_typed : (r : Result Ty TypeError) (env : Environment) (tree : TypeTree) → Gives fault_in (λ x. x) r (declared_type env tree) → IfOk r (λ ty. IsTrue (is_type env.metas ty))
 variable_typed (Ok ty) env tree given = declared_is_type env tree ty given
 variable_typed (Err e) env tree given = tt
-
--- the answer, or its fault, in the words of mof_metamodel
-pub given_both : {X : Type 0} (r : Result X TypeError) (meaning : Result X TypeFault) → Gives r meaning → giving.Gives fault_in (λ x. x) r meaning
-given_both (Ok x) meaning given = given
-given_both (Err (errors.Fault f)) meaning given = given
-given_both (Err errors.NoMemory) meaning given = tt

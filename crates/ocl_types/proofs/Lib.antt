@@ -6,6 +6,7 @@ pub mod ScopeLaws
 pub mod AgreementLaws
 pub mod ReachLaws
 pub mod ModelLaws
+pub mod ModelLemmas
 pub mod IterationLaws
 pub mod TypeLaws
 pub mod UpperLaws
@@ -18,12 +19,16 @@ pub mod ClassifierIndexLemmas
 pub mod DeclaredLemmas
 pub mod QueryCallLemmas
 pub mod QueryLemmas
+pub mod QueriesDecide
+pub mod QueryTrees
+pub mod CycleLaws
 pub mod LayerLaws
 pub mod ConformanceLaws
 pub mod ClassifierLaws
 pub mod WrittenLaws
 pub mod OneModelLaws
 pub mod OperationLaws
+pub mod RowLaws
 pub mod NumberLaws
 pub mod TypedParts
 pub mod TypedForms
@@ -32,4 +37,6 @@ pub mod TypedTrees
 pub mod RangeLaws
 pub mod TopLaws
 pub mod RelationLaws
+pub mod DemandLaws
+pub mod NameLaws
 pub mod JudgmentLaws

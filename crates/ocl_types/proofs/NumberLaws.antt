@@ -1,19 +1,19 @@
 -- The numbers of a typed tree name what is there: variables and queries by their places, the one model of a metamodel, and properties.
-use Rattle.std.proofs.Common.{◌≡◌, ◌<◌, ℕ, zero, suc, ◌+◌, ◌&&◌, Bool, true, false, List, [], ◌∷◌, Option, None, Some, map, length, get_or, if◌then◌else◌, refl, sym, ap, ◌∙◌, subst, ⊎_elim, inl, inr, arith, eq-eqb}
+use Rattle.std.proofs.Common.{◌≡◌, ◌<◌, ℕ, zero, suc, ◌+◌, ◌&&◌, Bool, true, false, List, [], ◌∷◌, Option, None, Some, map, length, if◌then◌else◌, refl, sym, ap, ◌∙◌, subst, ⊎_elim, inl, inr, arith, eq-eqb}
 use Rattle.std.specs.Prelude.{◌==◌, nat_lt, Contains, slice_get}
 use Rattle.std.specs.Option.{option_map, option_and_then}
 use Rattle.std.proofs.lemmas.Bool.{eqb-true, ltb-true}
-use Rattle.std.proofs.lemmas.List.{length-map}
-use Rattle.std.proofs.lemmas.Option.{none-some, same_Some, slice_get-map, slice_get-get_or}
-use Rattle.std.proofs.lemmas.List.Quantifiers.{position-Some}
+use Rattle.std.proofs.lemmas.Option.{none-some, same_Some, slice_get-map, slice_get-get_or, slice_get_within, get_or_from_slice_get}
 use Rattle.std.proofs.lemmas.List.Elements.{Contains-append_left, Contains-append_right, Contains-append_cases}
 use Rattle.mof_metamodel.specs.declared.desc.MetaDesc.{MetaDesc}
 use Rattle.mof_metamodel.specs.declared.desc.ClassId.{ClassId}
 use Rattle.mof_metamodel.specs.declared.desc.PropId.{PropId}
 use Rattle.mof_metamodel.specs.declared.desc.PropType.{PropType}
-use Rattle.mof_metamodel.specs.Metamodels.{same_name, class_count, props_of, prop_at, prop_number, type_of}
+use Rattle.mof_metamodel.specs.Metamodels.{class_count, props_of, prop_at, prop_number, type_of, owner_of, Conforms}
+use Rattle.mof_metamodel.specs.MetaFaults.{WellMeta}
 use Rattle.mof_metamodel.specs.Members.{IsPropNamed}
-use Rattle.mof_metamodel.proofs.MetaLaws.{prop_named}
+use Rattle.mof_metamodel.proofs.MetaLaws.{prop_named, has_exactly}
+use Rattle.mof_metamodel.proofs.PropLemmas.{prop_known}
 use Rattle.qv_syntax.specs.declared.ty.Ty.{Ty}
 use Rattle.qv_syntax.specs.declared.ty.Ty.TheVariants as types
 use Rattle.qv_syntax.specs.declared.query.ModelSlot.{ModelSlot}
@@ -21,30 +21,19 @@ use Rattle.qv_syntax.specs.declared.typed.Values.{Values}
 use Rattle.qv_syntax.specs.Types.{IsClassIn}
 use Rattle.qv_syntax.specs.TypeRules.{HasProperty}
 use Rattle.qv_syntax.specs.TypedTrees.{IsOnlyModelOf}
-use Rattle.ocl_types.specs.Environments.{Environment, NamesWith, no_meta, meta_at, class_of, number_of, value_of, models_of, only, only_model}
+use Rattle.ocl_types.specs.Environments.{Environment, AreWell, no_meta, meta_at, class_of, models_of, only, only_model}
 use Rattle.ocl_types.specs.Navigation.{value_type, values_of}
 use Rattle.ocl_types.specs.TypingSteps.{described, class_property, property_of}
 use Rattle.ocl_types.specs.TypedContext.{context_of}
-use Rattle.ocl_types.proofs.TypeLaws.{both_true}
-use Rattle.ocl_types.proofs.ScopeLaws.{value_at}
-use Rattle.ocl_types.proofs.LayerLaws.{is_class}
+use Rattle.ocl_types.specs.TypeRules.{HasPropertyNamed}
+use Rattle.ocl_types.proofs.TypeLaws.{both_true, and_true}
+use Rattle.ocl_types.proofs.LayerLaws.{is_class, class_of_class}
+use Rattle.ocl_types.proofs.RangeLaws.{true_lt}
 use Rattle.ocl_types.proofs.ConformanceLaws.{first_in, nothing_in, in_either}
 
 -- ---- names and their places
 
--- what stands at the number of a name is what the name stands for
-pub named_there : {X : Type 0} (es : NamesWith X) (name : List ℕ) (n : ℕ) (x : X) → number_of es name ≡ Some n → value_of es name ≡ Some x
-    → (e : List ℕ × X) × (slice_get es n ≡ Some e) × (e.1 ≡ x)
-named_there [] name n x at is = absurd (none-some x is)
-named_there {X = X} (d ∷ es) name n x at is =
-    let all : NamesWith X = d ∷ es in
-    let within : n < length (map (λ (e : List ℕ × X). e.0) all) = (position-Some (same_name name) (map (λ (e : List ℕ × X). e.0) all) n [] at).0 in
-    let short : n < length all = subst (λ k. n < k) (length-map all (λ (e : List ℕ × X). e.0)) within in
-    let e : List ℕ × X = get_or all n d in
-    let same : e.1 ≡ x = same_Some e.1 x (sym (ap (option_map (λ i. (get_or all i d).1)) at) ∙ sym (value_at all name d) ∙ is) in
-    (e, slice_get-get_or all n d short, same)
-
--- the same through a function
+-- what stands at a place, through a function
 pub mapped_there : {X Y : Type 0} (f : X → Y) (xs : List X) (n : ℕ) (x : X) → slice_get xs n ≡ Some x → slice_get (map f xs) n ≡ Some (f x)
 mapped_there f xs n x is = slice_get-map f xs n ∙ ap (option_map f) is
 
@@ -108,44 +97,93 @@ only_model_is env m model class has is =
 
 -- ---- properties
 
-described_is : (metas : List MetaDesc) (m : ℕ) (c : ClassId) (o : Option PropType) (q : ℕ) (p : PropId × Values × Ty) → m < length metas → c.0 < class_count (meta_at metas m)
-    → Contains (props_of (meta_at metas m) c.0) q → type_of (meta_at metas m) q ≡ o
+described_is : (metas : List MetaDesc) (m : ℕ) (c : ClassId) (name : List ℕ) (o : Option PropType) (q : ℕ) (p : PropId × Values × Ty) → m < length metas → c.0 < class_count (meta_at metas m)
+    → IsPropNamed (meta_at metas m) c.0 name (record { 0 = q }) → type_of (meta_at metas m) q ≡ o
     → option_map (λ ty. (record { 0 = q }, values_of (prop_at (meta_at metas m) q), value_type m ty)) o ≡ Some p
-    → HasProperty metas (types.Class m c) p.0 p.1 p.2
-described_is metas m c None q p within inside own typed is = absurd (none-some p is)
-described_is metas m c (Some ty) q p within inside own typed is =
-    subst (λ (r : PropId × Values × Ty). HasProperty metas (types.Class m c) r.0 r.1 r.2) (same_Some (record { 0 = q }, values_of (prop_at (meta_at metas m) q), value_type m ty) p is) (record {
-      m = m;
-      class = c;
-      is = refl;
-      has = record { meta = meta_at metas m; found = slice_get-get_or metas m no_meta within; within = inside };
-      own = own;
-      of = ty;
-      typed = typed;
-      value = refl;
-      many = refl;
+    → HasPropertyNamed metas (types.Class m c) name p
+described_is metas m c name None q p within inside own typed is = absurd (none-some p is)
+described_is metas m c name (Some ty) q p within inside own typed is =
+    subst (HasPropertyNamed metas (types.Class m c) name) (same_Some (record { 0 = q }, values_of (prop_at (meta_at metas m) q), value_type m ty) p is) (record {
+      property = record {
+        m = m;
+        class = c;
+        is = refl;
+        has = record { meta = meta_at metas m; found = slice_get-get_or metas m no_meta within; within = inside };
+        own = own.has;
+        of = ty;
+        typed = typed;
+        value = refl;
+        many = refl;
+      };
+      named = own.named;
     })
 
-class_property_is : (metas : List MetaDesc) (m : ℕ) (c : ClassId) (name : List ℕ) (p : PropId × Values × Ty) → class_property metas m c name ≡ Some p → HasProperty metas (types.Class m c) p.0 p.1 p.2
+class_property_is : (metas : List MetaDesc) (m : ℕ) (c : ClassId) (name : List ℕ) (p : PropId × Values × Ty) → class_property metas m c name ≡ Some p → HasPropertyNamed metas (types.Class m c) name p
 class_property_is metas m c name p is = by (nat_lt m (length metas) && nat_lt c.0 (class_count (meta_at metas m))) refl is
   where
     there : (o : Option ℕ) → prop_number (meta_at metas m) c.0 name ≡ o → m < length metas → c.0 < class_count (meta_at metas m)
-        → option_and_then (described m (meta_at metas m)) o ≡ Some p → HasProperty metas (types.Class m c) p.0 p.1 p.2
+        → option_and_then (described m (meta_at metas m)) o ≡ Some p → HasPropertyNamed metas (types.Class m c) name p
     there None at within inside is = absurd (none-some p is)
     there (Some q) at within inside is =
         let named : IsPropNamed (meta_at metas m) c.0 name (record { 0 = q }) = prop_named (meta_at metas m) c.0 name (Some (record { 0 = q })) (sym at) in
-        described_is metas m c (type_of (meta_at metas m) q) q p within inside named.has refl is
+        described_is metas m c name (type_of (meta_at metas m) q) q p within inside named refl is
 
     by : (b : Bool) → (nat_lt m (length metas) && nat_lt c.0 (class_count (meta_at metas m))) ≡ b
-        → (if b then option_and_then (described m (meta_at metas m)) (prop_number (meta_at metas m) c.0 name) else None) ≡ Some p → HasProperty metas (types.Class m c) p.0 p.1 p.2
+        → (if b then option_and_then (described m (meta_at metas m)) (prop_number (meta_at metas m) c.0 name) else None) ≡ Some p → HasPropertyNamed metas (types.Class m c) name p
     by true both is =
         let two = both_true (nat_lt m (length metas)) (nat_lt c.0 (class_count (meta_at metas m))) both in
         there (prop_number (meta_at metas m) c.0 name) refl (ltb-true _ _ two.0) (ltb-true _ _ two.1) is
     by false both is = absurd (none-some p is)
 
-pub property_is : (metas : List MetaDesc) (ty : Ty) (name : List ℕ) (p : PropId × Values × Ty) → property_of metas ty name ≡ Some p → HasProperty metas ty p.0 p.1 p.2
+pub property_is : (metas : List MetaDesc) (ty : Ty) (name : List ℕ) (p : PropId × Values × Ty) → property_of metas ty name ≡ Some p → HasPropertyNamed metas ty name p
 property_is metas ty name p is = by (class_of ty) refl is
   where
-    by : (o : Option (ℕ × ClassId)) → class_of ty ≡ o → option_and_then (λ (c : ℕ × ClassId). class_property metas c.0 c.1 name) o ≡ Some p → HasProperty metas ty p.0 p.1 p.2
+    by : (o : Option (ℕ × ClassId)) → class_of ty ≡ o → option_and_then (λ (c : ℕ × ClassId). class_property metas c.0 c.1 name) o ≡ Some p → HasPropertyNamed metas ty name p
     by None at is = absurd (none-some p is)
-    by (Some c) at is = subst (λ t. HasProperty metas t p.0 p.1 p.2) (sym (is_class ty c at)) (class_property_is metas c.0 c.1 name p is)
+    by (Some c) at is = subst (λ t. HasPropertyNamed metas t name p) (sym (is_class ty c at)) (class_property_is metas c.0 c.1 name p is)
+
+module _ (metas : List MetaDesc) (well : AreWell metas) where
+  -- the property of a name that a class has is the one that is found
+  only_named : (m : ℕ) (meta : MetaDesc) (class : ClassId) (name : List ℕ) (p : PropId) → WellMeta meta → class.0 < class_count meta → IsPropNamed meta class.0 name p
+      → prop_number meta class.0 name ≡ Some p.0
+  only_named m meta class name p fine inside named = by (prop_number meta class.0 name) refl
+    where
+      conforms : (q : ℕ) → Contains (props_of meta class.0) q → Conforms meta class.0 (owner_of meta q)
+      conforms q own = (has_exactly meta class.0 inside q (prop_known meta class.0 q own)).0 own
+
+      by : (o : Option ℕ) → prop_number meta class.0 name ≡ o → prop_number meta class.0 name ≡ Some p.0
+      by None at = absurd (prop_named meta class.0 name None (sym at) p.0 named.has named.named)
+      by (Some q) at =
+          let other : IsPropNamed meta class.0 name (record { 0 = q }) = prop_named meta class.0 name (Some (record { 0 = q })) (sym at) in
+          at ∙ ap (λ n. Some n) (fine.distinct.props class.0 q p.0 inside (prop_known meta class.0 q other.has) (prop_known meta class.0 p.0 named.has)
+          (conforms q other.has) (conforms p.0 named.has) (other.named ∙ sym named.named))
+
+  pub property_where : (ty : Ty) (name : List ℕ) (p : PropId × Values × Ty) → HasPropertyNamed metas ty name p → property_of metas ty name ≡ Some p
+  property_where ty name p h =
+      ap (option_and_then (λ (c : ℕ × ClassId). class_property metas c.0 c.1 name)) (ap class_of has.is ∙ class_of_class has.m has.class)
+      ∙ ap (λ b. if b then option_and_then (described has.m meta) (prop_number meta has.class.0 name) else None) (and_true (nat_lt has.m (length metas)) (nat_lt has.class.0 (class_count meta)) (true_lt has.m (length metas) within) (true_lt has.class.0 (class_count meta) inside))
+      ∙ ap (option_and_then (described has.m meta)) (only_named has.m meta has.class name p.0 (well has.m no_meta within) inside named)
+      ∙ ap (option_map (λ t. (p.0, values_of (prop_at meta p.0.0), value_type has.m t))) typed
+      ∙ ap (λ t. Some (p.0, values_of (prop_at meta p.0.0), t)) (sym has.value)
+      ∙ ap (λ v. Some (p.0, v, p.2)) (ap (λ d. values_of (prop_at d p.0.0)) same ∙ sym has.many)
+    where
+      has : HasProperty metas ty p.0 p.1 p.2
+      has = h.property
+
+      meta : MetaDesc
+      meta = meta_at metas has.m
+
+      same : meta ≡ has.has.meta
+      same = get_or_from_slice_get metas has.m has.has.meta no_meta has.has.found
+
+      within : has.m < length metas
+      within = slice_get_within metas has.m has.has.meta has.has.found
+
+      inside : has.class.0 < class_count meta
+      inside = subst (λ d. has.class.0 < class_count d) (sym same) has.has.within
+
+      typed : type_of meta p.0.0 ≡ Some has.of
+      typed = ap (λ d. type_of d p.0.0) same ∙ has.typed
+
+      named : IsPropNamed meta has.class.0 name p.0
+      named = subst (λ d. IsPropNamed d has.class.0 name p.0) (sym same) (record { has = has.own; named = h.named })

@@ -1,13 +1,12 @@
 -- The rows of the table of operations say what the definition says of each operation (OCL 2.4, sections 11.3 to 11.9).
-use Rattle.std.proofs.Common.{◌≡◌, ℕ, Bool, true, false, List, [], ◌∷◌, Option, None, Some, length, cond, refl, ap, ◌∙◌, subst, inl, inr, arith}
+use Rattle.std.proofs.Common.{◌≡◌, ℕ, Bool, true, false, List, [], ◌∷◌, Option, None, Some, length, cond, refl, subst, inl, inr, arith}
 use Rattle.std.specs.Prelude.{IsTrue, find}
 use Rattle.std.specs.List.{list_all}
 use Rattle.std.specs.Str.{bytes_eq}
-use Rattle.std.proofs.lemmas.Bool.{false≢true, eqb-true}
+use Rattle.std.proofs.lemmas.Bool.{false≢true}
 use Rattle.std.proofs.lemmas.Option.{none-some, same_Some}
 use Rattle.mof_metamodel.specs.declared.desc.MetaDesc.{MetaDesc}
 use Rattle.mof_metamodel.specs.declared.desc.ClassId.{ClassId}
-use Rattle.mof_metamodel.proofs.LineageLemmas.{or_cases}
 use Rattle.qv_syntax.specs.declared.operation.Operation.{Operation}
 use Rattle.qv_syntax.specs.declared.operation.Operation.TheVariants as singles
 use Rattle.qv_syntax.specs.declared.operation.ClassOperation.{ClassOperation}
@@ -19,28 +18,22 @@ use Rattle.qv_syntax.specs.declared.operation.IteratorKind.TheVariants as iterat
 use Rattle.qv_syntax.specs.declared.ty.Ty.{Ty}
 use Rattle.qv_syntax.specs.declared.ty.Ty.TheVariants as types
 use Rattle.qv_syntax.specs.declared.type_tree.Kind.{Kind}
-use Rattle.qv_syntax.specs.declared.type_tree.Kind.TheVariants as kinds
 use Rattle.qv_syntax.specs.Types.{IsClassIn}
 use Rattle.qv_syntax.specs.TypeRules as laws
-use Rattle.qv_syntax.specs.TypeRules.{OperationGives, ClassOperationGives, CollectionGives, IsOrdered, Flattened, IteratorGives}
+use Rattle.qv_syntax.specs.TypeRules.{OperationGives, ClassOperationGives, CollectionGives, Flattened, IteratorGives}
 use Rattle.ocl_types.specs.declared.collection_operations.Argument.TheVariants as takes
-use Rattle.ocl_types.specs.Environments.{class_of}
 use Rattle.ocl_types.specs.Operations.{operation_row, class_row, collection_row, iterator_row, operations, operation_named}
-use Rattle.ocl_types.specs.Signatures.{is_receiver, parameter_count, parameter_type, result_type, argument_count, is_ordered, is_set, is_of_kind, collection_result}
-use Rattle.ocl_types.specs.Agreement.{same_type, collection_parts}
-use Rattle.ocl_types.specs.TypingSteps.{is_of_meta, tested}
-use Rattle.ocl_types.specs.TypeRules.{GivenConforms}
+use Rattle.ocl_types.specs.Signatures.{parameter_count, parameter_type, result_type, argument_count, collection_result}
+use Rattle.ocl_types.specs.Agreement.{collection_parts}
+use Rattle.ocl_types.specs.TypingSteps.{tested}
+use Rattle.ocl_types.specs.TypeRules.{IsReceiver, IsObjectOf, IsOfKind, GivenConforms}
+use Rattle.ocl_types.specs.OperationRows.{AreAll, IsSummed}
 use Rattle.ocl_types.specs.TypingCollections.{element_by, element_of, iterated_type}
-use Rattle.ocl_types.proofs.TypeLaws.{same_is_one, both_true}
-use Rattle.ocl_types.proofs.LayerLaws.{is_class, is_collection, no_collection_is}
+use Rattle.ocl_types.proofs.TypeLaws.{both_true}
+use Rattle.ocl_types.proofs.LayerLaws.{is_collection, no_collection_is}
 use Rattle.ocl_types.proofs.ConformanceLaws.{top_related}
 
 -- ---- arguments
-
--- each of the types is this one
-abbrev pub AreAll : Ty → List Ty → Type 0
-AreAll wanted [] = Unit {0}
-AreAll wanted (ty ∷ tys) = (ty ≡ wanted) × AreAll wanted tys
 
 none_given : {X : Type 0} (xs : List X) → length xs ≡ 0 → xs ≡ []
 none_given [] count = refl
@@ -61,7 +54,7 @@ two_given wanted (x ∷ xs) count all =
 -- ---- operations on single values
 
 -- it has a name in the language
-abbrev is_called : Operation → Bool
+abbrev pub is_called : Operation → Bool
 is_called singles.AsSingletonSet = false
 is_called operation = true
 
@@ -79,33 +72,22 @@ pub named_is_called : (name : List ℕ) (operation : Operation) → operation_na
 unfolding operation_named
 named_is_called name operation is = found_passes (λ o. bytes_eq name (operation_row o).name) is_called operations operation refl is
 
-is_int : (x : Ty) → same_type x types.Int ≡ true → x ≡ types.Int
-is_int x is = (same_is_one x types.Int).0 is
-
-is_str : (x : Ty) → same_type x types.Str ≡ true → x ≡ types.Str
-is_str x is = (same_is_one x types.Str).0 is
-
-is_bool : (x : Ty) → same_type x types.Bool ≡ true → x ≡ types.Bool
-is_bool x is = (same_is_one x types.Bool).0 is
-
 pub operation_gives : (operation : Operation) (x : Ty) (args : List Ty) → is_called operation ≡ true
-    → IsTrue (is_receiver (operation_row operation).receivers x) → length args ≡ parameter_count (operation_row operation).parameters
+    → IsReceiver (operation_row operation).receivers x → length args ≡ parameter_count (operation_row operation).parameters
     → AreAll (parameter_type (operation_row operation).parameters) args
     → OperationGives operation x args (result_type (operation_row operation).result x)
 unfolding operation_row
-operation_gives singles.Absolute x args named behind count all = (is_int x behind, none_given args count, refl)
-operation_gives singles.Divide x args named behind count all = (is_int x behind, one_given types.Int args count all, refl)
-operation_gives singles.Modulo x args named behind count all = (is_int x behind, one_given types.Int args count all, refl)
-operation_gives singles.Maximum x args named behind count all = (is_int x behind, one_given types.Int args count all, refl)
-operation_gives singles.Minimum x args named behind count all = (is_int x behind, one_given types.Int args count all, refl)
-operation_gives singles.ToString x args named behind count all = elim (or_cases (same_type x types.Int) (same_type x types.Bool) behind) [
-  | inl int ↦ inl (is_int x int, none_given args count, refl)
-  | inr bool ↦ inr (is_bool x bool, none_given args count, refl)
-]
-operation_gives singles.Length x args named behind count all = (is_str x behind, none_given args count, refl)
-operation_gives singles.Concatenate x args named behind count all = (is_str x behind, one_given types.Str args count all, refl)
-operation_gives singles.ToInteger x args named behind count all = (is_str x behind, none_given args count, refl)
-operation_gives singles.Substring x args named behind count all = (is_str x behind, two_given types.Int args count all, refl)
+operation_gives singles.Absolute x args named behind count all = (behind, none_given args count, refl)
+operation_gives singles.Divide x args named behind count all = (behind, one_given types.Int args count all, refl)
+operation_gives singles.Modulo x args named behind count all = (behind, one_given types.Int args count all, refl)
+operation_gives singles.Maximum x args named behind count all = (behind, one_given types.Int args count all, refl)
+operation_gives singles.Minimum x args named behind count all = (behind, one_given types.Int args count all, refl)
+operation_gives singles.ToString x args named (inl int) count all = inl (int, none_given args count, refl)
+operation_gives singles.ToString x args named (inr bool) count all = inr (bool, none_given args count, refl)
+operation_gives singles.Length x args named behind count all = (behind, none_given args count, refl)
+operation_gives singles.Concatenate x args named behind count all = (behind, one_given types.Str args count all, refl)
+operation_gives singles.ToInteger x args named behind count all = (behind, none_given args count, refl)
+operation_gives singles.Substring x args named behind count all = (behind, two_given types.Int args count all, refl)
 operation_gives singles.IsUndefined x args named behind count all = (none_given args count, refl)
 operation_gives singles.IsInvalid x args named behind count all = (none_given args count, refl)
 operation_gives singles.AsSingletonSet x args named behind count all = absurd (false≢true named)
@@ -118,38 +100,11 @@ tested_alike classes.IsTypeOf c = refl
 tested_alike classes.IsKindOf c = refl
 tested_alike classes.AsType c = refl
 
-pub class_operation_gives : (metas : List MetaDesc) (operation : ClassOperation) (c : ℕ × ClassId) (x : Ty) → IsClassIn metas c.0 c.1 → IsTrue (is_of_meta c.0 (class_of x))
+pub class_operation_gives : (metas : List MetaDesc) (operation : ClassOperation) (c : ℕ × ClassId) (x : Ty) → IsClassIn metas c.0 c.1 → IsObjectOf c.0 x
     → ClassOperationGives metas operation c.1 x (tested (class_row operation).result c)
-class_operation_gives metas operation c x has behind = by (class_of x) refl behind
-  where
-    by : (o : Option (ℕ × ClassId)) → class_of x ≡ o → is_of_meta c.0 o ≡ true → ClassOperationGives metas operation c.1 x (tested (class_row operation).result c)
-    by None at is = absurd (false≢true is)
-    by (Some own) at is = record {
-      m = c.0;
-      own = own.1;
-      is = is_class x own at ∙ ap (λ m. types.Class m own.1) (eqb-true own.0 c.0 is);
-      has = has;
-      gives = tested_alike operation c;
-    }
+class_operation_gives metas operation c x has behind = record { m = c.0; own = behind.0; is = behind.1; has = has; gives = tested_alike operation c }
 
 -- ---- operations on collections
-
--- `sum` stands behind Integers
-abbrev pub IsSummed : CollectionOperation → Ty → Type 0
-IsSummed collections.Sum of = of ≡ types.Int
-IsSummed operation of = Unit {0}
-
-ordered_is : (kind : Kind) → is_ordered kind ≡ true → IsOrdered kind
-ordered_is kinds.Set is = absurd (false≢true is)
-ordered_is kinds.Bag is = absurd (false≢true is)
-ordered_is kinds.Sequence is = tt
-ordered_is kinds.OrderedSet is = tt
-
-set_is : (kind : Kind) → is_set kind ≡ true → kind ≡ kinds.Set
-set_is kinds.Set is = refl
-set_is kinds.Bag is = absurd (false≢true is)
-set_is kinds.Sequence is = absurd (false≢true is)
-set_is kinds.OrderedSet is = absurd (false≢true is)
 
 module _ (metas : List MetaDesc) (kind : Kind) (of : Ty) where
   nothing_given : (args : List Ty) → length args ≡ 0 → args ≡ []
@@ -176,7 +131,7 @@ module _ (metas : List MetaDesc) (kind : Kind) (of : Ty) where
   joins_collection : (u : Ty) (args : List Ty) → SameKind u args → laws.JoinsCollection metas kind of args (types.Coll kind u)
   joins_collection u args g = record { element = g.0; is = g.1; top = u; joined = g.2; result = refl }
 
-  pub collection_gives : (operation : CollectionOperation) (args : List Ty) (u : Ty) → IsTrue (is_of_kind (collection_row operation).kinds kind)
+  pub collection_gives : (operation : CollectionOperation) (args : List Ty) (u : Ty) → IsOfKind (collection_row operation).kinds kind
       → length args ≡ argument_count (collection_row operation).argument → IsSummed operation of
       → GivenConforms metas (collection_row operation).argument kind of args u
       → CollectionGives metas operation kind of args (collection_result (collection_row operation).result kind of u)
@@ -193,16 +148,16 @@ module _ (metas : List MetaDesc) (kind : Kind) (of : Ty) where
   collection_gives collections.Including args u behind count summed is = joins_element u args is
   collection_gives collections.Excluding args u behind count summed is = with_element (types.Coll kind of) u args is
   collection_gives collections.Union args u behind count summed is = joins_collection u args is
-  collection_gives collections.Intersection args u behind count summed is = (set_is kind behind, joins_collection u args is)
+  collection_gives collections.Intersection args u behind count summed is = (behind, joins_collection u args is)
   collection_gives collections.AsSet args u behind count summed is = (nothing_given args count, refl)
   collection_gives collections.AsBag args u behind count summed is = (nothing_given args count, refl)
   collection_gives collections.AsSequence args u behind count summed is = (nothing_given args count, refl)
   collection_gives collections.AsOrderedSet args u behind count summed is = (nothing_given args count, refl)
-  collection_gives collections.First args u behind count summed is = (ordered_is kind behind, (nothing_given args count, refl))
-  collection_gives collections.Last args u behind count summed is = (ordered_is kind behind, (nothing_given args count, refl))
-  collection_gives collections.At args u behind count summed is = (ordered_is kind behind, is.0, refl)
-  collection_gives collections.Append args u behind count summed is = (ordered_is kind behind, joins_element u args is)
-  collection_gives collections.Prepend args u behind count summed is = (ordered_is kind behind, joins_element u args is)
+  collection_gives collections.First args u behind count summed is = (behind, (nothing_given args count, refl))
+  collection_gives collections.Last args u behind count summed is = (behind, (nothing_given args count, refl))
+  collection_gives collections.At args u behind count summed is = (behind, is.0, refl)
+  collection_gives collections.Append args u behind count summed is = (behind, joins_element u args is)
+  collection_gives collections.Prepend args u behind count summed is = (behind, joins_element u args is)
 
 -- ---- iterators
 

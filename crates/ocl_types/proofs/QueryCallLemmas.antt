@@ -1,29 +1,30 @@
 -- A query on a cycle of calls is one of those that were typed: those before them call none.
 use Rattle.std.proofs.Common.{◌≡◌, ◌<◌, ◌≤◌, ℕ, ◌+◌, ◌-◌, List, [], ◌∷◌, ◌++◌, Option, None, Some, Result, Ok, Err, map, length, get_or, refl, sym, ◌∙◌, ap, subst, arith, inl, inr, length-append, take, append_assoc}
 use Rattle.std.specs.Prelude.{replicate, MatchOption, IfOk}
+use Rattle.std.specs.List.{concat}
 use Rattle.std.proofs.lemmas.Bool.{cases_lt}
 use Rattle.std.proofs.lemmas.List.{get_or_append_left, get_or_past, get_or-replicate, length-replicate, length-map, take_more, map-append, append-nil}
-use Rattle.std.proofs.lemmas.Grind.{flat_map-append}
+use Rattle.std.proofs.lemmas.List.Folds.{concat-append}
 use Rattle.std.proofs.lemmas.Option.{slice_get_read}
 use Rattle.call_graph.specs.Graphs.{Graph, neighbours, Leads, IsOnCycle}
 use Rattle.qv_syntax.specs.declared.query.Query.{Query}
 use Rattle.ocl_types.specs.declared.fault.TypeFault.TheVariants.{QueryCycle}
-use Rattle.ocl_types.specs.QueryCalls.{joined, called_by, rows_of, HasNameAt, IsCycleFault}
+use Rattle.ocl_types.specs.QueryCalls.{called_by, rows_of, HasNameAt, IsCycleFault}
 
 -- the calls of one more
-pub joined_more : {X : Type 0} (f : X → List ℕ) (xs : List X) (i : ℕ) (x : X) → i < length xs → x ≡ get_or xs i x
-    → joined (map f (take (i + 1) xs)) ≡ joined (map f (take i xs)) ++ f x
-joined_more f xs i x within is =
-    ap (λ ys. joined (map f ys)) (take_more xs i x within ∙ ap (λ y. take i xs ++ y ∷ []) (sym is))
-    ∙ ap joined (map-append f (take i xs) (x ∷ []))
-    ∙ flat_map-append (λ row. row) (map f (take i xs)) (f x ∷ [])
-    ∙ ap (λ ys. joined (map f (take i xs)) ++ ys) (append-nil (f x))
+pub concat_more : {X : Type 0} (f : X → List ℕ) (xs : List X) (i : ℕ) (x : X) → i < length xs → x ≡ get_or xs i x
+    → concat (map f (take (i + 1) xs)) ≡ concat (map f (take i xs)) ++ f x
+concat_more f xs i x within is =
+    ap (λ ys. concat (map f ys)) (take_more xs i x within ∙ ap (λ y. take i xs ++ y ∷ []) (sym is))
+    ∙ ap concat (map-append f (take i xs) (x ∷ []))
+    ∙ concat-append (map f (take i xs)) (f x ∷ [])
+    ∙ ap (λ ys. concat (map f (take i xs)) ++ ys) (append-nil (f x))
 
 -- the same behind others
 pub calls_more : {X : Type 0} (f : X → List ℕ) (xs : List X) (i : ℕ) (x : X) (first before after : List ℕ) → i < length xs → x ≡ get_or xs i x
-    → before ≡ first ++ joined (map f (take i xs)) → after ≡ before ++ f x → after ≡ first ++ joined (map f (take (i + 1) xs))
+    → before ≡ first ++ concat (map f (take i xs)) → after ≡ before ++ f x → after ≡ first ++ concat (map f (take (i + 1) xs))
 calls_more f xs i x first before after within is so_far more =
-    more ∙ ap (λ ys. ys ++ f x) so_far ∙ append_assoc first (joined (map f (take i xs))) (f x) ∙ ap (λ ys. first ++ ys) (sym (joined_more f xs i x within is))
+    more ∙ ap (λ ys. ys ++ f x) so_far ∙ append_assoc first (concat (map f (take i xs))) (f x) ∙ ap (λ ys. first ++ ys) (sym (concat_more f xs i x within is))
 
 leads_on : (g : Graph) (u : ℕ) → IsOnCycle g u → (v : ℕ) × Leads g u v
 leads_on g u ([], path) = (u, path)

@@ -40,7 +40,7 @@ use Rattle.ocl_types.specs.Environments.{no_meta, meta_at, is_over, is_over_step
 use Rattle.ocl_types.proofs.TypeLaws.{and_true}
 use Rattle.ocl_types.proofs.ConformanceLaws.{first_in, nothing_in, in_two, in_either, one_more}
 
-true_lt : (a b : ℕ) → a < b → nat_lt a b ≡ true
+pub true_lt : (a b : ℕ) → a < b → nat_lt a b ≡ true
 true_lt a b below = grind (arith, nat_tests)
 
 module _ (metas : List MetaDesc) where
@@ -144,7 +144,7 @@ module _ (metas : List MetaDesc) where
   either_over : (a b t : Ty) → IsOver a → IsOver b → IsTopOf metas (a ∷ b ∷ []) t → IsOver t
   either_over a b t one other top = top_over (a ∷ b ∷ []) t (in_two IsOver a b one other) top
 
-  operated_over : (operator : Operator) (a b t : Ty) → Operated metas operator a b t → IsOver t
+  pub operated_over : (operator : Operator) (a b t : Ty) → Operated metas operator a b t → IsOver t
   operated_over operators.Implies a b t is = subst IsOver (sym is.2) over_bool
   operated_over operators.Xor a b t is = subst IsOver (sym is.2) over_bool
   operated_over operators.Or a b t is = subst IsOver (sym is.2) over_bool

@@ -9,7 +9,8 @@ use Rattle.ocl_types.specs.Environments.{Environment}
 use Rattle.ocl_types.specs.Outcomes.{and_then}
 use Rattle.ocl_types.specs.Scopes.{Reach, in_reach}
 use Rattle.ocl_types.specs.TypingScopes.{flat, declared_type, free_name, let_type}
-use Rattle.ocl_types.specs.Written.{written, written_step, Gives}
+use Rattle.mof_metamodel.specs.Giving.{Gives}
+use Rattle.ocl_types.specs.Written.{fault_in, written, written_step}
 
 written_layer : (scope : Reach) (layer : of.TypeTree-F (Result Ty TypeFault)) → written_step scope.outer layer ≡ written_step (in_reach scope) layer
 written_layer scope (of.Str span) = refl
@@ -26,6 +27,6 @@ declared_reach scope tree = ap (λ o. and_then o (flat scope.outer.metas)) (writ
 
 -- what is declared after a free name
 pub let_given : (r : Result Ty TypeError) (env : Environment) (scope : Reach) (name : List ℕ) (tree : TypeTree) → env ≡ scope.outer
-    → free_name (in_reach scope) name ≡ Ok tt → Gives r (declared_type env tree) → Gives r (let_type (in_reach scope) name tree)
+    → free_name (in_reach scope) name ≡ Ok tt → Gives fault_in (λ x. x) r (declared_type env tree) → Gives fault_in (λ x. x) r (let_type (in_reach scope) name tree)
 let_given r env scope name tree is free given =
-    subst (Gives r) (ap (λ e. declared_type e tree) is ∙ declared_reach scope tree ∙ ap (λ o. and_then o (λ u. declared_type (in_reach scope) tree)) (sym free)) given
+    subst (Gives fault_in (λ x. x) r) (ap (λ e. declared_type e tree) is ∙ declared_reach scope tree ∙ ap (λ o. and_then o (λ u. declared_type (in_reach scope) tree)) (sym free)) given

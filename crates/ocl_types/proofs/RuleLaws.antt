@@ -1,5 +1,5 @@
 -- Each rule that is computed decides what is judged by it.
-use Rattle.std.proofs.Common.{◌≡◌, ℕ, Bool, true, false, List, [], ◌∷◌, Option, None, Some, Ok, length, if◌then◌else◌, refl, sym, subst, true≢false, eq-eqb}
+use Rattle.std.proofs.Common.{◌≡◌, ℕ, Bool, true, false, List, [], ◌∷◌, Option, None, Some, Ok, length, if◌then◌else◌, refl, sym, ap, ◌∙◌, subst, ◌≢◌, ⊎_elim, inl, inr, true≢false, eq-eqb}
 use Rattle.std.specs.Prelude.{IsTrue, ◌↔◌, ◌==◌, not, codes, encode_utf8_all}
 use Rattle.std.proofs.lemmas.Bool.{eqb-true, false≢true}
 use Rattle.mof_metamodel.specs.declared.desc.MetaDesc.{MetaDesc}
@@ -25,7 +25,8 @@ use Rattle.ocl_types.specs.declared.variable.Signature.{Signature}
 use Rattle.ocl_types.specs.Environments.{Environment, AreWell, is_over, is_bound, number_of, value_of, only_model, class_of}
 use Rattle.ocl_types.specs.Naming.{names_of, joined_names, path_text, kind_text}
 use Rattle.ocl_types.specs.Classifiers.{named_literal, named_class}
-use Rattle.ocl_types.specs.Conformance.{TypeConforms}
+use Rattle.qv_syntax.specs.Types.{ConformsTo}
+use Rattle.qv_syntax.specs.TypeRules.{AreComparable, Operated}
 use Rattle.ocl_types.specs.Operations.{operation_row, collection_row, iterator_row, operation_named, class_operation_named, collection_operation_named, iterator_named}
 use Rattle.ocl_types.specs.Signatures.{is_receiver, parameter_count, parameter_type, argument_count, is_of_kind}
 use Rattle.ocl_types.specs.Outcomes.{RuleResult, and_then, asking, wrong_type}
@@ -36,22 +37,22 @@ use Rattle.ocl_types.specs.TypingOperators as ops
 use Rattle.ocl_types.specs.TypingOperators.{exactly, are_comparable, operated, added, branches, literal_type, link_rule, not_rule, negated_rule, if_rule, literal_rule}
 use Rattle.ocl_types.specs.TypingSteps.{property_of, navigated_to, collected_from, property_by, property_rule, each_exactly, operation_by, operation_rule, class_or, is_of_meta, class_operation_by, class_operation_rule, tested_with, model_or, extent_part, extent_rule, each_fits, query_by, query_rule}
 use Rattle.ocl_types.specs.TypingCollections.{kind_of, element_of, given_types, summed, collection_operation_by, collection_operation_rule, variable_type, iterator_variable, condition, iterator_by, iterator_rule}
-use Rattle.ocl_types.specs.Judged.{Judged, gives, asks, finds, both}
+use Rattle.ocl_types.specs.Judged.{Judged, gives, both}
 use Rattle.ocl_types.specs.TypeRules
-use Rattle.ocl_types.specs.TypeRules.{part_models, one_model_judged, branches_judged, elements_judged, declared_judged, given_judged, being, conforming, variable_judged, literal_judged, names_judged, sides, added_judged, operator_judged, linked_judged, not_judged, negated_judged, if_judged, collection_judged, let_judged, bound_judged, arguments_judged, query_judged, extent_judged, property_judged_by, property_judged, exact_judged, operation_judged, class_operation_judged, summed_judged, collection_operation_judged, variable_type_judged, iterator_variable_judged, condition_judged, iterator_judged}
+use Rattle.ocl_types.specs.TypeRules.{IsMisadded, compared_judged, HasPropertyNamed, part_models, one_model_judged, branches_judged, elements_judged, declared_judged, given_judged, being, conforming, variable_judged, literal_judged, names_judged, sides, added_judged, operator_judged, linked_judged, not_judged, negated_judged, if_judged, collection_judged, let_judged, bound_judged, arguments_judged, query_judged, extent_judged, property_judged_by, property_judged, exact_judged, operation_judged, class_operation_judged, summed_judged, collection_operation_judged, variable_type_judged, iterator_variable_judged, condition_judged, iterator_judged}
 use Rattle.ocl_types.proofs.TypeLaws.{same_is_one}
-use Rattle.ocl_types.proofs.UpperLaws.{fits_exactly}
+use Rattle.ocl_types.proofs.ConformanceLaws.{first_in, later_in}
+use Rattle.ocl_types.proofs.NumberLaws.{property_is, property_where}
+use Rattle.ocl_types.proofs.NameLaws.{named_decides}
+use Rattle.ocl_types.proofs.DemandLaws.{conforming_is, comparing_is, receiver_is, kind_is, object_is, known_decides}
 use Rattle.ocl_types.proofs.WrittenLaws.{declared_decides}
 use Rattle.ocl_types.specs.TypedContext.{AreOver}
 use Rattle.ocl_types.proofs.RelationLaws.{branches_decide, elements_decide, given_decides, two_models_decide, models_decide, element_models_decide}
-use Rattle.ocl_types.proofs.JudgedLaws.{Decides, gives_decides, asks_decides, asked_decides, asked_where, finds_decides, taking_decides, both_decides, two_decide, pair, regrouped}
+use Rattle.ocl_types.proofs.JudgedLaws.{Decides, gives_decides, says_decides, asks_decides, asked_decides, asked_where, finds_decides, taking_decides, both_decides, two_decide, pair, regrouped}
 
 -- ---- demands
 
-itself : (b : Bool) → IsTrue b ↔ IsTrue b
-itself b = (λ h. h, λ h. h)
-
-free_is : (b : Bool) → IsTrue (not b) ↔ (b ≡ false)
+pub free_is : (b : Bool) → IsTrue (not b) ↔ (b ≡ false)
 free_is true = (λ h. absurd (false≢true h), λ h. absurd (true≢false h))
 free_is false = (λ h. refl, λ h. refl)
 
@@ -67,18 +68,15 @@ pub being_decides : {X : Type 0} (metas : List MetaDesc) (wanted found : Ty) (r 
     → Decides (and_then (exactly metas wanted found) (λ u. r)) (being metas wanted found j)
 being_decides metas wanted found r j d = asked_decides (same_type found wanted) (found ≡ wanted) (wrong_type metas wanted found) r j (same_is_one found wanted) d
 
-pub conforming_decides : {X : Type 0} (metas : List MetaDesc) (well : AreWell metas) (wanted found : Ty) (r : RuleResult X) (j : Judged X) → Decides r j
+pub conforming_decides : {X : Type 0} (metas : List MetaDesc) (well : AreWell metas) (wanted found : Ty) (r : RuleResult X) (j : Judged X) → is_over metas found ≡ true → Decides r j
     → Decides (asking (fits metas found wanted) (wrong_type metas wanted found) r) (conforming metas wanted found j)
-conforming_decides metas well wanted found r j d =
-    asks_decides (fits metas found wanted) (TypeConforms metas found wanted) (wrong_type metas wanted found) r j (fits_exactly metas well found wanted) d
+conforming_decides metas well wanted found r j over d =
+    asks_decides (fits metas found wanted) (ConformsTo metas found wanted) (wrong_type metas wanted found) r j (conforming_is metas well found wanted over) d
 
 -- ---- names
 
 variable_decides : (env : Environment) (name : List ℕ) → Decides (variable_by name (number_of env.variables name) (value_of env.variables name)) (variable_judged env name)
-variable_decides env name =
-    finds_decides (number_of env.variables name) (UnknownName name) (λ o. variable_by name o (value_of env.variables name))
-    (λ number. finds (value_of env.variables name) (UnknownName name) (λ v. gives _)) refl
-    (λ number. finds_decides (value_of env.variables name) (UnknownName name) (λ o. variable_by name (Some number) o) (λ v. gives _) refl (λ v. gives_decides _))
+variable_decides env name = named_decides env.variables name (variable_by name) _ (λ n. refl) (λ o. refl) (λ v. gives_decides _)
 
 literal_decides : (env : Environment) (names : List (List ℕ)) → Decides (literal_by names (named_literal env names)) (literal_judged env names)
 literal_decides env names = finds_decides (named_literal env names) (UnknownName (joined_names names)) (λ o. literal_by names o) (λ l. gives _) refl (λ l. gives_decides _)
@@ -97,33 +95,59 @@ path_decides env path = names_decide env (names_of path)
 sides_decide : (metas : List MetaDesc) (wanted a b to : Ty) → Decides (ops.both metas wanted a b to) (sides metas wanted a b to)
 sides_decide metas wanted a b to = being_decides metas wanted a _ _ (being_decides metas wanted b (Ok to) (gives to) (gives_decides to))
 
-added_decides : (metas : List MetaDesc) (a b : Ty) (is : Bool)
-    → Decides (if is then ops.both metas types.Str a b types.Str else ops.both metas types.Int a b types.Int) (added_judged metas a b is)
-added_decides metas a b true = sides_decide metas types.Str a b types.Str
-added_decides metas a b false = sides_decide metas types.Int a b types.Int
+is_string : Ty → Bool
+is_string types.Str = true
+is_string ty = false
 
-compared_decides : (metas : List MetaDesc) (a b : Ty) → Decides (ops.compared metas a b) (asks (IsTrue (are_comparable metas a b)) (wrong_type metas a b) (gives types.Bool))
-compared_decides metas a b = asks_decides (are_comparable metas a b) _ (wrong_type metas a b) (Ok types.Bool) (gives types.Bool) (itself (are_comparable metas a b)) (gives_decides types.Bool)
+integer_is_no_string : types.Int ≡ types.Str → ⊥
+unfolding is_string
+integer_is_no_string same = false≢true (ap is_string same)
 
-operator_decides : (metas : List MetaDesc) (operator : Operator) (a b : Ty) → Decides (operated metas operator a b) (operator_judged metas operator a b)
-operator_decides metas operators.Implies a b = sides_decide metas types.Bool a b types.Bool
-operator_decides metas operators.Xor a b = sides_decide metas types.Bool a b types.Bool
-operator_decides metas operators.Or a b = sides_decide metas types.Bool a b types.Bool
-operator_decides metas operators.And a b = sides_decide metas types.Bool a b types.Bool
-operator_decides metas operators.Equal a b = compared_decides metas a b
-operator_decides metas operators.NotEqual a b = compared_decides metas a b
-operator_decides metas operators.Less a b = sides_decide metas types.Int a b types.Bool
-operator_decides metas operators.Greater a b = sides_decide metas types.Int a b types.Bool
-operator_decides metas operators.AtMost a b = sides_decide metas types.Int a b types.Bool
-operator_decides metas operators.AtLeast a b = sides_decide metas types.Int a b types.Bool
-operator_decides metas operators.Plus a b = added_decides metas a b (same_type a types.Str)
-operator_decides metas operators.Minus a b = sides_decide metas types.Int a b types.Int
-operator_decides metas operators.Times a b = sides_decide metas types.Int a b types.Int
+added_decides : (metas : List MetaDesc) (a b : Ty) → Decides (added metas a b) (added_judged metas a b)
+added_decides metas a b = by (same_type a types.Str) refl
+  where
+    by : (is : Bool) → same_type a types.Str ≡ is
+        → Decides (if is then ops.both metas types.Str a b types.Str else ops.both metas types.Int a b types.Int) (added_judged metas a b)
+    by true at =
+        let str : a ≡ types.Str = (same_is_one a types.Str).0 at in
+        let d = sides_decide metas types.Str a b types.Str in
+        says_decides (ops.both metas types.Str a b types.Str) (Operated metas operators.Plus a b) (IsMisadded metas a b)
+        (λ t is. let both = d.told t is in inr (both.0, both.1.0, both.1.1))
+        (λ t has. d.only t (⊎_elim (λ ints. absurd (integer_is_no_string (sym ints.0 ∙ str))) (λ strings. (strings.0, (strings.1, strings.2))) has))
+        (λ f is. ⊎_elim (λ one. absurd (one.0 str)) (λ more. ⊎_elim (λ other. inl (str, other)) (λ none. absurd none) more) (d.fault f is))
+    by false at =
+        let other_than : a ≢ types.Str = λ same. false≢true (sym at ∙ (same_is_one a types.Str).1 same) in
+        let d = sides_decide metas types.Int a b types.Int in
+        says_decides (ops.both metas types.Int a b types.Int) (Operated metas operators.Plus a b) (IsMisadded metas a b)
+        (λ t is. let both = d.told t is in inl (both.0, both.1.0, both.1.1))
+        (λ t has. d.only t (⊎_elim (λ ints. (ints.0, (ints.1, ints.2))) (λ strings. absurd (other_than strings.0)) has))
+        (λ f is. ⊎_elim (λ one. inr (other_than, inl one)) (λ more. ⊎_elim (λ other. inr (other_than, inr other)) (λ none. absurd none) more) (d.fault f is))
 
-pub link_decides : (metas : List MetaDesc) (c : Chained) (operator : Operator) (right : TypedPart) → Decides (link_rule metas c operator right) (linked_judged metas c operator right)
+compared_decides : (metas : List MetaDesc) (well : AreWell metas) (a b : Ty) → is_over metas a ≡ true → is_over metas b ≡ true → Decides (ops.compared metas a b) (compared_judged metas a b)
+compared_decides metas well a b one other =
+    asks_decides (are_comparable metas a b) (AreComparable metas a b) (wrong_type metas a b) (Ok types.Bool) (gives types.Bool) (comparing_is metas well a b one other) (gives_decides types.Bool)
+
+operator_decides : (metas : List MetaDesc) (well : AreWell metas) (operator : Operator) (a b : Ty) → is_over metas a ≡ true → is_over metas b ≡ true
+    → Decides (operated metas operator a b) (operator_judged metas operator a b)
+operator_decides metas well operators.Implies a b one other = sides_decide metas types.Bool a b types.Bool
+operator_decides metas well operators.Xor a b one other = sides_decide metas types.Bool a b types.Bool
+operator_decides metas well operators.Or a b one other = sides_decide metas types.Bool a b types.Bool
+operator_decides metas well operators.And a b one other = sides_decide metas types.Bool a b types.Bool
+operator_decides metas well operators.Equal a b one other = compared_decides metas well a b one other
+operator_decides metas well operators.NotEqual a b one other = compared_decides metas well a b one other
+operator_decides metas well operators.Less a b one other = sides_decide metas types.Int a b types.Bool
+operator_decides metas well operators.Greater a b one other = sides_decide metas types.Int a b types.Bool
+operator_decides metas well operators.AtMost a b one other = sides_decide metas types.Int a b types.Bool
+operator_decides metas well operators.AtLeast a b one other = sides_decide metas types.Int a b types.Bool
+operator_decides metas well operators.Plus a b one other = added_decides metas a b
+operator_decides metas well operators.Minus a b one other = sides_decide metas types.Int a b types.Int
+operator_decides metas well operators.Times a b one other = sides_decide metas types.Int a b types.Int
+
+pub link_decides : (metas : List MetaDesc) (well : AreWell metas) (c : Chained) (operator : Operator) (right : TypedPart) → is_over metas c.ty ≡ true → is_over metas right.ty ≡ true
+    → Decides (link_rule metas c operator right) (linked_judged metas c operator right)
 unfolding link_rule
-link_decides metas c operator right =
-    taking_decides (operated metas operator c.ty right.ty) _ (operator_judged metas operator c.ty right.ty) _ (operator_decides metas operator c.ty right.ty) (λ ty h. gives_decides _)
+link_decides metas well c operator right one other =
+    taking_decides (operated metas operator c.ty right.ty) _ (operator_judged metas operator c.ty right.ty) _ (operator_decides metas well operator c.ty right.ty one other) (λ ty h. gives_decides _)
 
 pub not_decides : (metas : List MetaDesc) (p : TypedPart) → Decides (not_rule metas p) (not_judged metas p)
 unfolding not_rule
@@ -165,28 +189,28 @@ free_decides env name r j d = asked_decides (not (is_bound env name)) (is_bound 
 pub let_decides : (env : Environment) (name : List ℕ) (tree : TypeTree) → Decides (let_type env name tree) (let_judged env name tree)
 let_decides env name tree = free_decides env name (declared_type env tree) _ (declared_decides env tree)
 
-pub bound_decides : (metas : List MetaDesc) (well : AreWell metas) (ty : Ty) (value : TypedPart) → Decides (let_variable metas ty value) (bound_judged metas ty value)
+pub bound_decides : (metas : List MetaDesc) (well : AreWell metas) (ty : Ty) (value : TypedPart) → is_over metas value.ty ≡ true → Decides (let_variable metas ty value) (bound_judged metas ty value)
 unfolding let_variable
-bound_decides metas well ty value = conforming_decides metas well ty value.ty _ _ (gives_decides _)
+bound_decides metas well ty value over = conforming_decides metas well ty value.ty _ _ over (gives_decides _)
 
 -- ---- queries
 
-arguments_decide : (metas : List MetaDesc) (well : AreWell metas) (params : List Ty) (args : List TypedPart) (r : RuleResult TypedPart) (j : Judged TypedPart) → Decides r j
+arguments_decide : (metas : List MetaDesc) (well : AreWell metas) (params : List Ty) (args : List TypedPart) (r : RuleResult TypedPart) (j : Judged TypedPart) → AreOver metas (types_of args) → Decides r j
     → Decides (and_then (each_fits metas params args) (λ (u : Unit {0}). r)) (arguments_judged metas params args j)
-arguments_decide metas well [] args r j d = d
-arguments_decide metas well (ty ∷ more) [] r j d = d
-arguments_decide metas well (ty ∷ more) (p ∷ ps) r j d =
+arguments_decide metas well [] args r j over d = d
+arguments_decide metas well (ty ∷ more) [] r j over d = d
+arguments_decide metas well (ty ∷ more) (p ∷ ps) r j over d =
     subst (λ q. Decides q (arguments_judged metas (ty ∷ more) (p ∷ ps) j))
     (sym (asking_then (fits metas p.ty ty) (wrong_type metas ty p.ty) (each_fits metas more ps) (λ (u : Unit {0}). r)))
-    (conforming_decides metas well ty p.ty _ _ (arguments_decide metas well more ps r j d))
+    (conforming_decides metas well ty p.ty _ _ (over p.ty (first_in p.ty p.ty (types_of ps) refl))
+    (arguments_decide metas well more ps r j (λ t among. over t (later_in p.ty t (types_of ps) among)) d))
 
-pub query_decides : (env : Environment) (well : AreWell env.metas) (name : List ℕ) (args : List TypedPart) → Decides (query_rule env name args) (query_judged env name args)
+pub query_decides : (env : Environment) (well : AreWell env.metas) (name : List ℕ) (args : List TypedPart) → AreOver env.metas (types_of args) → Decides (query_rule env name args) (query_judged env name args)
 unfolding query_rule
-query_decides env well name args =
-    finds_decides (number_of env.queries name) (UnknownName name) (λ o. query_by env.metas name args o (value_of env.queries name)) _ refl
-    (λ number. finds_decides (value_of env.queries name) (UnknownName name) (λ o. query_by env.metas name args (Some number) o) _ refl
-    (λ (signature : Signature). asked_decides (length args == length signature.params) _ (WrongCount name) _ _ (count_is (length args) (length signature.params))
-    (arguments_decide env.metas well signature.params args _ _ (gives_decides _))))
+query_decides env well name args over =
+    named_decides env.queries name (query_by env.metas name args) _ (λ n. refl) (λ o. refl)
+    (λ (q : ℕ × Signature). asked_decides (length args == length q.1.params) _ (WrongCount name) _ _ (count_is (length args) (length q.1.params))
+    (arguments_decide env.metas well q.1.params args _ _ over (gives_decides _)))
 
 -- ---- extents
 
@@ -200,14 +224,17 @@ extent_decides env path =
 
 -- ---- properties
 
-property_decides_by : (metas : List MetaDesc) (name : List ℕ) (c : CallsSoFar) (o : Option (Kind × Ty)) → Decides (property_by metas name c o) (property_judged_by metas name c o)
-property_decides_by metas name c None = finds_decides (property_of metas c.ty name) (UnknownName name) (λ o. navigated_to name c o) _ refl (λ p. gives_decides _)
-property_decides_by metas name c (Some parts) =
-    finds_decides (property_of metas parts.1 name) (UnknownName name) (λ o. collected_from name c parts.0 o) _ refl (λ p. gives_decides _)
+property_decides_by : (metas : List MetaDesc) (well : AreWell metas) (name : List ℕ) (c : CallsSoFar) (o : Option (Kind × Ty)) → Decides (property_by metas name c o) (property_judged_by metas name c o)
+property_decides_by metas well name c None =
+    known_decides (property_of metas c.ty name) (HasPropertyNamed metas c.ty name) (UnknownName name) (λ o. navigated_to name c o) _ (property_is metas c.ty name) (property_where metas well c.ty name) refl
+    (λ p has. gives_decides _)
+property_decides_by metas well name c (Some parts) =
+    known_decides (property_of metas parts.1 name) (HasPropertyNamed metas parts.1 name) (UnknownName name) (λ o. collected_from name c parts.0 o) _ (property_is metas parts.1 name) (property_where metas well parts.1 name) refl
+    (λ p has. gives_decides _)
 
-pub property_decides : (metas : List MetaDesc) (name : List ℕ) (c : CallsSoFar) → Decides (property_rule metas name c) (property_judged metas name c)
+pub property_decides : (metas : List MetaDesc) (well : AreWell metas) (name : List ℕ) (c : CallsSoFar) → Decides (property_rule metas name c) (property_judged metas name c)
 unfolding property_rule
-property_decides metas name c = property_decides_by metas name c (collection_parts c.ty)
+property_decides metas well name c = property_decides_by metas well name c (collection_parts c.ty)
 
 -- ---- operations on single values
 
@@ -222,7 +249,7 @@ pub operation_decides : (metas : List MetaDesc) (name : List ℕ) (c : CallsSoFa
 unfolding operation_rule
 operation_decides metas name c args =
     finds_decides (operation_named (encode_utf8_all name)) (UnknownName name) (λ o. operation_by metas name c args o) _ refl
-    (λ (operation : Operation). asks_decides (is_receiver (operation_row operation).receivers c.ty) _ (UnknownName name) _ _ (itself (is_receiver (operation_row operation).receivers c.ty))
+    (λ (operation : Operation). asks_decides (is_receiver (operation_row operation).receivers c.ty) _ (UnknownName name) _ _ (receiver_is (operation_row operation).receivers c.ty)
     (asked_decides (length args == parameter_count (operation_row operation).parameters) _ (WrongCount name) _ _ (count_is (length args) (parameter_count (operation_row operation).parameters))
     (exact_decides metas (parameter_type (operation_row operation).parameters) args _ _ (gives_decides _))))
 
@@ -231,7 +258,7 @@ unfolding class_operation_rule
 class_operation_decides env name path c =
     finds_decides (class_operation_named (encode_utf8_all name)) (UnknownName name) (λ o. class_operation_by env name path c o) _ refl
     (λ (operation : ClassOperation). finds_decides (named_class env (names_of path)) (UnknownName (path_text path)) (λ o. and_then (class_or path o) (tested_with env.metas c operation)) _ refl
-    (λ (class : ℕ × ClassId). asks_decides (is_of_meta class.0 (class_of c.ty)) _ (wrong_type env.metas (types.Class class.0 class.1) c.ty) _ _ (itself (is_of_meta class.0 (class_of c.ty)))
+    (λ (class : ℕ × ClassId). asks_decides (is_of_meta class.0 (class_of c.ty)) _ (wrong_type env.metas (types.Class class.0 class.1) c.ty) _ _ (object_is class.0 c.ty)
     (gives_decides _)))
 
 -- ---- operations on collections
@@ -251,7 +278,7 @@ collection_operation_decides metas well name c args elements over =
     let argument = (collection_row operation).argument in
     let r = given_types metas argument (kind_of c.ty) (element_of c.ty) args in
     let s = one_model name (with_models c.model args) in
-    asks_decides (is_of_kind (collection_row operation).kinds (kind_of c.ty)) _ (UnknownName name) _ _ (itself (is_of_kind (collection_row operation).kinds (kind_of c.ty)))
+    asks_decides (is_of_kind (collection_row operation).kinds (kind_of c.ty)) _ (UnknownName name) _ _ (kind_is (collection_row operation).kinds (kind_of c.ty))
     (asked_where (length args == argument_count argument) _ (WrongCount name) _ _ (count_is (length args) (argument_count argument))
     (λ counted. summed_decides metas operation (element_of c.ty) _ _
     (two_decide r s _ (given_judged metas argument (kind_of c.ty) (element_of c.ty) (types_of args)) (one_model_judged name (c.model ∷ part_models args)) _
@@ -259,17 +286,17 @@ collection_operation_decides metas well name c args elements over =
 
 -- ---- iterators
 
-variable_type_decides : (env : Environment) (well : AreWell env.metas) (tree : Option TypeTree) (ty : Ty) → Decides (variable_type env tree ty) (variable_type_judged env tree ty)
-variable_type_decides env well None ty = gives_decides ty
-variable_type_decides env well (Some tree) ty =
+variable_type_decides : (env : Environment) (well : AreWell env.metas) (tree : Option TypeTree) (ty : Ty) → is_over env.metas ty ≡ true → Decides (variable_type env tree ty) (variable_type_judged env tree ty)
+variable_type_decides env well None ty over = gives_decides ty
+variable_type_decides env well (Some tree) ty over =
     taking_decides (declared_type env tree) _ (declared_judged env tree) _ (declared_decides env tree)
-    (λ (t : Ty) h. conforming_decides env.metas well t ty _ _ (gives_decides _))
+    (λ (t : Ty) h. conforming_decides env.metas well t ty _ _ over (gives_decides _))
 
-pub iterator_variable_decides : (env : Environment) (well : AreWell env.metas) (name : List ℕ) (tree : Option TypeTree) (c : CallsSoFar)
+pub iterator_variable_decides : (env : Environment) (well : AreWell env.metas) (name : List ℕ) (tree : Option TypeTree) (c : CallsSoFar) → is_over env.metas (element_of c.ty) ≡ true
     → Decides (iterator_variable env name tree c) (iterator_variable_judged env name tree c)
 unfolding iterator_variable
-iterator_variable_decides env well name tree c = free_decides env name _ _
-    (taking_decides (variable_type env tree (element_of c.ty)) _ (variable_type_judged env tree (element_of c.ty)) _ (variable_type_decides env well tree (element_of c.ty))
+iterator_variable_decides env well name tree c over = free_decides env name _ _
+    (taking_decides (variable_type env tree (element_of c.ty)) _ (variable_type_judged env tree (element_of c.ty)) _ (variable_type_decides env well tree (element_of c.ty) over)
     (λ ty h. gives_decides _))
 
 condition_decides : (metas : List MetaDesc) (conditional : Bool) (ty : Ty) (r : RuleResult CallsSoFar) (j : Judged CallsSoFar) → Decides r j

@@ -84,7 +84,7 @@ module _ (metas : List MetaDesc) where
     pub one_type : (a b : Ty) → is_over metas a ≡ true → is_over metas b ≡ true → ConformsTo metas a b → ConformsTo metas b a → a ≡ b
     one_type a b one other there back = one_class a b (to_conforms a b one there) (to_conforms b a other back)
 
-    fits_where : (a b : Ty) → is_over metas a ≡ true → ConformsTo metas a b → fits metas a b ≡ true
+    pub fits_where : (a b : Ty) → is_over metas a ≡ true → ConformsTo metas a b → fits metas a b ≡ true
     fits_where a b over is = (fits_exactly metas well a b).1 (to_conforms a b over is)
 
     -- ---- a type to which several conform

@@ -21,7 +21,8 @@ use Rattle.qv_syntax.specs.declared.typed.Values.{Values}
 use Rattle.qv_syntax.specs.declared.typed.Values.TheVariants as values
 use Rattle.qv_syntax.specs.declared.typed.TypedPostfix.{TypedPostfix}
 use Rattle.qv_syntax.specs.Types.{ConformsTo, IsOneModel}
-use Rattle.qv_syntax.specs.TypeRules.{OperationGives, CollectionGives}
+use Rattle.mof_metamodel.specs.declared.desc.PropId.{PropId}
+use Rattle.qv_syntax.specs.TypeRules.{HasProperty, OperationGives, CollectionGives}
 use Rattle.qv_syntax.specs.TypedTrees as trees
 use Rattle.qv_syntax.specs.TypedTrees.{Typing, objects_of, IsElementVariable, given_model, IsTyped, AreTyped, AreCalled, IsCalled}
 use Rattle.ocl_types.specs.declared.part.TypedPart.{TypedPart}
@@ -37,18 +38,18 @@ use Rattle.ocl_types.specs.Judged.{Judged}
 use Rattle.ocl_types.specs.Operations.{operation_row, class_row, collection_row, iterator_row, operation_named, class_operation_named, collection_operation_named, iterator_named}
 use Rattle.ocl_types.specs.Signatures.{result_type, collection_result, collected_kind}
 use Rattle.ocl_types.specs.Typing.{called_whole}
-use Rattle.ocl_types.specs.TypingSteps.{property_of, tested}
+use Rattle.ocl_types.specs.TypingSteps.{tested}
 use Rattle.ocl_types.specs.TypingCollections as checked
 use Rattle.ocl_types.specs.TypingCollections.{kind_by, element_by, kind_of, element_of, gathered_by, gathered, called_on, iterated_type}
 use Rattle.ocl_types.specs.TypeRules.{property_judged_by, property_judged, exact_judged, operation_judged, class_operation_judged, summed_judged, collection_operation_judged, variable_type_judged, iterator_variable_judged, condition_judged, iterator_judged}
 use Rattle.ocl_types.specs.TypedContext.{context_of, variables_of, typing_of}
 use Rattle.ocl_types.proofs.LayerLaws.{is_collection, no_collection_is, objects_of_collection, kept_again, kept_alike}
-use Rattle.ocl_types.proofs.ConformanceLaws.{conforms_to, alike}
+use Rattle.ocl_types.proofs.ConformanceLaws.{alike}
 use Rattle.ocl_types.proofs.ClassifierLaws.{class_there}
 use Rattle.ocl_types.proofs.WrittenLaws.{declared_written}
-use Rattle.ocl_types.proofs.OperationLaws.{AreAll, IsSummed, named_is_called, operation_gives, class_operation_gives, collection_gives, iterator_gives}
+use Rattle.ocl_types.specs.OperationRows.{AreAll, IsSummed}
+use Rattle.ocl_types.proofs.OperationLaws.{named_is_called, operation_gives, class_operation_gives, collection_gives, iterator_gives}
 use Rattle.ocl_types.proofs.RelationLaws.{models_alike}
-use Rattle.ocl_types.proofs.NumberLaws.{property_is}
 use Rattle.ocl_types.proofs.RangeLaws.{elements_of, written_over, call_over}
 use Rattle.ocl_types.proofs.TypedParts.{part_over, IsReady, IsPart, AreParts, typing_so_far, IsCalledOn, typed_with, count_of, finds_has}
 use Rattle.ocl_types.proofs.TypedForms.{same_types}
@@ -133,22 +134,24 @@ property_typed env ready name first c d on is = by (collection_parts c.ty) refl 
   where
     by : (o : Option (Kind × Ty)) → collection_parts c.ty ≡ o → (property_judged_by env.metas name c o).has d → IsCalledOn env first d
     by None at is =
-        let p = finds_has (property_of env.metas c.ty name) _ _ d is in
-        let same : model_for (navigated p.0.1 p.0.2) c.model ≡ model_for p.0.2 c.model = same_kept (navigated p.0.1 p.0.2) p.0.2 c.model (navigated_alike p.0.1 p.0.2) in
-        let call : Call = calls.Property p.0.0 p.0.1 in
-        subst (IsCalledOn env first) (sym p.2) (called_more env ready first c call (navigated p.0.1 p.0.2) (model_for p.0.2 c.model) on
-        (subst (λ m. IsCalled (context_of env) (variables_of env) (typing_so_far c) call (record { ty = navigated p.0.1 p.0.2; model = m })) same
-        (IsCalled.property (variables_of env) (typing_so_far c) p.0.0 p.0.1 p.0.2 (property_is env.metas c.ty name p.0 p.1)))
-        (kept_alike p.0.2 (navigated p.0.1 p.0.2) (model_for p.0.2 c.model) (sym (navigated_alike p.0.1 p.0.2)) (kept_again p.0.2 c.model)))
+        let p : PropId × Values × Ty = is.0 in
+        let has : HasProperty env.metas c.ty p.0 p.1 p.2 = is.1.property in
+        let same : model_for (navigated p.1 p.2) c.model ≡ model_for p.2 c.model = same_kept (navigated p.1 p.2) p.2 c.model (navigated_alike p.1 p.2) in
+        let call : Call = calls.Property p.0 p.1 in
+        subst (IsCalledOn env first) (sym is.2) (called_more env ready first c call (navigated p.1 p.2) (model_for p.2 c.model) on
+        (subst (λ m. IsCalled (context_of env) (variables_of env) (typing_so_far c) call (record { ty = navigated p.1 p.2; model = m })) same
+        (IsCalled.property (variables_of env) (typing_so_far c) p.0 p.1 p.2 has))
+        (kept_alike p.2 (navigated p.1 p.2) (model_for p.2 c.model) (sym (navigated_alike p.1 p.2)) (kept_again p.2 c.model)))
     by (Some parts) at is =
-        let p = finds_has (property_of env.metas parts.1 name) _ _ d is in
-        let whole : Ty = types.Coll (collected_kind parts.0) p.0.2 in
-        let like : has_objects whole ≡ has_objects p.0.2 = objects_of_collection (collected_kind parts.0) p.0.2 in
-        let call : Call = calls.CollectProperty p.0.0 p.0.1 in
-        subst (IsCalledOn env first) (sym p.2) (called_more env ready first c call whole (model_for p.0.2 c.model) on
-        (subst (λ m. IsCalled (context_of env) (variables_of env) (typing_so_far c) call (record { ty = whole; model = m })) (same_kept whole p.0.2 c.model like)
-        (IsCalled.collect_property (variables_of env) (typing_so_far c) parts.0 parts.1 p.0.0 p.0.1 p.0.2 (is_collection c.ty parts at) (property_is env.metas parts.1 name p.0 p.1)))
-        (kept_alike p.0.2 whole (model_for p.0.2 c.model) (sym like) (kept_again p.0.2 c.model)))
+        let p : PropId × Values × Ty = is.0 in
+        let has : HasProperty env.metas parts.1 p.0 p.1 p.2 = is.1.property in
+        let whole : Ty = types.Coll (collected_kind parts.0) p.2 in
+        let like : has_objects whole ≡ has_objects p.2 = objects_of_collection (collected_kind parts.0) p.2 in
+        let call : Call = calls.CollectProperty p.0 p.1 in
+        subst (IsCalledOn env first) (sym is.2) (called_more env ready first c call whole (model_for p.2 c.model) on
+        (subst (λ m. IsCalled (context_of env) (variables_of env) (typing_so_far c) call (record { ty = whole; model = m })) (same_kept whole p.2 c.model like)
+        (IsCalled.collect_property (variables_of env) (typing_so_far c) parts.0 parts.1 p.0 p.1 p.2 (is_collection c.ty parts at) has))
+        (kept_alike p.2 whole (model_for p.2 c.model) (sym like) (kept_again p.2 c.model)))
 
 -- ---- operations on single values
 
@@ -219,7 +222,7 @@ variable_is : (env : Environment) (tree : Option TypeTree) (of ty : Ty) → (var
 variable_is env None of ty is = (inl is, ap has_objects (sym is))
 variable_is env (Some tree) of ty is =
     let t : Ty = is.0 in
-    let conforms : ConformsTo env.metas of t = conforms_to env.metas of t is.2.0 in
+    let conforms : ConformsTo env.metas of t = is.2.0 in
     subst (λ s. IsElementVariable env.metas of s × (has_objects of ≡ has_objects s)) (sym is.2.1)
     (inr (declared_written env tree t is.1, conforms), alike env.metas of t conforms)
 

@@ -1,6 +1,6 @@
 -- What operators, `if`, collection literals, `let`, queries and extents make of typed parts is typed (OCL 2.4, chapters 7, 8 and 11).
 use Rattle.std.proofs.Common.{◌≡◌, ℕ, Bool, true, false, List, [], ◌∷◌, Option, None, Some, map, length, refl, sym, ap, ◌∙◌, subst, ◌⊎◌, inl, inr, append_assoc, append-nil, arith, if◌then◌else◌}
-use Rattle.std.specs.Prelude.{IsTrue, slice_get, Contains}
+use Rattle.std.specs.Prelude.{IsTrue, Contains}
 use Rattle.mof_metamodel.specs.declared.desc.MetaDesc.{MetaDesc}
 use Rattle.mof_metamodel.proofs.TableLemmas.{map-map}
 use Rattle.qv_syntax.specs.declared.name.Path.{Path}
@@ -21,24 +21,24 @@ use Rattle.ocl_types.specs.declared.part.TypedPart.{TypedPart}
 use Rattle.ocl_types.specs.declared.part.Chained.{Chained}
 use Rattle.ocl_types.specs.declared.variable.Variable.{Variable}
 use Rattle.ocl_types.specs.declared.variable.Signature.{Signature}
-use Rattle.ocl_types.specs.Environments.{is_over, Environment, AreWell, number_of, value_of, with_variable, only_model}
+use Rattle.ocl_types.specs.Environments.{is_over, Environment, with_variable, only_model}
 use Rattle.ocl_types.specs.Naming.{names_of}
 use Rattle.ocl_types.specs.Classifiers.{named_class}
-use Rattle.ocl_types.specs.Agreement.{same_type, has_objects, model_for}
+use Rattle.ocl_types.specs.Agreement.{has_objects, model_for}
 use Rattle.ocl_types.specs.Parts.{tree_of, trees_of, types_of}
 use Rattle.ocl_types.specs.Judged.{Judged}
 use Rattle.ocl_types.specs.TypingScopes.{let_part}
 use Rattle.ocl_types.specs.TypingOperators.{unchained, chain_part}
-use Rattle.ocl_types.specs.TypeRules.{operator_judged, added_judged, linked_judged, not_judged, negated_judged, if_judged, collection_judged, let_judged, bound_judged, arguments_judged, query_judged, extent_judged}
+use Rattle.ocl_types.specs.TypeRules.{operator_judged, linked_judged, not_judged, negated_judged, if_judged, collection_judged, let_judged, bound_judged, arguments_judged, query_judged, extent_judged}
 use Rattle.ocl_types.specs.TypedContext.{AreOver, context_of, variables_of, typing_of, query_type}
 use Rattle.ocl_types.proofs.LayerLaws.{objects_of_class, objects_of_collection, objects_of_null, kept_again, none_kept, kept_alike}
-use Rattle.ocl_types.proofs.ConformanceLaws.{first_in, later_in, nothing_in, in_either, conforms_to, alike, comparable_are}
+use Rattle.ocl_types.proofs.ConformanceLaws.{first_in, later_in, nothing_in, in_either, alike}
 use Rattle.ocl_types.proofs.ClassifierLaws.{class_there}
 use Rattle.ocl_types.proofs.WrittenLaws.{declared_written}
-use Rattle.ocl_types.proofs.RangeLaws.{written_over, each_over}
+use Rattle.ocl_types.proofs.RangeLaws.{written_over, each_over, operated_over}
 use Rattle.ocl_types.proofs.RelationLaws.{models_alike}
-use Rattle.ocl_types.proofs.NumberLaws.{named_there, mapped_there, only_model_is}
-use Rattle.ocl_types.proofs.TypedParts.{IsReady, IsPart, AllKept, AreParts, IsLinkedTo, typed_with, count_of, finds_has}
+use Rattle.ocl_types.proofs.NumberLaws.{mapped_there, only_model_is}
+use Rattle.ocl_types.proofs.TypedParts.{IsReady, IsPart, AllKept, AreParts, IsLinkedTo, part_over, typed_with, count_of, finds_has}
 
 -- ---- lists of parts
 
@@ -58,40 +58,38 @@ parts_over env ready ps parts = subst (AreOver env.metas) (same_types ps)
 
 -- ---- operators
 
-operator_gives : (metas : List MetaDesc) (well : AreWell metas) (operator : Operator) (a b t : Ty) → (operator_judged metas operator a b).has t → Operated metas operator a b t
-operator_gives metas well operators.Implies a b t is = (is.0, is.1.0, is.1.1)
-operator_gives metas well operators.Xor a b t is = (is.0, is.1.0, is.1.1)
-operator_gives metas well operators.Or a b t is = (is.0, is.1.0, is.1.1)
-operator_gives metas well operators.And a b t is = (is.0, is.1.0, is.1.1)
-operator_gives metas well operators.Equal a b t is = (comparable_are metas well a b is.0, is.1)
-operator_gives metas well operators.NotEqual a b t is = (comparable_are metas well a b is.0, is.1)
-operator_gives metas well operators.Less a b t is = (is.0, is.1.0, is.1.1)
-operator_gives metas well operators.Greater a b t is = (is.0, is.1.0, is.1.1)
-operator_gives metas well operators.AtMost a b t is = (is.0, is.1.0, is.1.1)
-operator_gives metas well operators.AtLeast a b t is = (is.0, is.1.0, is.1.1)
-operator_gives metas well operators.Plus a b t is = by (same_type a types.Str) is
-  where
-    by : (str : Bool) → (added_judged metas a b str).has t → Operated metas operators.Plus a b t
-    by true is = inr (is.0, is.1.0, is.1.1)
-    by false is = inl (is.0, is.1.0, is.1.1)
-operator_gives metas well operators.Minus a b t is = (is.0, is.1.0, is.1.1)
-operator_gives metas well operators.Times a b t is = (is.0, is.1.0, is.1.1)
+operator_gives : (metas : List MetaDesc) (operator : Operator) (a b t : Ty) → (operator_judged metas operator a b).has t → Operated metas operator a b t
+operator_gives metas operators.Implies a b t is = (is.0, is.1.0, is.1.1)
+operator_gives metas operators.Xor a b t is = (is.0, is.1.0, is.1.1)
+operator_gives metas operators.Or a b t is = (is.0, is.1.0, is.1.1)
+operator_gives metas operators.And a b t is = (is.0, is.1.0, is.1.1)
+operator_gives metas operators.Equal a b t is = is
+operator_gives metas operators.NotEqual a b t is = is
+operator_gives metas operators.Less a b t is = (is.0, is.1.0, is.1.1)
+operator_gives metas operators.Greater a b t is = (is.0, is.1.0, is.1.1)
+operator_gives metas operators.AtMost a b t is = (is.0, is.1.0, is.1.1)
+operator_gives metas operators.AtLeast a b t is = (is.0, is.1.0, is.1.1)
+operator_gives metas operators.Plus a b t is = is
+operator_gives metas operators.Minus a b t is = (is.0, is.1.0, is.1.1)
+operator_gives metas operators.Times a b t is = (is.0, is.1.0, is.1.1)
 
 -- nothing is linked yet
-pub unlinked : (env : Environment) (p : TypedPart) → IsLinkedTo env p.ty (unchained p)
-unlinked env p = record { extends = λ rest last more. more }
+pub unlinked : (env : Environment) (ready : IsReady env) (p : TypedPart) → IsPart env p → IsLinkedTo env p.ty (unchained p)
+unlinked env ready p part = record { extends = λ rest last more. more; over = part_over env ready p part }
 
 -- one operator more, and the part behind it
 pub linked_typed : (env : Environment) (ready : IsReady env) (first : Ty) (c d : Chained) (operator : Operator) (right : TypedPart)
     → IsLinkedTo env first c → IsPart env right → (linked_judged env.metas c operator right).has d → IsLinkedTo env first d
 linked_typed env ready first c d operator right before part is =
     let t : Ty = is.0 in
+    let goes : Operated env.metas operator c.ty right.ty t = operator_gives env.metas operator c.ty right.ty t is.1 in
     let link : TypedInfix = record { operator = operator; right = tree_of right; ty = t } in
     subst (IsLinkedTo env first) (sym is.2) (record {
       extends = λ rest last more.
           let behind : IsChained (context_of env) (variables_of env) c.ty (link ∷ rest) last =
-          IsChained.operator (variables_of env) c.ty operator (tree_of right) (typing_of right) t rest last part.typed (operator_gives env.metas ready.well operator c.ty right.ty t is.1) more in
+          IsChained.operator (variables_of env) c.ty operator (tree_of right) (typing_of right) t rest last part.typed goes more in
           subst (λ links. IsChained (context_of env) (variables_of env) first links last) (sym (append_assoc c.links (link ∷ []) rest)) (before.extends (link ∷ rest) last behind);
+      over = operated_over env.metas operator c.ty right.ty t goes;
     })
 
 pub chain_typed : (env : Environment) (p : TypedPart) (c : Chained) → IsPart env p → IsLinkedTo env p.ty c → IsPart env (chain_part p c)
@@ -187,7 +185,7 @@ collection_typed env ready kind ps q parts is =
 
 pub bound_kept : (env : Environment) (ty : Ty) (value : TypedPart) (v : Variable) → IsPart env value → (bound_judged env.metas ty value).has v → model_for v.ty v.model ≡ v.model
 bound_kept env ty value v part is = subst (λ (w : Variable). model_for w.ty w.model ≡ w.model) (sym is.1)
-    (kept_alike value.ty ty value.model (alike env.metas value.ty ty (conforms_to env.metas value.ty ty is.0)) part.kept)
+    (kept_alike value.ty ty value.model (alike env.metas value.ty ty is.0) part.kept)
 
 pub bound_over : (env : Environment) (name : List ℕ) (tree : TypeTree) (ty : Ty) (value : TypedPart) (v : Variable) → (let_judged env name tree).has ty → (bound_judged env.metas ty value).has v → IsTrue (is_over env.metas v.ty)
 bound_over env name tree ty value v named is = subst (λ (w : Variable). is_over env.metas w.ty ≡ true) (sym is.1) (written_over env.metas ty (declared_written env tree ty named.1))
@@ -198,7 +196,7 @@ unfolding let_part
 let_typed env name tree ty value body v named part bound inside = record {
   typed = subst (λ n. IsTyped (context_of env) (variables_of env) (record { ty = body.ty; node = nodes.Let n (tree_of value) (tree_of body) }) (typing_of body)) (count_of env)
       (IsTyped.let_in (variables_of env) ty (tree_of value) (tree_of body) (typing_of value) (typing_of body) (declared_written env tree ty named.1) part.typed
-      (conforms_to env.metas value.ty ty bound.0)
+      bound.0
       (subst (λ (w : Variable). IsTyped (context_of env) (trees.with_variable (variables_of env) (record { ty = w.ty; model = w.model })) (tree_of body) (typing_of body)) bound.1
       (typed_with env name v body inside)));
   kept = inside.kept;
@@ -213,20 +211,16 @@ arguments_conform metas [] (p ∷ ps) j q count is = absurd (omega (arith, count
 arguments_conform metas (ty ∷ more) [] j q count is = absurd (omega (arith, count))
 arguments_conform metas (ty ∷ more) (p ∷ ps) j q count is =
     let rest = arguments_conform metas more ps j q (omega (arith, count)) is.1 in
-    ((conforms_to metas p.ty ty is.0, rest.0), rest.1)
+    ((is.0, rest.0), rest.1)
 
 pub query_typed : (env : Environment) (name : List ℕ) (args : List TypedPart) (q : TypedPart) → AreParts env args → (query_judged env name args).has q → IsPart env q
 query_typed env name args q parts is =
-    let n = finds_has (number_of env.queries name) _ _ q is in
-    let s = finds_has (value_of env.queries name) _ _ q n.2 in
-    let e = named_there env.queries name n.0 s.0 n.1 s.1 in
-    let a = arguments_conform env.metas s.0.params args _ q s.2.0 s.2.1 in
-    let there : slice_get (map query_type env.queries) n.0 ≡ Some (record { params = s.0.params; result = s.0.result }) =
-    mapped_there query_type env.queries n.0 e.0 e.1 ∙ ap (λ (g : Signature). Some (record { params = g.params; result = g.result })) e.2 in
+    let s : Signature = is.0.1 in
+    let a = arguments_conform env.metas s.params args _ q is.2.0 is.2.1 in
     subst (IsPart env) (sym a.1) (record {
-      typed = IsTyped.query (variables_of env) n.0 (trees_of args) (map typing_of args) (record { params = s.0.params; result = s.0.result }) there parts.typed
-          (subst (λ tys. AllConform env.metas tys s.0.params) (sym (same_types args)) a.0);
-      kept = none_kept s.0.result;
+      typed = IsTyped.query (variables_of env) is.0.0 (trees_of args) (map typing_of args) (record { params = s.params; result = s.result })
+          (mapped_there query_type env.queries is.0.0 (name, s) is.1.there) parts.typed (subst (λ tys. AllConform env.metas tys s.params) (sym (same_types args)) a.0);
+      kept = none_kept s.result;
     })
 
 -- ---- extents

@@ -21,7 +21,7 @@ use Rattle.ocl_types.specs.declared.part.CallsSoFar.{CallsSoFar}
 use Rattle.ocl_types.specs.declared.part.Chained.{Chained}
 use Rattle.ocl_types.specs.declared.variable.Variable.{Variable}
 use Rattle.ocl_types.specs.declared.variable.Signature.{Signature}
-use Rattle.ocl_types.specs.Environments.{Environment, AreWell, IsInOrder, is_over, is_flat, are_types, is_query, class_of, is_type, slot_at, is_object_type, is_variable, number_of, value_of, with_variable}
+use Rattle.ocl_types.specs.Environments.{Environment, AreWell, IsInOrder, is_over, is_flat, are_types, is_query, class_of, is_type, slot_at, is_object_type, is_variable, with_variable}
 use Rattle.ocl_types.specs.Classifiers.{named_literal}
 use Rattle.ocl_types.specs.Outcomes.{RuleResult}
 use Rattle.ocl_types.specs.Agreement.{has_objects, model_for}
@@ -35,7 +35,7 @@ use Rattle.ocl_types.proofs.RangeLaws.{AllOver, over_with, typed_over}
 use Rattle.ocl_types.proofs.LayerLaws.{is_class, objects_of_class, none_kept}
 use Rattle.ocl_types.proofs.ConformanceLaws.{one_more}
 use Rattle.ocl_types.proofs.ClassifierLaws.{literal_is_there}
-use Rattle.ocl_types.proofs.NumberLaws.{named_there, mapped_there}
+use Rattle.ocl_types.proofs.NumberLaws.{mapped_there}
 
 -- ---- what is shown of environments and of parts
 
@@ -76,6 +76,7 @@ pub record IsCalledOn (env : Environment) (first : Typing) (c : CallsSoFar) : Ty
 pub record IsLinkedTo (env : Environment) (first : Ty) (c : Chained) : Type 0 where
   pub extends : (rest : List TypedInfix) (last : Ty) → IsChained (context_of env) (variables_of env) c.ty rest last
       → IsChained (context_of env) (variables_of env) first (c.links ++ rest) last
+  pub over : IsTrue (is_over env.metas c.ty)
 
 -- ---- environments in order are ready
 
@@ -200,15 +201,11 @@ invalid_part env = record { typed = IsTyped.invalid (variables_of env); kept = n
 
 variable_typed : (env : Environment) (ready : IsReady env) (name : List ℕ) (p : TypedPart) → (variable_judged env name).has p → IsPart env p
 variable_typed env ready name p is =
-    let n = finds_has (number_of env.variables name) _ _ p is in
-    let v = finds_has (value_of env.variables name) _ _ p n.2 in
-    let e = named_there env.variables name n.0 v.0 n.1 v.1 in
-    let part : Variable → TypedPart = λ w. record { ty = w.ty; model = w.model; node = nodes.Variable n.0 } in
-    let made : IsPart env (part e.0.1) = record {
-      typed = IsTyped.variable (variables_of env) n.0 (variable_typing e.0) (mapped_there variable_typing env.variables n.0 e.0 e.1);
-      kept = ready.kept e.0 n.0 e.1;
-    } in
-    subst (IsPart env) (ap part e.2 ∙ sym v.2) made
+    let found : ℕ × Variable = is.0 in
+    subst (IsPart env) (sym is.2) (record {
+      typed = IsTyped.variable (variables_of env) found.0 (variable_typing (name, found.1)) (mapped_there variable_typing env.variables found.0 (name, found.1) is.1.there);
+      kept = ready.kept (name, found.1) found.0 is.1.there;
+    })
 
 literal_typed : (env : Environment) (names : List (List ℕ)) (p : TypedPart) → (literal_judged env names).has p → IsPart env p
 literal_typed env names p is =

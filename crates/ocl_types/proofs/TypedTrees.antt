@@ -15,6 +15,7 @@ use Rattle.ocl_types.specs.declared.part.Chained.{Chained}
 use Rattle.ocl_types.specs.Environments.{Environment, IsInOrder, is_over}
 use Rattle.ocl_types.specs.Naming.{texts_of}
 use Rattle.ocl_types.specs.Parts.{uncalled}
+use Rattle.ocl_types.specs.TypingOperators.{unchained}
 use Rattle.ocl_types.specs.Typing.{path_of_extent}
 use Rattle.ocl_types.specs.Judged.{Judged, gives, taking, both}
 use Rattle.ocl_types.specs.TypeRules.{linked_judged}
@@ -70,21 +71,31 @@ module _ (env : Environment) (ready : IsReady env) where
   each_typed (v ∷ vs) ps is =
       subst (AreParts env) (sym is.2) (part_more env is.0.0 is.0.1 (v.1 env ready is.0.0 is.1.0) (each_typed vs is.0.1 is.1.1))
 
-  abbrev State : Type 0
+  abbrev pub State : Type 0
   State = TypedPart × Chained
 
-  abbrev IsState : State → Type 0
+  abbrev pub IsState : State → Type 0
   IsState s = IsPart env s.0 × IsLinkedTo env s.0.ty s.1
 
+  -- one operator and the part behind it more
+  pub state_more : (l : LinkJudgment) → GivesParts l.right → (before : Judged State) → ((s : State) → before.has s → IsState s)
+      → (s : State) → (taking {Y = State} (both before (l.right env)) (λ p. taking (linked_judged env.metas p.0.1 l.operator p.1) (λ c. gives (p.0.0, c)))).has s → IsState s
+  unfolding GivesParts
+  state_more l typed before holds s h =
+      let part = holds h.0.0 h.1.0 in
+      subst IsState (sym h.2.2) (part.0, linked_typed env ready h.0.0.0.ty h.0.0.1 h.2.0 l.operator h.0.1 part.1 (typed env ready h.0.1 h.1.1) h.2.1)
+
+  -- nothing but the first part
+  pub state_begun : (first : Environment → Judged TypedPart) → GivesParts first → (s : State) → (taking {Y = State} (first env) (λ p. gives (p, unchained p))).has s → IsState s
+  unfolding GivesParts
+  state_begun first typed s h = let part = typed env ready h.0 h.1 in subst IsState (sym h.2) (part, unlinked env ready h.0 part)
+
   links_typed : (vs : List HeldLink) (before : Judged State) → ((s : State) → before.has s → IsState s) → (s : State) → (linked link_judgment env before (map (λ v. v.0) vs)).has s → IsState s
-  unfolding linked TypedLink GivesParts
+  unfolding linked TypedLink
   links_typed [] before holds s is = holds s is
   links_typed (v ∷ vs) before holds s is =
       let l : LinkJudgment = link_judgment v.0 in
-      links_typed vs (taking (both before (l.right env)) (λ p. taking (linked_judged env.metas p.0.1 l.operator p.1) (λ c. gives (p.0.0, c))))
-      (λ s h.
-      let part = holds h.0.0 h.1.0 in
-      subst IsState (sym h.2.2) (part.0, linked_typed env ready h.0.0.0.ty h.0.0.1 h.2.0 l.operator h.0.1 part.1 (v.1 env ready h.0.1 h.1.1) h.2.1)) s is
+      links_typed vs (taking {Y = State} (both before (l.right env)) (λ p. taking (linked_judged env.metas p.0.1 l.operator p.1) (λ c. gives (p.0.0, c)))) (state_more l v.1 before holds) s is
 
   calls_typed : (vs : List HeldCall) (first : Typing) (c d : CallsSoFar) → IsCalledOn env first c → (called call_judgment env c (map (λ v. v.0) vs)).has d → IsCalledOn env first d
   unfolding called TypedCall GivesCalls
@@ -179,8 +190,7 @@ expr_layer (of.Let n ty value body span) = expr_held (of.Let n ty value.0 body.0
     subst (IsPart env) (sym h.2.2.2) (let_typed env n.text ty h.0.0 h.0.1 h.2.2.0 h.2.0 named part h.2.1 inside))
 expr_layer (of.Chain first rest span) = expr_held (of.Chain first.0 (map (λ v. v.0) rest) span)
     (λ env is p h.
-    let s = links_typed env is rest (taking ((judgment first.0).part env) (λ p. gives (p, _)))
-    (λ s g. subst (IsState env is) (sym g.2) (first.1 env is g.0 g.1, unlinked env g.0)) h.0 h.1 in
+    let s = links_typed env is rest (taking ((judgment first.0).part env) (λ p. gives (p, unchained p))) (state_begun env is (judgment first.0).part first.1) h.0 h.1 in
     subst (IsPart env) (sym h.2) (chain_typed env h.0.0 h.0.1 s.0 s.1))
 expr_layer (of.Not operand span) = expr_held (of.Not operand.0 span) (λ env is p h. not_typed env h.0 p (operand.1 env is h.0 h.1) h.2)
 expr_layer (of.Negated operand span) = expr_held (of.Negated operand.0 span) (λ env is p h. negated_typed env h.0 p (operand.1 env is h.0 h.1) h.2)
@@ -249,7 +259,16 @@ pub tree_typed : (env : Environment) → IsInOrder env → (e : Expr) (p : Typed
 unfolding TypedExpr GivesParts HasType
 tree_typed env order e p has = (all_typed e env (ready env order) p has).typed
 
+-- what an expression is, is a typed part
+pub tree_part : (env : Environment) → IsReady env → (e : Expr) (p : TypedPart) → ((judgment e).part env).has p → IsPart env p
+unfolding TypedExpr GivesParts
+tree_part env ready e p has = all_typed e env ready p has
+
+-- its type is one of the metamodels
+pub tree_over : (env : Environment) → IsReady env → (e : Expr) (p : TypedPart) → ((judgment e).part env).has p → IsTrue (is_over env.metas p.ty)
+tree_over env ready e p has = part_over env ready p (tree_part env ready e p has)
+
 -- and its type is one of the metamodels
 pub type_within : (env : Environment) → IsInOrder env → (e : Expr) (p : TypedPart) → HasType env e p → IsTrue (is_over env.metas p.ty)
-unfolding TypedExpr GivesParts HasType
-type_within env order e p has = part_over env (ready env order) p (all_typed e env (ready env order) p has)
+unfolding HasType
+type_within env order e p has = tree_over env (ready env order) e p has

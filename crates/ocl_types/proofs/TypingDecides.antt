@@ -36,7 +36,7 @@ use Rattle.ocl_types.proofs.JudgmentLaws.{State, expr_unrolled, link_unrolled, c
 use Rattle.ocl_types.proofs.TypedParts.{IsReady, IsPart, IsCalledOn, ready, ready_with, part_over}
 use Rattle.ocl_types.proofs.TypedForms.{parts_over, bound_kept, bound_over, extent_typed}
 use Rattle.ocl_types.proofs.TypedCalls.{uncalled_typed, element_over, iterator_variable_kept, iterator_variable_over}
-use Rattle.ocl_types.proofs.TypedTrees.{GivesParts, GivesCalls, GivesLists, each_parts, expr_rule_typed, call_rule_typed, args_rule_typed}
+use Rattle.ocl_types.proofs.TypedTrees.{GivesParts, GivesCalls, GivesLists, IsState, state_more, state_begun, each_parts, expr_rule_typed, call_rule_typed, args_rule_typed}
 
 -- ---- what is to be shown of each kind of tree
 
@@ -54,6 +54,7 @@ pub record IsExpr (m : Meaning) (j : Judgment) : Type 0 where
 pub record IsLink (o : Operated) (l : LinkJudgment) : Type 0 where
   pub operator : o.operator ≡ l.operator
   pub right : (env : Environment) → IsReady env → Decides (o.right env) (l.right env)
+  pub typed : GivesParts l.right
 
 -- the same of a call on what was called so far
 pub record IsComputedCall (c : Calling) (k : CallJudgment) : Type 0 where
@@ -98,13 +99,13 @@ parts_of env (typing ∷ more) = and_then (pair (typing env) (parts_of env more)
 behind : List TypedPart → RuleResult (List TypedPart) → RuleResult (List TypedPart)
 behind parts r = and_then r (λ ps. Ok (parts ++ ps))
 
-moved : (parts : List TypedPart) (r : RuleResult TypedPart) (s : RuleResult (List TypedPart))
+pub moved : {X : Type 0} (parts : List X) (r : RuleResult X) (s : RuleResult (List X))
     → and_then r (λ p. and_then s (λ ps. Ok ((parts ++ p ∷ []) ++ ps))) ≡ and_then (and_then (pair r s) (λ p. Ok (p.0 ∷ p.1))) (λ ps. Ok (parts ++ ps))
 moved parts (Ok p) (Ok ps) = ap (λ qs. Ok qs) (append_assoc parts (p ∷ []) ps)
 moved parts (Ok p) (Err f) = refl
 moved parts (Err f) s = refl
 
-then_same : {X Y : Type 0} (r : RuleResult X) (k l : X → RuleResult Y) → ((x : X) → k x ≡ l x) → and_then r k ≡ and_then r l
+pub then_same : {X Y : Type 0} (r : RuleResult X) (k l : X → RuleResult Y) → ((x : X) → k x ≡ l x) → and_then r k ≡ and_then r l
 then_same (Ok x) k l same = same x
 then_same (Err f) k l same = refl
 
@@ -171,10 +172,10 @@ ended env (Ok s) = refl
 ended env (Err f) = refl
 
 linked_decides : (env : Environment) (ready : IsReady env) (vs : List ((l : Infix) × LinkOf l)) (r : RuleResult State) (before : Judged State) → Decides r before
-    → Decides (onwards env (map operated_by (map (λ v. v.0) vs)) r) (linked link_judgment env before (map (λ v. v.0) vs))
-unfolding linked LinkOf
-linked_decides env ready [] r before d = subst (λ q. Decides q before) (sym (ended env r)) d
-linked_decides env ready (v ∷ vs) r before d =
+    → ((s : State) → before.has s → IsState env ready s) → Decides (onwards env (map operated_by (map (λ v. v.0) vs)) r) (linked link_judgment env before (map (λ v. v.0) vs))
+unfolding linked LinkOf GivesParts
+linked_decides env ready [] r before d holds = subst (λ q. Decides q before) (sym (ended env r)) d
+linked_decides env ready (v ∷ vs) r before d holds =
     let o : Operated = operated_by v.0 in
     let l : LinkJudgment = link_judgment v.0 in
     let ls : List Infix = map (λ v. v.0) vs in
@@ -186,9 +187,10 @@ linked_decides env ready (v ∷ vs) r before d =
     (λ p. taking (linked_judged env.metas p.0.1 l.operator p.1) (λ c. gives (p.0.0, c)))
     (both_decides r t before (l.right env) d (v.1.right env ready))
     (λ p h. taking_decides (link_rule env.metas p.0.1 o.operator p.1) (beside p.0.0) (linked_judged env.metas p.0.1 l.operator p.1) (λ c. gives (p.0.0, c))
-    (subst (λ q. Decides (link_rule env.metas p.0.1 o.operator p.1) (linked_judged env.metas p.0.1 q p.1)) v.1.operator (rules.link_decides env.metas p.0.1 o.operator p.1))
+    (subst (λ q. Decides (link_rule env.metas p.0.1 o.operator p.1) (linked_judged env.metas p.0.1 q p.1)) v.1.operator
+    (rules.link_decides env.metas ready.well p.0.1 o.operator p.1 (holds p.0 h.0).1.over (part_over env ready p.1 (v.1.typed env ready p.1 h.1))))
     (λ c k. gives_decides (p.0.0, c))) in
-    subst (λ q. Decides q (linked link_judgment env after ls)) (sym (stepped env r o (map operated_by ls))) (linked_decides env ready vs next after joined)
+    subst (λ q. Decides q (linked link_judgment env after ls)) (sym (stepped env r o (map operated_by ls))) (linked_decides env ready vs next after joined (state_more env ready l v.1.typed before holds))
 
 -- ---- calls
 
@@ -218,7 +220,7 @@ let_decides : (env : Environment) (ready : IsReady env) (n : Name) (ty : TypeTre
 unfolding GivesParts
 let_decides env ready n ty value body i j first second =
     two_decide (let_type env n.text ty) (value.typing env) _ (let_judged env n.text ty) (i.part env) _ (rules.let_decides env n.text ty) (first.part env ready)
-    (λ (t : Ty) (v : TypedPart) h k. taking_decides (let_variable env.metas t v) _ (bound_judged env.metas t v) _ (rules.bound_decides env.metas ready.well t v)
+    (λ (t : Ty) (v : TypedPart) h k. taking_decides (let_variable env.metas t v) _ (bound_judged env.metas t v) _ (rules.bound_decides env.metas ready.well t v (part_over env ready v (first.typed env ready v k)))
     (λ (variable : Variable) bound.
     let more = ready_with env n.text variable ready (bound_kept env t v variable (first.typed env ready v k) bound) (bound_over env n.text ty t v variable h bound) in
     taking_decides (body.typing (with_variable env n.text variable)) _ (j.part (with_variable env n.text variable)) _
@@ -248,7 +250,7 @@ chain_decides env ready first i vs is =
     let begun : Decides r j = taking_decides (first.typing env) started (i.part env) (λ p. gives (p, unchained p)) (is.part env ready) (λ p h. gives_decides (p, unchained p)) in
     subst (λ q. Decides q (taking (linked link_judgment env j (map (λ v. v.0) vs)) (λ c. gives (chain_part c.0 c.1)))) (chain_made env (first.typing env) ls)
     (taking_decides (onwards env ls r) (λ c. Ok (chain_part c.0 c.1)) (linked link_judgment env j (map (λ v. v.0) vs)) (λ c. gives (chain_part c.0 c.1))
-    (linked_decides env ready vs r j begun) (λ c h. gives_decides (chain_part c.0 c.1)))
+    (linked_decides env ready vs r j begun (state_begun env ready i.part is.typed)) (λ c h. gives_decides (chain_part c.0 c.1)))
 
 if_decides : (env : Environment) (ready : IsReady env) (a b c : Meaning) (i j k : Judgment) → IsExpr a i → IsExpr b j → IsExpr c k
     → Decides (if_typing env a.typing b.typing c.typing) (taking (both (i.part env) (both (j.part env) (k.part env))) (λ p. if_judged env.metas p.0 p.1.0 p.1.1))
@@ -285,8 +287,10 @@ calls_decide env ready part i (v ∷ vs) is =
 
 query_by_decides : (env : Environment) (ready : IsReady env) (name : List ℕ) (g : Given) (a : ArgsJudgment) → AreArgs g a → (o : Option Path)
     → Decides (query_by_class env name g.values o) (query_args env name a o)
+unfolding GivesLists
 query_by_decides env ready name g a is None =
-    taking_decides (parts_from env [] g.values) (query_rule env name) (a.parts env) (query_judged env name) (is.parts env ready) (λ ps h. rules.query_decides env ready.well name ps)
+    taking_decides (parts_from env [] g.values) (query_rule env name) (a.parts env) (query_judged env name) (is.parts env ready)
+    (λ ps h. rules.query_decides env ready.well name ps (parts_over env ready ps (is.typed env ready ps h)))
 query_by_decides env ready name g a is (Some path) = refuses_decides (UnknownName name)
 
 query_decides : (env : Environment) (ready : IsReady env) (name : List ℕ) (g : Given) (a : ArgsJudgment) → AreArgs g a → Decides (query_typing env name g) (query_args env name a a.class)
@@ -322,7 +326,7 @@ iterator_decides : (env : Environment) (ready : IsReady env) (first : trees.Typi
     → Decides (iterator_typing n.text variable.text tree body.typing env c)
     (taking (iterator_variable_judged env variable.text tree c) (λ v. taking (j.part (with_variable env variable.text v)) (λ b. iterator_judged env.metas n.text (length env.variables) c b)))
 iterator_decides env ready first c on n variable tree body j is =
-    taking_decides (iterator_variable env variable.text tree c) _ (iterator_variable_judged env variable.text tree c) _ (rules.iterator_variable_decides env ready.well variable.text tree c)
+    taking_decides (iterator_variable env variable.text tree c) _ (iterator_variable_judged env variable.text tree c) _ (rules.iterator_variable_decides env ready.well variable.text tree c (element_over env ready first c on))
     (λ (v : Variable) h. taking_decides (body.typing (with_variable env variable.text v)) (λ b. iterator_rule env.metas n.text (length env.variables) c b)
     (j.part (with_variable env variable.text v)) (λ b. iterator_judged env.metas n.text (length env.variables) c b)
     (is.part (with_variable env variable.text v)
@@ -405,7 +409,7 @@ args_formed (of.Class path) = args_told (of.Class path) (record { class = refl; 
 
 call_formed : (y : of.Postfix-F HeldArgs HeldExpr HeldCall HeldLink) → CallOf (roll-Postfix (trees_of_call y))
 unfolding ArgsOf ExprOf
-call_formed (of.Property n) = call_told (of.Property n) (record { is_extent = refl; after = λ env ready first c on. rules.property_decides env.metas n.text c })
+call_formed (of.Property n) = call_told (of.Property n) (record { is_extent = refl; after = λ env ready first c on. rules.property_decides env.metas ready.well n.text c })
 call_formed (of.Dot n a span) = call_told (of.Dot n a.0 span) (record {
   is_extent = ap (λ b. is_all_instances n.text && b) a.1.is_empty;
   after = λ env ready first c on. dot_decides env ready n.text c (given a.0) (args_judgment a.0) a.1;
@@ -466,7 +470,7 @@ expr_formed (of.Named path) = expr_told (of.Named path) (record { path = refl; p
 link_formed : (y : of.Infix-F HeldArgs HeldExpr HeldCall HeldLink) → LinkOf (roll-Infix (map-Infix HeldArgs HeldExpr HeldCall HeldLink Args Expr Postfix Infix (λ e. e.0) (λ e. e.0) (λ e. e.0) (λ e. e.0) y))
 unfolding ExprOf
 link_formed y = link_told (map-Infix HeldArgs HeldExpr HeldCall HeldLink Args Expr Postfix Infix (λ e. e.0) (λ e. e.0) (λ e. e.0) (λ e. e.0) y)
-    (record { operator = refl; right = λ env ready. y.right.1.part env ready })
+    (record { operator = refl; right = λ env ready. y.right.1.part env ready; typed = y.right.1.typed })
 
 -- each expression
 pub told : (e : Expr) → ExprOf e

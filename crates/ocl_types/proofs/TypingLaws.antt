@@ -13,6 +13,7 @@ use Rattle.qv_syntax.specs.declared.expr.Postfix.{Postfix}
 use Rattle.qv_syntax.specs.declared.expr.Args.{Args}
 use Rattle.qv_syntax.specs.declared.expr.Args.TheOpen as of
 use Rattle.qv_syntax.specs.declared.expr.Args.TheViews.{sized-Chain}
+use Rattle.ocl_types.specs.declared.fault.TypeFault.{TypeFault}
 use Rattle.ocl_types.specs.declared.fault.TypeError.{TypeError}
 use Rattle.ocl_types.specs.declared.part.TypedPart.{TypedPart}
 use Rattle.ocl_types.specs.declared.variable.Variable.{Variable}
@@ -23,8 +24,8 @@ use Rattle.ocl_types.specs.TypingScopes.{let_type, let_variable, let_part}
 use Rattle.ocl_types.specs.TypingOperators.{not_rule, negated_rule, if_rule}
 use Rattle.ocl_types.specs.Typing.{Meaning, Calling, Operated, Given, meaning, operated_by, calling}
 use Rattle.ocl_types.specs.Typing.{given, args_step, expr_step, step_step, link_step, let_typing, if_typing}
-use Rattle.ocl_types.specs.declared.fault.TypeError.TheVariants as errors
-use Rattle.ocl_types.specs.Written.{Gives, Fails}
+use Rattle.mof_metamodel.specs.Giving.{Gives}
+use Rattle.ocl_types.specs.Written.{fault_in}
 use Rattle.ocl_types.proofs.ScopeLaws.{entered_reach}
 
 -- what an expression is, within a scope
@@ -39,9 +40,9 @@ not_typing : (operand : Expr) (span : Span) (env : Environment) → (meaning (No
 not_typing operand span env = ap (λ (m : Meaning). m.typing env) (rolled (of.Not operand span) (Not operand span) (rolls-Not operand span))
 
 pub not_given : (r : Result TypedPart TypeError) (operand : Expr) (span : Span) (s s1 : Reach) (metas : List MetaDesc) (p : TypedPart)
-    → metas ≡ s1.outer.metas → s1 ≡ s → at operand s ≡ Ok p → Gives r (not_rule metas p) → Gives r (at (Not operand span) s)
+    → metas ≡ s1.outer.metas → s1 ≡ s → at operand s ≡ Ok p → Gives fault_in (λ x. x) r (not_rule metas p) → Gives fault_in (λ x. x) r (at (Not operand span) s)
 not_given r operand span s s1 metas p is same typed found =
-    subst (Gives r) (ap (λ m. not_rule m p) (is ∙ ap (λ (t : Reach). t.outer.metas) same)
+    subst (Gives fault_in (λ x. x) r) (ap (λ m. not_rule m p) (is ∙ ap (λ (t : Reach). t.outer.metas) same)
     ∙ sym (not_typing operand span (in_reach s) ∙ ap (λ o. and_then o (not_rule s.outer.metas)) typed)) found
 
 negated_typing : (operand : Expr) (span : Span) (env : Environment)
@@ -49,9 +50,9 @@ negated_typing : (operand : Expr) (span : Span) (env : Environment)
 negated_typing operand span env = ap (λ (m : Meaning). m.typing env) (rolled (of.Negated operand span) (Negated operand span) (rolls-Negated operand span))
 
 pub negated_given : (r : Result TypedPart TypeError) (operand : Expr) (span : Span) (s s1 : Reach) (metas : List MetaDesc) (p : TypedPart)
-    → metas ≡ s1.outer.metas → s1 ≡ s → at operand s ≡ Ok p → Gives r (negated_rule metas p) → Gives r (at (Negated operand span) s)
+    → metas ≡ s1.outer.metas → s1 ≡ s → at operand s ≡ Ok p → Gives fault_in (λ x. x) r (negated_rule metas p) → Gives fault_in (λ x. x) r (at (Negated operand span) s)
 negated_given r operand span s s1 metas p is same typed found =
-    subst (Gives r) (ap (λ m. negated_rule m p) (is ∙ ap (λ (t : Reach). t.outer.metas) same)
+    subst (Gives fault_in (λ x. x) r) (ap (λ m. negated_rule m p) (is ∙ ap (λ (t : Reach). t.outer.metas) same)
     ∙ sym (negated_typing operand span (in_reach s) ∙ ap (λ o. and_then o (negated_rule s.outer.metas)) typed)) found
 
 if_form : (c a b : Expr) (span : Span) (env : Environment) → (meaning (If c a b span)).typing env
@@ -59,12 +60,12 @@ if_form : (c a b : Expr) (span : Span) (env : Environment) → (meaning (If c a 
 if_form c a b span env = ap (λ (m : Meaning). m.typing env) (rolled (of.If c a b span) (If c a b span) (rolls-If c a b span))
 
 pub if_given : (r : Result TypedPart TypeError) (c a b : Expr) (span : Span) (s s1 s2 s3 : Reach) (metas : List MetaDesc) (x y z : TypedPart)
-    → metas ≡ s3.outer.metas → s1 ≡ s → s2 ≡ s1 → s3 ≡ s2 → at c s ≡ Ok x → at a s1 ≡ Ok y → at b s2 ≡ Ok z → Gives r (if_rule metas x y z)
-    → Gives r (at (If c a b span) s)
+    → metas ≡ s3.outer.metas → s1 ≡ s → s2 ≡ s1 → s3 ≡ s2 → at c s ≡ Ok x → at a s1 ≡ Ok y → at b s2 ≡ Ok z → Gives fault_in (λ x. x) r (if_rule metas x y z)
+    → Gives fault_in (λ x. x) r (at (If c a b span) s)
 if_given r c a b span s s1 s2 s3 metas x y z is e1 e2 e3 f1 f2 f3 found =
     let g2 : at a s ≡ Ok y = ap (at a) (sym e1) ∙ f2 in
     let g3 : at b s ≡ Ok z = ap (at b) (sym (e2 ∙ e1)) ∙ f3 in
-    subst (Gives r)
+    subst (Gives fault_in (λ x. x) r)
     (ap (λ m. if_rule m x y z) (is ∙ ap (λ (t : Reach). t.outer.metas) (e3 ∙ e2 ∙ e1))
     ∙ sym (if_form c a b span (in_reach s)
     ∙ ap (λ o. and_then o (λ p. and_then (at a s) (λ q. and_then (at b s) (λ t. if_rule s.outer.metas p q t)))) f1
@@ -101,17 +102,11 @@ let_done n ty v b span s s1 s2 metas name t x w typed value same is bound named 
     ∙ ap (λ o. and_then o (λ q. Ok (let_part (length (in_reach s).variables) x q))) body
     ∙ ap (λ k. Ok (let_part k x y)) (sym counted) ∙ ap (λ q. Ok q) (sym whole)
 
-fails_then : (e : TypeError) (o : RuleResult TypedPart) (k : TypedPart → RuleResult TypedPart) → Fails e o → Fails e (and_then o k)
-fails_then (errors.Fault f) o k h = ap (λ q. and_then q k) h
-fails_then errors.NoMemory o k h = tt
-
-pub let_failed : (n : Name) (ty : TypeTree) (v b : Expr) (span : Span) (s s1 s2 : Reach) (metas : List MetaDesc) (name : List ℕ) (t : Ty) (x : TypedPart) (w : Variable)
+pub let_fault : (n : Name) (ty : TypeTree) (v b : Expr) (span : Span) (s s1 s2 : Reach) (metas : List MetaDesc) (name : List ℕ) (t : Ty) (x : TypedPart) (w : Variable)
     → let_type (in_reach s) n.text ty ≡ Ok t → at v s ≡ Ok x → s1 ≡ s → metas ≡ s1.outer.metas → let_variable metas t x ≡ Ok w → name ≡ n.text → s2 ≡ entered s1 name w
-    → (r : Result TypedPart TypeError) (e : TypeError) → r ≡ Err e → Fails e (at b s2) → Gives r (at (Let n ty v b span) s)
-let_failed n ty v b span s s1 s2 metas name t x w typed value same is bound named into r e failed body =
-    let whole : Fails e (at (Let n ty v b span) s) = subst (Fails e) (sym (let_body n ty v b span s s1 s2 metas name t x w typed value same is bound named into))
-    (fails_then e (at b s2) (λ p. Ok (let_part (length (in_reach s).variables) x p)) body) in
-    subst (λ q. Gives q (at (Let n ty v b span) s)) (sym failed) whole
+    → (f : TypeFault) → at b s2 ≡ Err f → at (Let n ty v b span) s ≡ Err f
+let_fault n ty v b span s s1 s2 metas name t x w typed value same is bound named into f fails =
+    let_body n ty v b span s s1 s2 metas name t x w typed value same is bound named into ∙ ap (λ o. and_then o (λ p. Ok (let_part (length (in_reach s).variables) x p))) fails
 
 -- the operators of a chain are less deep than the chain
 links_below : (first : Expr) (rest : List Infix) (span : Span) → most size-Infix rest < size-Expr (Chain first rest span)

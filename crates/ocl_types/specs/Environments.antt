@@ -194,6 +194,6 @@ pub record IsInOrder (env : Environment) : Type 0 where
   pub few_variables : length env.variables ≤ most
   pub few_queries : length env.queries ≤ most
 
--- the one models of metamodels, as they are kept beside the models
-abbrev pub IsTabled : List ModelSlot → List (Option ℕ) → Type 0
-IsTabled models table = (length models ≤ most) × (table ≡ only_models models (length table))
+-- the one models of so many metamodels, as they are kept beside the models
+abbrev pub IsTabled : List ModelSlot → ℕ → List (Option ℕ) → Type 0
+IsTabled models count table = (length models ≤ most) × (table ≡ only_models models count)

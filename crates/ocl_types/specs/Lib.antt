@@ -14,6 +14,7 @@ pub mod Outcomes
 pub mod Agreement
 pub mod Parts
 pub mod Scopes
+pub mod Extents
 pub mod TypingScopes
 pub mod TypingOperators
 pub mod TypingSteps
@@ -22,7 +23,9 @@ pub mod Typing
 pub mod Forms
 pub mod Judged
 pub mod TypeRules
+pub mod OperationRows
 pub mod HasType
 pub mod QueryCalls
 pub mod QueryTyping
+pub mod Queries
 pub mod TypedContext

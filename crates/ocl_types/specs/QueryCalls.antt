@@ -1,6 +1,6 @@
 -- Which queries a typed tree calls, by their numbers, in the order in which they are written (QVT 1.3, section 7.11.1.4).
 use Rattle.std.specs.Prelude.{◌≡◌, ◌+◌, ℕ, List, [], ◌∷◌, ◌++◌, Some, map, replicate, slice_get}
-use Rattle.std.specs.List.{flat_map}
+use Rattle.std.specs.List.{concat}
 use Rattle.call_graph.specs.Graphs.{IsOnCycle}
 use Rattle.ocl_types.specs.declared.fault.TypeFault.{TypeFault}
 use Rattle.ocl_types.specs.declared.fault.TypeFault.TheVariants.{QueryCycle}
@@ -12,16 +12,12 @@ use Rattle.qv_syntax.specs.declared.typed.TypedInfix.{TypedInfix, fold-TypedInfi
 use Rattle.qv_syntax.specs.declared.typed.TypedPostfix.{TypedPostfix, fold-TypedPostfix}
 use Rattle.qv_syntax.specs.declared.typed.Call.TheOpen as of
 
--- one after the other
-abbrev pub joined : List (List ℕ) → List ℕ
-joined rows = flat_map (λ row. row) rows
-
 abbrev pub call_step : of.Call-F (List ℕ) (List ℕ) (List ℕ) (List ℕ) (List ℕ) → List ℕ
 call_step (of.Property prop values) = []
 call_step (of.CollectProperty prop values) = []
-call_step (of.Operation operation args) = joined args
+call_step (of.Operation operation args) = concat args
 call_step (of.Class operation class) = []
-call_step (of.Collection operation args) = joined args
+call_step (of.Collection operation args) = concat args
 call_step (of.Iterator iterator variable body) = body
 
 abbrev pub node_step : of.Node-F (List ℕ) (List ℕ) (List ℕ) (List ℕ) (List ℕ) → List ℕ
@@ -33,14 +29,14 @@ node_step of.Invalid = []
 node_step (of.EnumLiteral meta enumeration literal) = []
 node_step (of.Variable number) = []
 node_step (of.Let variable value body) = value ++ body
-node_step (of.Chain first rest) = first ++ joined rest
+node_step (of.Chain first rest) = first ++ concat rest
 node_step (of.Not operand) = operand
 node_step (of.Negated operand) = operand
-node_step (of.Calls part calls) = part ++ joined calls
+node_step (of.Calls part calls) = part ++ concat calls
 node_step (of.If condition one other) = condition ++ (one ++ other)
-node_step (of.Coll kind elements) = joined elements
+node_step (of.Coll kind elements) = concat elements
 node_step (of.Extent model class) = []
-node_step (of.Query query args) = query ∷ joined args
+node_step (of.Query query args) = query ∷ concat args
 
 abbrev pub typed_step : of.Typed-F (List ℕ) (List ℕ) (List ℕ) (List ℕ) (List ℕ) → List ℕ
 typed_step t = t.node

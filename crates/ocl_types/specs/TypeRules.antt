@@ -1,7 +1,10 @@
 -- The rules of typing (OCL 2.4, chapters 7, 9 and 11): what each form asks of its parts, which have types, and what it is then. Each
 -- demand stands with the fault of where it isn't met, and demands have no order.
-use Rattle.std.specs.Prelude.{◌≡◌, ◌⊎◌, ℕ, Bool, true, false, map, Contains, List, [], ◌∷◌, Option, None, Some, IsTrue, length, codes, encode_utf8_all}
+use Rattle.std.specs.Prelude.{◌≡◌, ◌≢◌, ◌<◌, ◌⊎◌, ℕ, Bool, true, false, map, Contains, List, [], ◌∷◌, Option, None, Some, slice_get, length, codes, encode_utf8_all}
 use Rattle.mof_metamodel.specs.declared.desc.MetaDesc.{MetaDesc}
+use Rattle.mof_metamodel.specs.declared.desc.ClassId.{ClassId}
+use Rattle.mof_metamodel.specs.declared.desc.PropId.{PropId}
+use Rattle.mof_metamodel.specs.Metamodels.{prop_at}
 use Rattle.qv_syntax.specs.declared.name.Path.{Path}
 use Rattle.qv_syntax.specs.declared.operator.Operator.{Operator}
 use Rattle.qv_syntax.specs.declared.operator.Operator.TheVariants as operators
@@ -10,32 +13,37 @@ use Rattle.qv_syntax.specs.declared.operation.CollectionOperation.TheVariants as
 use Rattle.qv_syntax.specs.declared.ty.Ty.{Ty}
 use Rattle.qv_syntax.specs.declared.ty.Ty.TheVariants as types
 use Rattle.qv_syntax.specs.declared.type_tree.Kind.{Kind}
+use Rattle.qv_syntax.specs.declared.type_tree.Kind.TheVariants as kinds
 use Rattle.qv_syntax.specs.declared.type_tree.TypeTree.{TypeTree}
 use Rattle.qv_syntax.specs.declared.typed.Call.TheVariants as calls
 use Rattle.qv_syntax.specs.declared.typed.Node.TheVariants as nodes
+use Rattle.qv_syntax.specs.declared.typed.Values.{Values}
 use Rattle.qv_syntax.specs.Types.{ConformsTo, IsTopOf, IsWrittenType, IsOneModel}
-use Rattle.qv_syntax.specs.TypeRules.{Branches, Elements}
+use Rattle.qv_syntax.specs.TypeRules.{AreComparable, Operated, Branches, Elements, HasProperty, IsOrdered}
 use Rattle.ocl_types.specs.declared.collection_operations.Argument.{Argument}
 use Rattle.ocl_types.specs.declared.collection_operations.Argument.TheVariants as arguments
+use Rattle.ocl_types.specs.declared.collection_operations.Kinds.{Kinds}
+use Rattle.ocl_types.specs.declared.collection_operations.Kinds.TheVariants as behind
+use Rattle.ocl_types.specs.declared.operations.Receivers.{Receivers}
+use Rattle.ocl_types.specs.declared.operations.Receivers.TheVariants as receivers
 use Rattle.ocl_types.specs.declared.fault.TypeFault.{TypeFault}
 use Rattle.ocl_types.specs.declared.fault.TypeFault.TheVariants.{UnknownName, DuplicateName, WrongCount, ModelMix}
 use Rattle.ocl_types.specs.declared.part.TypedPart.{TypedPart}
 use Rattle.ocl_types.specs.declared.part.CallsSoFar.{CallsSoFar}
 use Rattle.ocl_types.specs.declared.part.Chained.{Chained}
 use Rattle.ocl_types.specs.declared.variable.Variable.{Variable}
-use Rattle.ocl_types.specs.Environments.{Environment, is_bound, number_of, value_of, only_model, class_of}
+use Rattle.ocl_types.specs.Environments.{Environment, NamesWith, is_bound, only_model}
 use Rattle.ocl_types.specs.Naming.{names_of, joined_names, path_text, kind_text}
 use Rattle.ocl_types.specs.Classifiers.{named_literal, named_class}
-use Rattle.ocl_types.specs.Conformance.{TypeConforms}
 use Rattle.ocl_types.specs.Navigation.{navigated}
 use Rattle.ocl_types.specs.Operations.{operation_row, class_row, collection_row, iterator_row, operation_named, class_operation_named, collection_operation_named, iterator_named}
-use Rattle.ocl_types.specs.Signatures.{is_receiver, parameter_count, parameter_type, result_type, argument_count, is_of_kind, collected_kind}
+use Rattle.ocl_types.specs.Signatures.{parameter_count, parameter_type, result_type, argument_count, collected_kind}
 use Rattle.ocl_types.specs.Outcomes.{wrong_type}
-use Rattle.ocl_types.specs.Agreement.{collection_parts, model_for, same_type}
+use Rattle.ocl_types.specs.Agreement.{collection_parts, model_for}
 use Rattle.ocl_types.specs.Parts.{tree_of, trees_of, types_of, plain_part, and_called}
 use Rattle.ocl_types.specs.Written.{written}
-use Rattle.ocl_types.specs.TypingOperators.{are_comparable, and_linked}
-use Rattle.ocl_types.specs.TypingSteps.{property_of, called_with, is_of_meta, tested, extent_part, query_part}
+use Rattle.ocl_types.specs.TypingOperators.{and_linked}
+use Rattle.ocl_types.specs.TypingSteps.{called_with, tested, extent_part, query_part}
 use Rattle.ocl_types.specs.TypingCollections.{kind_of, element_of, operated_on, iterated}
 use Rattle.ocl_types.specs.Judged.{Judged, gives, tells, says, asks, finds, taking, both}
 
@@ -45,7 +53,7 @@ being metas wanted found rest = asks (found ≡ wanted) (wrong_type metas wanted
 
 -- a type that conforms to another is asked for
 abbrev pub conforming : {X : Type 0} → List MetaDesc → Ty → Ty → Judged X → Judged X
-conforming metas wanted found rest = asks (TypeConforms metas found wanted) (wrong_type metas wanted found) rest
+conforming metas wanted found rest = asks (ConformsTo metas found wanted) (wrong_type metas wanted found) rest
 
 -- the type to which both conform, one of the two
 abbrev pub top_judged : List MetaDesc → Ty → Ty → Judged Ty
@@ -61,12 +69,17 @@ one_model_judged name models = says (IsOneModel models) (λ f. f ≡ ModelMix na
 
 -- ---- names (section 9.4)
 
+-- the first of this name, by its place, and what it stands for
+pub record IsFirstNamed (X : Type 0) (entries : NamesWith X) (name : List ℕ) (found : ℕ × X) : Type 0 where
+  pub there : slice_get entries found.0 ≡ Some (name, found.1)
+  pub first : (k : ℕ) (x : X) → k < found.0 → slice_get entries k ≡ Some (name, x) → ⊥
+
+abbrev pub named_judged : {X : Type 0} → NamesWith X → List ℕ → Judged (ℕ × X)
+named_judged {X = X} entries name = says (IsFirstNamed X entries name) (λ f. f ≡ UnknownName name)
+
 -- a variable that is in reach
 abbrev pub variable_judged : Environment → List ℕ → Judged TypedPart
-variable_judged env name =
-    finds (number_of env.variables name) (UnknownName name) (λ number.
-    finds (value_of env.variables name) (UnknownName name) (λ v.
-    gives (record { ty = v.ty; model = v.model; node = nodes.Variable number })))
+variable_judged env name = taking (named_judged env.variables name) (λ v. gives (record { ty = v.1.ty; model = v.1.model; node = nodes.Variable v.0 }))
 
 -- a literal of an enumeration
 abbrev pub literal_judged : Environment → List (List ℕ) → Judged TypedPart
@@ -82,10 +95,21 @@ names_judged env names = literal_judged env names
 abbrev pub sides : List MetaDesc → Ty → Ty → Ty → Ty → Judged Ty
 sides metas wanted left right to = being metas wanted left (being metas wanted right (gives to))
 
--- two Strings or two Integers, as the left side is
-abbrev pub added_judged : List MetaDesc → Ty → Ty → Bool → Judged Ty
-added_judged metas a b true = sides metas types.Str a b types.Str
-added_judged metas a b false = sides metas types.Int a b types.Int
+-- one type is asked for, and this is another
+abbrev pub IsOther : List MetaDesc → Ty → Ty → TypeFault → Type 0
+IsOther metas wanted found f = (found ≢ wanted) × (f ≡ wrong_type metas wanted found)
+
+-- beside a String something else, or, where the left side is none, something that is no Integer
+abbrev pub IsMisadded : List MetaDesc → Ty → Ty → TypeFault → Type 0
+IsMisadded metas a b f = ((a ≡ types.Str) × IsOther metas types.Str b f) ⊎ ((a ≢ types.Str) × (IsOther metas types.Int a f ⊎ IsOther metas types.Int b f))
+
+-- two Integers or two Strings
+abbrev pub added_judged : List MetaDesc → Ty → Ty → Judged Ty
+added_judged metas a b = says (Operated metas operators.Plus a b) (IsMisadded metas a b)
+
+-- two values that may be compared
+abbrev pub compared_judged : List MetaDesc → Ty → Ty → Judged Ty
+compared_judged metas a b = asks (AreComparable metas a b) (wrong_type metas a b) (gives types.Bool)
 
 -- the type of what an operator gives
 abbrev pub operator_judged : List MetaDesc → Operator → Ty → Ty → Judged Ty
@@ -93,13 +117,13 @@ operator_judged metas operators.Implies a b = sides metas types.Bool a b types.B
 operator_judged metas operators.Xor a b = sides metas types.Bool a b types.Bool
 operator_judged metas operators.Or a b = sides metas types.Bool a b types.Bool
 operator_judged metas operators.And a b = sides metas types.Bool a b types.Bool
-operator_judged metas operators.Equal a b = asks (IsTrue (are_comparable metas a b)) (wrong_type metas a b) (gives types.Bool)
-operator_judged metas operators.NotEqual a b = asks (IsTrue (are_comparable metas a b)) (wrong_type metas a b) (gives types.Bool)
+operator_judged metas operators.Equal a b = compared_judged metas a b
+operator_judged metas operators.NotEqual a b = compared_judged metas a b
 operator_judged metas operators.Less a b = sides metas types.Int a b types.Bool
 operator_judged metas operators.Greater a b = sides metas types.Int a b types.Bool
 operator_judged metas operators.AtMost a b = sides metas types.Int a b types.Bool
 operator_judged metas operators.AtLeast a b = sides metas types.Int a b types.Bool
-operator_judged metas operators.Plus a b = added_judged metas a b (same_type a types.Str)
+operator_judged metas operators.Plus a b = added_judged metas a b
 operator_judged metas operators.Minus a b = sides metas types.Int a b types.Int
 operator_judged metas operators.Times a b = sides metas types.Int a b types.Int
 
@@ -173,10 +197,9 @@ arguments_judged metas (ty ∷ more) (p ∷ ps) rest = conforming metas ty p.ty 
 
 abbrev pub query_judged : Environment → List ℕ → List TypedPart → Judged TypedPart
 query_judged env name args =
-    finds (number_of env.queries name) (UnknownName name) (λ number.
-    finds (value_of env.queries name) (UnknownName name) (λ signature.
-    asks (length args ≡ length signature.params) (WrongCount name) (
-    arguments_judged env.metas signature.params args (gives (query_part number signature args)))))
+    taking (named_judged env.queries name) (λ q.
+    asks (length args ≡ length q.1.params) (WrongCount name) (
+    arguments_judged env.metas q.1.params args (gives (query_part q.0 q.1 args))))
 
 -- ---- extents (section 11.3.1): of the one model that has the metamodel of the class
 
@@ -188,10 +211,18 @@ extent_judged env path =
 
 -- ---- properties (section 7.5.3), of an object or of each object of a collection
 
+-- objects of the type have a property of this name, with these values of this type
+pub record HasPropertyNamed (metas : List MetaDesc) (object : Ty) (name : List ℕ) (found : PropId × Values × Ty) : Type 0 where
+  pub property : HasProperty metas object found.0 found.1 found.2
+  pub named : (prop_at property.has.meta found.0.0).name ≡ name
+
+abbrev pub found_property : List MetaDesc → Ty → List ℕ → Judged (PropId × Values × Ty)
+found_property metas object name = says (HasPropertyNamed metas object name) (λ f. f ≡ UnknownName name)
+
 abbrev pub property_judged_by : List MetaDesc → List ℕ → CallsSoFar → Option (Kind × Ty) → Judged CallsSoFar
-property_judged_by metas name c None = finds (property_of metas c.ty name) (UnknownName name) (λ p.
+property_judged_by metas name c None = taking (found_property metas c.ty name) (λ p.
     gives (and_called c (calls.Property p.0 p.1) (navigated p.1 p.2) (model_for p.2 c.model)))
-property_judged_by metas name c (Some parts) = finds (property_of metas parts.1 name) (UnknownName name) (λ p.
+property_judged_by metas name c (Some parts) = taking (found_property metas parts.1 name) (λ p.
     gives (and_called c (calls.CollectProperty p.0 p.1) (types.Coll (collected_kind parts.0) p.2) (model_for p.2 c.model)))
 
 abbrev pub property_judged : List MetaDesc → List ℕ → CallsSoFar → Judged CallsSoFar
@@ -203,23 +234,40 @@ abbrev pub exact_judged : List MetaDesc → Ty → List TypedPart → Judged Cal
 exact_judged metas wanted [] rest = rest
 exact_judged metas wanted (p ∷ ps) rest = being metas wanted p.ty (exact_judged metas wanted ps rest)
 
+-- values of the type are those behind which the operation stands
+abbrev pub IsReceiver : Receivers → Ty → Type 0
+IsReceiver receivers.Int ty = ty ≡ types.Int
+IsReceiver receivers.IntOrBool ty = (ty ≡ types.Int) ⊎ (ty ≡ types.Bool)
+IsReceiver receivers.Str ty = ty ≡ types.Str
+IsReceiver receivers.Any ty = Unit {0}
+
 abbrev pub operation_judged : List MetaDesc → List ℕ → CallsSoFar → List TypedPart → Judged CallsSoFar
 operation_judged metas name c args =
     finds (operation_named (encode_utf8_all name)) (UnknownName name) (λ operation.
-    asks (IsTrue (is_receiver (operation_row operation).receivers c.ty)) (UnknownName name) (
+    asks (IsReceiver (operation_row operation).receivers c.ty) (UnknownName name) (
     asks (length args ≡ parameter_count (operation_row operation).parameters) (WrongCount name) (
     exact_judged metas (parameter_type (operation_row operation).parameters) args (
     gives (called_with c (calls.Operation operation (trees_of args)) (result_type (operation_row operation).result c.ty))))))
+
+-- objects of the type are of the metamodel of number m
+abbrev pub IsObjectOf : ℕ → Ty → Type 0
+IsObjectOf m ty = (class : ClassId) × (ty ≡ types.Class m class)
 
 -- a type test or a cast, with a class of the object's metamodel
 abbrev pub class_operation_judged : Environment → List ℕ → Path → CallsSoFar → Judged CallsSoFar
 class_operation_judged env name path c =
     finds (class_operation_named (encode_utf8_all name)) (UnknownName name) (λ operation.
     finds (named_class env (names_of path)) (UnknownName (path_text path)) (λ class.
-    asks (IsTrue (is_of_meta class.0 (class_of c.ty))) (wrong_type env.metas (types.Class class.0 class.1) c.ty) (
+    asks (IsObjectOf class.0 c.ty) (wrong_type env.metas (types.Class class.0 class.1) c.ty) (
     gives (called_with c (calls.Class operation class.1) (tested (class_row operation).result class)))))
 
 -- ---- operations on collections (section 11.7)
+
+-- collections of the kind are those behind which the operation stands
+abbrev pub IsOfKind : Kinds → Kind → Type 0
+IsOfKind behind.Any kind = Unit {0}
+IsOfKind behind.Set kind = kind ≡ kinds.Set
+IsOfKind behind.Ordered kind = IsOrdered kind
 
 -- `sum` asks for Integers
 abbrev pub summed_judged : List MetaDesc → CollectionOperation → Ty → Judged CallsSoFar → Judged CallsSoFar
@@ -248,7 +296,7 @@ given_judged metas argument kind of args = says (GivenConforms metas argument ki
 abbrev pub collection_operation_judged : List MetaDesc → List ℕ → CallsSoFar → List TypedPart → Judged CallsSoFar
 collection_operation_judged metas name c args =
     finds (collection_operation_named (encode_utf8_all name)) (UnknownName name) (λ operation.
-    asks (IsTrue (is_of_kind (collection_row operation).kinds (kind_of c.ty))) (UnknownName name) (
+    asks (IsOfKind (collection_row operation).kinds (kind_of c.ty)) (UnknownName name) (
     asks (length args ≡ argument_count (collection_row operation).argument) (WrongCount name) (
     summed_judged metas operation (element_of c.ty) (
     taking (both (given_judged metas (collection_row operation).argument (kind_of c.ty) (element_of c.ty) (types_of args)) (one_model_judged name (c.model ∷ part_models args))) (λ t.

@@ -4,7 +4,9 @@ use Rattle.std.specs.Prelude.{ℕ, List, map, Contains, IsTrue}
 use Rattle.mof_metamodel.specs.declared.desc.MetaDesc.{MetaDesc}
 use Rattle.qv_syntax.specs.declared.ty.Ty.{Ty}
 use Rattle.qv_syntax.specs.declared.expr.Expr.{Expr}
-use Rattle.qv_syntax.specs.TypedTrees.{QueryType, Context, Typing, Variables, IsTyped}
+use Rattle.qv_syntax.specs.declared.query.Query.{Query}
+use Rattle.qv_syntax.specs.Types.{IsWrittenType, ConformsTo}
+use Rattle.qv_syntax.specs.TypedTrees.{QueryType, Context, Typing, Variables, without_model, IsTyped}
 use Rattle.ocl_types.specs.declared.part.TypedPart.{TypedPart}
 use Rattle.ocl_types.specs.declared.variable.Variable.{Variable}
 use Rattle.ocl_types.specs.declared.variable.Signature.{Signature}
@@ -33,6 +35,14 @@ typing_of p = record { ty = p.ty; model = p.model }
 -- what an expression is has a tree in which each node has its type, and each number names what is there
 abbrev pub GivesTypedTree : Environment → Expr → TypedPart → Type 0
 GivesTypedTree env e p = HasType env e p → IsTyped (context_of env) (variables_of env) (tree_of p) (typing_of p)
+
+-- a query that is typed, where all queries are in reach: its body is so with the parameters alone as variables, and conforms to the result
+pub record IsTypedQuery (env : Environment) (q : Query) : Type 0 where
+  pub params : (ty : Ty) → Contains q.params ty → IsWrittenType env.metas ty
+  pub result : IsWrittenType env.metas q.result
+  pub typing : Typing
+  pub body : IsTyped (context_of env) (map without_model q.params) q.body typing
+  pub conforms : ConformsTo env.metas typing.ty q.result
 
 -- each of the types is one of the metamodels
 abbrev pub AreOver : List MetaDesc → List Ty → Type 0

@@ -1,5 +1,5 @@
 -- The types that are written in a script.
-use Rattle.std.specs.Prelude.{◌≡◌, ℕ, List, Option, None, Some, Result, Ok, Err, IfErr, IfSome}
+use Rattle.std.specs.Prelude.{ℕ, List, Option, None, Some, Result, Ok, Err, IfErr, IfSome}
 use Rattle.qv_syntax.specs.declared.ty.Ty.{Ty}
 use Rattle.qv_syntax.specs.declared.ty.Ty.TheVariants as types
 use Rattle.qv_syntax.specs.declared.type_tree.Kind.{Kind}
@@ -42,13 +42,3 @@ fault_in errors.NoMemory = None
 -- of a fault that a function answers
 abbrev pub IfFault : {X : Type 0} → Result X TypeError → (TypeFault → Type 0) → Type 0
 IfFault result P = IfErr result (λ e. IfSome (fault_in e) P)
-
--- the error is the fault that stands, unless memory ran out
-abbrev pub Fails : {X : Type 0} → TypeError → Result X TypeFault → Type 0
-Fails (errors.Fault f) meaning = meaning ≡ Err f
-Fails errors.NoMemory meaning = Unit {0}
-
--- what a function returned is what is meant, unless memory ran out
-abbrev pub Gives : {X : Type 0} → Result X TypeError → Result X TypeFault → Type 0
-Gives (Ok x) meaning = meaning ≡ Ok x
-Gives (Err e) meaning = Fails e meaning

@@ -4,7 +4,8 @@ ghost use Rattle.std.specs.Option.{option_map};
 ghost use Rattle.mof_metamodel.specs.Metamodels.{class_count, lineage_of, Conforms};
 ghost use Rattle.ocl_types.specs.Conformance.{ClassConforms, TypeConforms};
 ghost use Rattle.ocl_types.specs.Agreement.{same_kind as one_kind, same_type as one_type, is_null as null, collection_parts as parts_of_collection, has_objects as objects, model_for as model_of, class_fits as class_fitting, fits as fitting, are_related as related, higher as higher_of, joined_models as joined, upper as upper_of};
-ghost use Rattle.ocl_types.specs.Written.{Gives};
+ghost use Rattle.mof_metamodel.specs.Giving.{Gives};
+ghost use Rattle.ocl_types.specs.Written.{fault_in};
 
 use crate::fault::TypeError;
 use crate::of_types::class_of;
@@ -129,7 +130,7 @@ pub(crate) fn higher<'t>(metas: &[MetaModel], a: &'t Ty, b: &'t Ty) -> &'t Ty
 
 /// One of two types, to which both conform.
 pub(crate) fn upper(alloc: Global, metas: &[MetaModel], a: &Ty, b: &Ty) -> Result<Ty, TypeError>
-    ensures { Gives result (upper_of metas.now a.now b.now) }
+    ensures { Gives fault_in (λ x. x) result (upper_of metas.now a.now b.now) }
 {
     let top = higher(metas, a, b);
     if !fits(metas, a, top) {

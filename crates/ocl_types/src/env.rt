@@ -3,7 +3,7 @@ ghost use Rattle.std.specs.Option.{option_map};
 
 use crate::classifier::Wanted;
 use crate::classifier_index::ClassifierIndex;
-use crate::extents::{only_model, only_models};
+use crate::extents::only_models;
 use crate::limits::MAX_NUMBERED;
 use crate::literals::find_literal;
 use crate::look_up::{class_alone, find_path, type_of};
@@ -31,6 +31,7 @@ pub struct Env<'a> {
 }
 
 impl<'a> Model for Env<'a> {
+    ghost use Rattle.std.specs.Prelude.{length};
     ghost use Rattle.std.specs.Coded.{codes};
     ghost use Rattle.qv_syntax.specs.contracts.ty.Ty as ty;
     ghost use Rattle.ocl_types.specs.Environments.{Environment, IsInOrder, IsTabled};
@@ -42,7 +43,7 @@ impl<'a> Model for Env<'a> {
 
     ghost view = { λ e. record { metas = e.metas.now; names = e.names; models = e.models; variables = e.variables; queries = e.queries } };
 
-    ghost invariant = { λ e. IsInOrder (record { metas = e.metas.now; names = e.names; models = e.models; variables = e.variables; queries = e.queries }) × IsTabled e.models e.only_models × IsIndexOf e.metas.now e.names e.classifiers };
+    ghost invariant = { λ e. IsInOrder (record { metas = e.metas.now; names = e.names; models = e.models; variables = e.variables; queries = e.queries }) × IsTabled e.models (length e.metas.now) e.only_models × IsIndexOf e.metas.now e.names e.classifiers };
 }
 
 impl<'a> Env<'a> {
@@ -71,7 +72,6 @@ impl<'a> Env<'a> {
     /// # Errors
     ///
     /// `NoMemory` where memory runs out, or where there are more than `MAX_NUMBERED` models.
-    #[tactic(auto, using(crate::proofs::ModelLaws::kept_table))]
     pub fn over(
         alloc: Global,
         metas: &'a Metas,
@@ -138,17 +138,13 @@ impl<'a> Env<'a> {
     }
 
     /// The one model of a metamodel, if there is one alone.
-    #[tactic(auto, using(crate::proofs::ModelLaws::only_at))]
+    #[tactic(auto, using(crate::proofs::ModelLaws::only_at, crate::proofs::ModelLaws::only_past))]
     pub(crate) fn only_model(&self, meta: u32) -> Option<u32>
         ensures { result ≡ model_alone self.now.models meta }
     {
         let table = self.only_models.as_slice();
         let i = meta as usize;
-        if i < table.len() {
-            table[i]
-        } else {
-            only_model(self.models.as_slice(), meta)
-        }
+        if i < table.len() { table[i] } else { None }
     }
 
     /// How many queries are in reach.
@@ -179,7 +175,7 @@ impl<'a> Env<'a> {
     }
 
     /// The class that a path names, with the number of its metamodel, if it names one class alone.
-    pub(crate) fn named_class(&self, path: &Path) -> Option<(u32, ClassId)>
+    pub fn named_class(&self, path: &Path) -> Option<(u32, ClassId)>
         ensures { result ≡ class_named self.now (names_of path.now) }
     {
         let found = find_path(&self.classifiers, Wanted::Classes, path.names.as_slice());

@@ -1,56 +1,101 @@
-ghost use Rattle.std.specs.Prelude.{◌≡◌, ◌≤◌, ◌+◌, ◌==◌, ◌∷◌, length, IfOk};
-ghost use Rattle.std.specs.List.{list_any};
-ghost use Rattle.ocl_types.specs.Environments.{most, models_of, only, only_model as model_alone, only_models as models_alone};
+ghost use Rattle.std.specs.Prelude.{◌≡◌, ◌<◌, ◌≤◌, ◌==◌, ℕ, if◌then◌else◌, length, map, replicate, IfOk};
+ghost use Rattle.ocl_types.specs.Environments.{most, models_of, only_models as models_alone};
+ghost use Rattle.ocl_types.specs.declared.extents.Met.TheVariants.{Nothing};
+ghost use Rattle.ocl_types.specs.Extents.{next_met, met_all, alone_of, met_at};
 
 use mof_metamodel::{NoMemory, Seq};
 use qv_syntax::ModelSlot;
 use std::alloc::Global;
 
-/// Whether a model has this metamodel.
-fn has_model(models: &[ModelSlot], meta: u32) -> bool
-    ensures { result ≡ list_any (λ slot. slot.meta == meta) models.now }
-{
-    models.iter().any(|slot| slot.meta == meta)
+/// Which models of a metamodel were met.
+#[derive(Clone, Copy)]
+pub(crate) enum Met {
+    Nothing,
+    One(u32),
+    Several,
 }
 
-/// The number of a model that has a metamodel, if none of those behind it has it.
-#[tactic(auto, using(crate::proofs::ModelLaws::first_only))]
-fn alone(models: &[ModelSlot], meta: u32, i: u32) -> Option<u32>
-    ensures { result ≡ only (i ∷ models_of meta (i + 1) models.now) }
-{
-    if has_model(models, meta) {
-        None
-    } else {
-        Some(i)
+impl Met {
+    /// What was met with one more.
+    fn next(self, i: u32) -> Met
+        ensures { result ≡ next_met self i }
+    {
+        match self {
+            Met::Nothing => Met::One(i),
+            Met::One(_) => Met::Several,
+            Met::Several => Met::Several,
+        }
+    }
+
+    /// The model that was met alone.
+    fn alone(self) -> Option<u32>
+        ensures { result ≡ alone_of self }
+    {
+        match self {
+            Met::One(i) => Some(i),
+            _ => None,
+        }
     }
 }
 
-/// The number of the one model that has this metamodel, of models from number `i` on.
-fn first_alone(models: &[ModelSlot], meta: u32, i: u32) -> Option<u32>
-    requires { i + length models.now ≤ most }
-    ensures { result ≡ only (models_of meta i models.now) }
+/// No model of any of so many metamodels.
+fn no_models(alloc: Global, count: u32) -> Result<Vec<Met>, NoMemory>
+    ensures { IfOk result (λ table. table.items ≡ replicate count Nothing) }
 {
-    match models {
-        [] => None,
-        [slot, rest @ ..] => if slot.meta == meta {
-            alone(rest, meta, i)
-        } else {
-            first_alone(rest, meta, i + 1)
-        },
+    let mut table = Vec::new(alloc);
+    for _i in 0..count {
+        table.push(Met::Nothing)?;
+    }
+    Ok(table)
+}
+
+/// Meets a model at its metamodel.
+fn meet(table: &mut [Met], slot: &ModelSlot, i: u32)
+    ensures long { length table.new ≡ length table.old }
+    ensures met { (meta : ℕ) → meta < length table.old → met_at table.new meta ≡ (if slot.now.meta == meta then next_met (met_at table.old meta) i else met_at table.old meta) }
+{
+    let at = slot.meta as usize;
+    if at < table.len() {
+        table[at] = table[at].next(i);
     }
 }
 
-/// The number of the one model that has this metamodel.
-#[tactic(auto, unfolding(crate::specs::Environments::only_model))]
-pub(crate) fn only_model(models: &[ModelSlot], meta: u32) -> Option<u32>
+/// Meets the models one after the other.
+fn meet_all(table: &mut [Met], models: &[ModelSlot])
     requires { length models.now ≤ most }
-    ensures { result ≡ model_alone models.now meta }
+    ensures long { length table.new ≡ length table.old }
+    ensures met { (meta : ℕ) → meta < length table.old → met_at table.new meta ≡ met_all (met_at table.old meta) (models_of meta 0 models.now) }
 {
-    first_alone(models, meta, 0)
+    for (i, slot) in models.iter().enumerate() {
+        meet(table, slot, i as u32);
+    }
 }
 
-/// The one model of each of so many metamodels.
-#[tactic(auto, using(crate::proofs::ModelLaws::only_more))]
+/// The model of each metamodel that was met alone.
+fn each_alone(alloc: Global, table: &[Met]) -> Result<Seq<Option<u32>>, NoMemory>
+    ensures { IfOk result (λ out. out ≡ map alone_of table.now) }
+{
+    let mut out = Seq::new(alloc);
+    for met in table {
+        out.push(met.alone())?;
+    }
+    Ok(out)
+}
+
+/// The one model of each metamodel, by a table in which nothing was met yet.
+fn alone_models(
+    alloc: Global,
+    table: &mut [Met],
+    models: &[ModelSlot],
+) -> Result<Seq<Option<u32>>, NoMemory>
+    requires { length models.now ≤ most }
+    ensures { (count : ℕ) → table.old ≡ replicate count Nothing → IfOk result (λ out. out ≡ models_alone models.now count) }
+{
+    meet_all(table, models);
+    each_alone(alloc, table)
+}
+
+/// The one model of each of so many metamodels. In time linear in both.
 pub(crate) fn only_models(
     alloc: Global,
     models: &[ModelSlot],
@@ -59,9 +104,6 @@ pub(crate) fn only_models(
     requires { length models.now ≤ most }
     ensures { IfOk result (λ table. table ≡ models_alone models.now count) }
 {
-    let mut table = Seq::new(alloc);
-    for meta in 0..count {
-        table.push(only_model(models, meta))?;
-    }
-    Ok(table)
+    let mut table = no_models(alloc, count)?;
+    alone_models(alloc, table.as_mut_slice(), models)
 }

@@ -1,4 +1,4 @@
-ghost use Rattle.std.specs.Prelude.{◌≡◌, ◌↔◌, ℕ, IsTrue, List, ◌∷◌, length, Option, Ok, Err};
+ghost use Rattle.std.specs.Prelude.{◌≡◌, ◌≢◌, ◌↔◌, ℕ, IsTrue, Contains, List, ◌∷◌, length, Option, Ok, Err};
 ghost use Rattle.qv_syntax.specs.declared.expr.Expr.{Expr};
 ghost use Rattle.qv_syntax.specs.declared.typed.Typed.{Typed};
 ghost use Rattle.ocl_types.specs.declared.fault.TypeFault.{TypeFault};
@@ -8,12 +8,25 @@ ghost use Rattle.ocl_types.specs.HasType.{HasType, HasTree, Stands};
 ghost use Rattle.qv_syntax.specs.declared.ty.Ty.{Ty};
 ghost use Rattle.ocl_types.specs.Agreement.{same_type, fits, agreed, IsTop};
 ghost use Rattle.ocl_types.specs.Conformance.{TypeConforms};
-ghost use Rattle.ocl_types.specs.Environments.{is_over};
-ghost use Rattle.ocl_types.specs.TypedContext.{GivesTypedTree, AreOver};
+ghost use Rattle.ocl_types.specs.Environments.{Environment, is_over};
+ghost use Rattle.ocl_types.specs.TypedContext.{GivesTypedTree, IsTypedQuery, AreOver};
 ghost use Rattle.qv_syntax.specs.declared.type_tree.Kind.{Kind};
 ghost use Rattle.qv_syntax.specs.declared.type_tree.TypeTree.{TypeTree};
+ghost use Rattle.call_graph.specs.Graphs.{IsOnCycle};
+ghost use Rattle.qv_syntax.specs.declared.query.Query.{Query};
+ghost use Rattle.qv_syntax.specs.declared.query.QueryTree.{QueryTree};
+ghost use Rattle.qv_syntax.specs.QueryCalls.{AreAcyclic};
+ghost use Rattle.ocl_types.specs.Queries.{AreQueries, StandInQueries};
+ghost use Rattle.ocl_types.specs.QueryTyping.{queries_typed};
+ghost use Rattle.ocl_types.specs.QueryCalls.{called_by, rows_of};
+ghost use Rattle.qv_syntax.specs.Parts.{CallsQuery};
 ghost use Rattle.qv_syntax.specs.Types.{IsWrittenType, IsOneModel};
-ghost use Rattle.qv_syntax.specs.TypeRules.{Branches, Elements};
+ghost use Rattle.qv_syntax.specs.TypeRules.{Branches, Elements, OperationGives, CollectionGives, IteratorGives};
+ghost use Rattle.qv_syntax.specs.declared.operation.Operation.{Operation};
+ghost use Rattle.qv_syntax.specs.declared.operation.Operation.TheVariants.{AsSingletonSet};
+ghost use Rattle.qv_syntax.specs.declared.operation.CollectionOperation.{CollectionOperation};
+ghost use Rattle.qv_syntax.specs.declared.operation.IteratorKind.{IteratorKind};
+ghost use Rattle.ocl_types.specs.OperationRows.{RowGives, CollectionRowGives, IteratorRowGives};
 ghost use Rattle.ocl_types.specs.declared.collection_operations.Argument.{Argument};
 ghost use Rattle.ocl_types.specs.Signatures.{argument_count};
 ghost use Rattle.ocl_types.specs.Parts.{types_of, with_models, one_model};
@@ -91,4 +104,40 @@ pub fn declared_types_are_told(env: &Env<'_>)
     ensures { (tree : TypeTree) (ty : Ty) → (declared_type env.now tree ≡ Ok ty) ↔ ((written env.now tree ≡ Ok ty) × IsWrittenType env.now.metas ty) }
 {
     let _metas = env.metas();
+}
+
+/// Typing queries one after the other answers queries exactly where these are they, and a fault only where it stands. Where
+/// one stands, a fault is answered.
+pub fn query_typing_is_told(env: &Env<'_>)
+    ensures told { (qs : List QueryTree) (bound : Environment) (all : List Query) → queries_typed env.now qs ≡ Ok (bound, all) → AreQueries env.now qs bound all }
+    ensures only { (qs : List QueryTree) (bound : Environment) (all : List Query) → AreQueries env.now qs bound all → queries_typed env.now qs ≡ Ok (bound, all) }
+    ensures fault { (qs : List QueryTree) (f : TypeFault) → queries_typed env.now qs ≡ Err f → StandInQueries env.now qs f }
+    ensures known { (qs : List QueryTree) (f : TypeFault) → StandInQueries env.now qs f → (g : TypeFault) × (queries_typed env.now qs ≡ Err g) }
+{
+    env.in_order();
+}
+
+/// Queries that are typed are as typed trees ask: types of parameters and results are written types, and in the body, with
+/// the parameters alone as variables, each node has its type, and each number names what is there.
+pub fn queries_are_typed(env: &Env<'_>)
+    ensures { (qs : List QueryTree) (bound : Environment) (all : List Query) → AreQueries env.now qs bound all → (q : Query) → Contains all q → IsTypedQuery bound q }
+{
+    env.in_order();
+}
+
+/// The rows of calls have the queries that the bodies call, and no others; queries call each other without a cycle exactly
+/// where none stands on a cycle of the rows.
+pub fn calls_are_told()
+    ensures rows { (e : Typed) (q : ℕ) → Contains (called_by e) q ↔ CallsQuery e q }
+    ensures cycles { (queries : List Query) → ((u : ℕ) → IsOnCycle (rows_of 0 queries) u → ⊥) ↔ AreAcyclic queries }
+{}
+
+/// The rows of the table of operations say of each operation what the rules say of it.
+pub fn operations_are_told(metas: &Metas)
+    ensures single { (operation : Operation) (x : Ty) (args : List Ty) (t : Ty) → operation ≢ AsSingletonSet → OperationGives operation x args t ↔ RowGives operation x args t }
+    ensures collection { (operation : CollectionOperation) (kind : Kind) (of : Ty) (args : List Ty) (t : Ty)
+        → CollectionGives metas.now operation kind of args t ↔ CollectionRowGives metas.now operation kind of args t }
+    ensures iterator { (iterator : IteratorKind) (kind : Kind) (of body t : Ty) → IteratorGives iterator kind of body t ↔ IteratorRowGives iterator kind of body t }
+{
+    let _count = metas.len();
 }

@@ -40,8 +40,9 @@ mod written;
 pub use env::Env;
 pub use fault::{TypeError, TypeFault};
 pub use laws::{
-    conformance_is_told, one_type_is_had, types_agree_on_a_top, types_are_told_apart,
-    typing_is_told,
+    calls_are_told, conformance_is_told, declared_types_are_told, one_type_is_had,
+    operations_are_told, queries_are_typed, query_typing_is_told, rules_are_told, trees_are_typed,
+    types_agree_on_a_top, types_are_told_apart, typing_is_told,
 };
 pub use limits::MAX_NUMBERED;
 pub use metas::Metas;

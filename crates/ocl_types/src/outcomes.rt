@@ -3,7 +3,8 @@ ghost use Rattle.ocl_types.specs.declared.fault.TypeFault.TheVariants as faults;
 ghost use Rattle.ocl_types.specs.Naming.{path_text as text_of_path};
 ghost use Rattle.ocl_types.specs.Outcomes.{wrong_type as wrong};
 ghost use Rattle.ocl_types.specs.TypingOperators.{exactly as just};
-ghost use Rattle.ocl_types.specs.Written.{Gives};
+ghost use Rattle.mof_metamodel.specs.Giving.{Gives};
+ghost use Rattle.ocl_types.specs.Written.{fault_in};
 
 use crate::agreement::same_type;
 use crate::fault::{TypeError, TypeFault};
@@ -68,7 +69,7 @@ pub(crate) fn exactly(
     wanted: &Ty,
     found: &Ty,
 ) -> Result<(), TypeError>
-    ensures { Gives result (just metas.now wanted.now found.now) }
+    ensures { Gives fault_in (λ x. x) result (just metas.now wanted.now found.now) }
 {
     if same_type(found, wanted) {
         return Ok(());

@@ -1,5 +1,6 @@
 ghost use Rattle.std.specs.Prelude.{◌≡◌, chars, IfOk};
-ghost use Rattle.ocl_types.specs.Written.{Gives};
+ghost use Rattle.mof_metamodel.specs.Giving.{Gives};
+ghost use Rattle.ocl_types.specs.Written.{fault_in};
 ghost use Rattle.ocl_types.specs.Parts.{tree_of, trees_of as all_trees, with_models as joined_with, one_model as model_alone, uncalled as started, and_called as stepped};
 
 use crate::agreement::joined_models;
@@ -50,7 +51,7 @@ pub(crate) fn one_model(
     name: &str,
     joined: Option<Option<u32>>,
 ) -> Result<Option<u32>, TypeError>
-    ensures { Gives result (model_alone (chars name.now) joined) }
+    ensures { Gives fault_in (λ x. x) result (model_alone (chars name.now) joined) }
 {
     match joined {
         Some(model) => Ok(model),

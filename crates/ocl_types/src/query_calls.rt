@@ -1,5 +1,6 @@
 ghost use Rattle.std.specs.Prelude.{◌≡◌, ◌++◌, [], map, replicate, IfOk, OnOk};
-ghost use Rattle.ocl_types.specs.QueryCalls.{joined, called_by, called_in_node, called_in_call, called_behind, called_with, rows_of};
+ghost use Rattle.std.specs.List.{concat};
+ghost use Rattle.ocl_types.specs.QueryCalls.{called_by, called_in_node, called_in_call, called_behind, called_with, rows_of};
 
 use mof_metamodel::{NoMemory, Seq};
 use qv_syntax::{Call, Node, Query, Typed, TypedInfix, TypedPostfix};
@@ -16,7 +17,7 @@ fn put_calls(calls: &mut Seq<u32>, tree: &Typed) -> Result<(), NoMemory>
 /// The same of several expressions.
 #[cycle(calls)]
 fn put_all(calls: &mut Seq<u32>, trees: &[Typed]) -> Result<(), NoMemory>
-    ensures { OnOk result (calls.new ≡ calls.old ++ joined (map called_by trees.now)) }
+    ensures { OnOk result (calls.new ≡ calls.old ++ concat (map called_by trees.now)) }
 {
     for tree in trees {
         put_calls(calls, tree)?;
@@ -27,7 +28,7 @@ fn put_all(calls: &mut Seq<u32>, trees: &[Typed]) -> Result<(), NoMemory>
 /// The same of the parts behind operators.
 #[cycle(calls)]
 fn put_links(calls: &mut Seq<u32>, links: &[TypedInfix]) -> Result<(), NoMemory>
-    ensures { OnOk result (calls.new ≡ calls.old ++ joined (map called_behind links.now)) }
+    ensures { OnOk result (calls.new ≡ calls.old ++ concat (map called_behind links.now)) }
 {
     for link in links {
         put_calls(calls, &link.right)?;
@@ -38,7 +39,7 @@ fn put_links(calls: &mut Seq<u32>, links: &[TypedInfix]) -> Result<(), NoMemory>
 /// The same of calls.
 #[cycle(calls)]
 fn put_postfixes(calls: &mut Seq<u32>, postfixes: &[TypedPostfix]) -> Result<(), NoMemory>
-    ensures { OnOk result (calls.new ≡ calls.old ++ joined (map called_with postfixes.now)) }
+    ensures { OnOk result (calls.new ≡ calls.old ++ concat (map called_with postfixes.now)) }
 {
     for postfix in postfixes {
         put_call(calls, &postfix.call)?;

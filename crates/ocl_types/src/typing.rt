@@ -1,5 +1,6 @@
 ghost use Rattle.std.specs.Prelude.{◌≡◌, [], map, IfOk, IsTrue, OnOk, option_copied};
-ghost use Rattle.ocl_types.specs.Written.{Gives};
+ghost use Rattle.mof_metamodel.specs.Giving.{Gives};
+ghost use Rattle.ocl_types.specs.Written.{fault_in};
 ghost use Rattle.ocl_types.specs.Scopes.{in_reach};
 ghost use Rattle.ocl_types.specs.Parts.{plain_part, uncalled as started};
 ghost use Rattle.ocl_types.specs.Forms.{is_let, is_if, is_calls, is_iterator};
@@ -34,10 +35,9 @@ fn plain(ty: Ty, node: Node) -> TypedPart
 
 /// `let name : type = value in body`
 #[cycle(typing)]
-#[tactic(auto, using(crate::proofs::TypingLaws::let_done, crate::proofs::TypingLaws::let_failed))]
 fn type_let(alloc: Global, scope: &mut Scope<'_>, expr: &Expr) -> Result<TypedPart, TypeError>
     requires { IsTrue (is_let expr.now) }
-    ensures value { Gives result ((meaning expr.now).typing (in_reach scope.old)) }
+    ensures value { Gives fault_in (λ x. x) result ((meaning expr.now).typing (in_reach scope.old)) }
     ensures scope { OnOk result (scope.new ≡ scope.old) }
 {
     match expr {
@@ -66,7 +66,7 @@ fn type_let(alloc: Global, scope: &mut Scope<'_>, expr: &Expr) -> Result<TypedPa
 #[cycle(typing)]
 fn type_calls(alloc: Global, scope: &mut Scope<'_>, expr: &Expr) -> Result<TypedPart, TypeError>
     requires { IsTrue (is_calls expr.now) }
-    ensures value { Gives result ((meaning expr.now).typing (in_reach scope.old)) }
+    ensures value { Gives fault_in (λ x. x) result ((meaning expr.now).typing (in_reach scope.old)) }
     ensures scope { OnOk result (scope.new ≡ scope.old) }
 {
     match expr {
@@ -92,7 +92,7 @@ fn type_calls(alloc: Global, scope: &mut Scope<'_>, expr: &Expr) -> Result<Typed
 #[tactic(auto, using(crate::proofs::TypingLaws::if_given))]
 fn type_if(alloc: Global, scope: &mut Scope<'_>, expr: &Expr) -> Result<TypedPart, TypeError>
     requires { IsTrue (is_if expr.now) }
-    ensures value { Gives result ((meaning expr.now).typing (in_reach scope.old)) }
+    ensures value { Gives fault_in (λ x. x) result ((meaning expr.now).typing (in_reach scope.old)) }
     ensures scope { OnOk result (scope.new ≡ scope.old) }
 {
     match expr {
@@ -115,7 +115,7 @@ fn type_if(alloc: Global, scope: &mut Scope<'_>, expr: &Expr) -> Result<TypedPar
 #[cycle(typing)]
 #[tactic(auto, using(crate::proofs::TypingLaws::not_given, crate::proofs::TypingLaws::negated_given))]
 fn type_part(alloc: Global, scope: &mut Scope<'_>, expr: &Expr) -> Result<TypedPart, TypeError>
-    ensures value { Gives result ((meaning expr.now).typing (in_reach scope.old)) }
+    ensures value { Gives fault_in (λ x. x) result ((meaning expr.now).typing (in_reach scope.old)) }
     ensures scope { OnOk result (scope.new ≡ scope.old) }
 {
     match expr {
@@ -160,7 +160,7 @@ fn type_parts(
     scope: &mut Scope<'_>,
     exprs: &[Expr],
 ) -> Result<Seq<TypedPart>, TypeError>
-    ensures value { Gives result (parts_from (in_reach scope.old) [] (map (λ e. e.typing) (map meaning exprs.now))) }
+    ensures value { Gives fault_in (λ x. x) result (parts_from (in_reach scope.old) [] (map (λ e. e.typing) (map meaning exprs.now))) }
     ensures scope { OnOk result (scope.new ≡ scope.old) }
 {
     let mut parts = Seq::new(alloc);
@@ -180,7 +180,7 @@ fn type_links(
     chain: Chained,
     links: &[Infix],
 ) -> Result<Chained, TypeError>
-    ensures value { Gives result (chained_from (in_reach scope.old) chain (map operated_by links.now)) }
+    ensures value { Gives fault_in (λ x. x) result (chained_from (in_reach scope.old) chain (map operated_by links.now)) }
     ensures scope { OnOk result (scope.new ≡ scope.old) }
 {
     let mut reached = chain;
@@ -200,7 +200,7 @@ fn type_linked(
     part: TypedPart,
     links: &[Infix],
 ) -> Result<TypedPart, TypeError>
-    ensures value { Gives result (part_linked (in_reach scope.old) part (map operated_by links.now)) }
+    ensures value { Gives fault_in (λ x. x) result (part_linked (in_reach scope.old) part (map operated_by links.now)) }
     ensures scope { OnOk result (scope.new ≡ scope.old) }
 {
     let chain = unchained(alloc, &part)?;
@@ -216,7 +216,7 @@ fn type_query(
     name: &Name,
     args: &Args,
 ) -> Result<TypedPart, TypeError>
-    ensures value { Gives result (query_typing (in_reach scope.old) name.now.text (given args.now)) }
+    ensures value { Gives fault_in (λ x. x) result (query_typing (in_reach scope.old) name.now.text (given args.now)) }
     ensures scope { OnOk result (scope.new ≡ scope.old) }
 {
     match args {
@@ -237,7 +237,7 @@ fn type_dot(
     args: &Args,
     called: CallsSoFar,
 ) -> Result<CallsSoFar, TypeError>
-    ensures value { Gives result (dot_typing name.now.text (given args.now) (in_reach scope.old) called) }
+    ensures value { Gives fault_in (λ x. x) result (dot_typing name.now.text (given args.now) (in_reach scope.old) called) }
     ensures scope { OnOk result (scope.new ≡ scope.old) }
 {
     match args {
@@ -258,7 +258,7 @@ fn type_arrow(
     args: &Args,
     called: CallsSoFar,
 ) -> Result<CallsSoFar, TypeError>
-    ensures value { Gives result (arrow_typing name.now.text (given args.now) (in_reach scope.old) called) }
+    ensures value { Gives fault_in (λ x. x) result (arrow_typing name.now.text (given args.now) (in_reach scope.old) called) }
     ensures scope { OnOk result (scope.new ≡ scope.old) }
 {
     match args {
@@ -279,7 +279,7 @@ fn type_iterator(
     call: &Postfix,
 ) -> Result<CallsSoFar, TypeError>
     requires { IsTrue (is_iterator call.now) }
-    ensures value { Gives result ((calling call.now).after (in_reach scope.old) called) }
+    ensures value { Gives fault_in (λ x. x) result ((calling call.now).after (in_reach scope.old) called) }
     ensures scope { OnOk result (scope.new ≡ scope.old) }
 {
     match call {
@@ -310,7 +310,7 @@ fn type_postfix(
     called: CallsSoFar,
     call: &Postfix,
 ) -> Result<CallsSoFar, TypeError>
-    ensures value { Gives result ((calling call.now).after (in_reach scope.old) called) }
+    ensures value { Gives fault_in (λ x. x) result ((calling call.now).after (in_reach scope.old) called) }
     ensures scope { OnOk result (scope.new ≡ scope.old) }
 {
     match call {
@@ -330,7 +330,7 @@ fn type_postfixes(
     called: CallsSoFar,
     calls: &[Postfix],
 ) -> Result<CallsSoFar, TypeError>
-    ensures value { Gives result (called_from (in_reach scope.old) called (map calling calls.now)) }
+    ensures value { Gives fault_in (λ x. x) result (called_from (in_reach scope.old) called (map calling calls.now)) }
     ensures scope { OnOk result (scope.new ≡ scope.old) }
 {
     let mut reached = called;
@@ -377,7 +377,7 @@ fn type_called(
     part: TypedPart,
     calls: &[Postfix],
 ) -> Result<TypedPart, TypeError>
-    ensures value { Gives result (part_called (in_reach scope.old) part (map calling calls.now)) }
+    ensures value { Gives fault_in (λ x. x) result (part_called (in_reach scope.old) part (map calling calls.now)) }
     ensures scope { OnOk result (scope.new ≡ scope.old) }
 {
     if calls.is_empty() {
@@ -450,7 +450,7 @@ fn extent_path<'e>(of: &'e Expr, call: &Postfix) -> Option<&'e Path>
 /// The first fault in the order of evaluation, and `NoMemory`.
 #[tactic(auto, unfolding(crate::specs::Typing::typed, crate::specs::Typing::part_of))]
 pub fn type_expr(alloc: Global, env: &Env<'_>, expr: &Expr) -> Result<Typed, TypeError>
-    ensures { Gives result (typed env.now expr.now) }
+    ensures { Gives fault_in (λ x. x) result (typed env.now expr.now) }
 {
     let mut scope = Scope::over(alloc, env);
     let part = type_part(alloc, &mut scope, expr)?;

@@ -1,7 +1,8 @@
 ghost use Rattle.std.specs.Prelude.{◌≡◌, false, IfOk, OnOk, Some, is_some};
 ghost use Rattle.ocl_types.specs.Environments.{is_bound};
 ghost use Rattle.ocl_types.specs.Scopes.{in_reach};
-ghost use Rattle.ocl_types.specs.Written.{Gives};
+ghost use Rattle.mof_metamodel.specs.Giving.{Gives};
+ghost use Rattle.ocl_types.specs.Written.{fault_in};
 ghost use Rattle.ocl_types.specs.Agreement.{collection_parts as parts_meant};
 ghost use Rattle.ocl_types.specs.TypingCollections.{kind_of as kind_meant, element_of as element_meant, gathered as gathered_from, given_elements as elements_given, given_type as type_given, given_types as types_given, summed as sum_asks, result_model as model_left, called_on as collection_called, operated_on as operated, collection_operation_by, collection_operation_rule as operation_meaning, variable_type as type_of_variable, iterator_variable as variable_of_iterator, iterated_type as iteration_gives, iterated_model as model_iterated, iterated as iteration, condition as asks_condition, iterator_by, iterator_rule as iterator_meaning};
 
@@ -90,7 +91,7 @@ fn given_elements(
     of: &Ty,
     ty: &Ty,
 ) -> Result<Ty, TypeError>
-    ensures { Gives result (elements_given metas.now same kind of.now ty.now (parts_meant ty.now)) }
+    ensures { Gives fault_in (λ x. x) result (elements_given metas.now same kind of.now ty.now (parts_meant ty.now)) }
 {
     match collection_parts(ty) {
         Some((other, inner)) => {
@@ -116,7 +117,7 @@ fn given_type(
     of: &Ty,
     ty: &Ty,
 ) -> Result<Ty, TypeError>
-    ensures { Gives result (type_given metas.now argument kind of.now ty.now) }
+    ensures { Gives fault_in (λ x. x) result (type_given metas.now argument kind of.now ty.now) }
 {
     match argument {
         Argument::Nothing => Ok(of.duplicate(alloc)?),
@@ -139,7 +140,7 @@ fn given_types(
     of: &Ty,
     args: &[TypedPart],
 ) -> Result<Ty, TypeError>
-    ensures { Gives result (types_given metas.now argument kind of.now args.now) }
+    ensures { Gives fault_in (λ x. x) result (types_given metas.now argument kind of.now args.now) }
 {
     match args {
         [] => Ok(of.duplicate(alloc)?),
@@ -154,7 +155,7 @@ fn summed(
     operation: CollectionOperation,
     of: &Ty,
 ) -> Result<(), TypeError>
-    ensures { Gives result (sum_asks metas.now operation of.now) }
+    ensures { Gives fault_in (λ x. x) result (sum_asks metas.now operation of.now) }
 {
     match operation {
         CollectionOperation::Sum => exactly(alloc, metas, &Ty::Int, of),
@@ -205,7 +206,7 @@ fn operate(
     args: Seq<TypedPart>,
     operation: CollectionOperation,
 ) -> Result<CallsSoFar, TypeError>
-    ensures { Gives result (collection_operation_by metas.now name.now called args (Some operation)) }
+    ensures { Gives fault_in (λ x. x) result (collection_operation_by metas.now name.now called args (Some operation)) }
 {
     let row = collection_row(operation);
     let kind = kind_of(&called.ty);
@@ -233,7 +234,7 @@ pub(crate) fn collection_operation_rule(
     called: CallsSoFar,
     args: Seq<TypedPart>,
 ) -> Result<CallsSoFar, TypeError>
-    ensures { Gives result (operation_meaning metas.now name.now called args) }
+    ensures { Gives fault_in (λ x. x) result (operation_meaning metas.now name.now called args) }
 {
     match collection_operation_named(name.as_str()) {
         Some(operation) => operate(alloc, metas, name, called, args, operation),
@@ -248,7 +249,7 @@ fn variable_type(
     tree: &Option<TypeTree>,
     of: Ty,
 ) -> Result<Ty, TypeError>
-    ensures { Gives result (type_of_variable env.now tree.now of) }
+    ensures { Gives fault_in (λ x. x) result (type_of_variable env.now tree.now of) }
 {
     match tree {
         None => Ok(of),
@@ -269,7 +270,7 @@ fn variable_type_within(
     tree: &Option<TypeTree>,
     of: Ty,
 ) -> Result<Ty, TypeError>
-    ensures { Gives result (type_of_variable (in_reach scope.now) tree.now of) }
+    ensures { Gives fault_in (λ x. x) result (type_of_variable (in_reach scope.now) tree.now of) }
 {
     variable_type(alloc, scope.env(), tree, of)
 }
@@ -283,7 +284,7 @@ pub(crate) fn iterator_variable(
     tree: &Option<TypeTree>,
     called: &CallsSoFar,
 ) -> Result<Variable, TypeError>
-    ensures given { Gives result (variable_of_iterator (in_reach scope.now) name.now tree.now called.now) }
+    ensures given { Gives fault_in (λ x. x) result (variable_of_iterator (in_reach scope.now) name.now tree.now called.now) }
     ensures unbound { OnOk result (is_bound (in_reach scope.now) name.now ≡ false) }
 {
     free_name(alloc, scope, name)?;
@@ -355,7 +356,7 @@ fn condition(
     conditional: bool,
     ty: &Ty,
 ) -> Result<(), TypeError>
-    ensures { Gives result (asks_condition metas.now conditional ty.now) }
+    ensures { Gives fault_in (λ x. x) result (asks_condition metas.now conditional ty.now) }
 {
     if conditional && !same_type(ty, &Ty::Bool) {
         return Err(TypeError::Fault(wrong_type(alloc, metas, &Ty::Bool, ty)?));
@@ -373,7 +374,7 @@ pub(crate) fn iterator_rule(
     called: CallsSoFar,
     body: TypedPart,
 ) -> Result<CallsSoFar, TypeError>
-    ensures { Gives result (iterator_meaning metas.now name.now variable called body) }
+    ensures { Gives fault_in (λ x. x) result (iterator_meaning metas.now name.now variable called body) }
 {
     match iterator_named(name.as_str()) {
         Some(iterator) => {

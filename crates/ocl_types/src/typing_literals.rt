@@ -2,7 +2,8 @@ ghost use Rattle.std.specs.Prelude.{◌≡◌, fold};
 ghost use Rattle.ocl_types.specs.Agreement.{higher as higher_of, all_fit as all_fitting};
 ghost use Rattle.ocl_types.specs.Parts.{types_of};
 ghost use Rattle.ocl_types.specs.TypingOperators.{literal_type as type_of_literal, literal_rule as literal_of};
-ghost use Rattle.ocl_types.specs.Written.{Gives};
+ghost use Rattle.mof_metamodel.specs.Giving.{Gives};
+ghost use Rattle.ocl_types.specs.Written.{fault_in};
 
 use crate::agreement::{fits, higher};
 use crate::fault::TypeError;
@@ -33,7 +34,7 @@ fn all_fit(
     top: &Ty,
     parts: &[TypedPart],
 ) -> Result<Ty, TypeError>
-    ensures { Gives result (all_fitting metas.now top.now (types_of parts.now)) }
+    ensures { Gives fault_in (λ x. x) result (all_fitting metas.now top.now (types_of parts.now)) }
 {
     for part in parts {
         if !fits(metas, &part.ty, top) {
@@ -45,7 +46,7 @@ fn all_fit(
 
 /// The type of the elements of a collection literal: that of null, where there are none.
 fn literal_type(alloc: Global, metas: &[MetaModel], parts: &[TypedPart]) -> Result<Ty, TypeError>
-    ensures { Gives result (type_of_literal metas.now (types_of parts.now)) }
+    ensures { Gives fault_in (λ x. x) result (type_of_literal metas.now (types_of parts.now)) }
 {
     match parts {
         [] => Ok(Ty::Null),
@@ -65,7 +66,7 @@ pub(crate) fn literal_rule(
     kind: Kind,
     elements: Seq<TypedPart>,
 ) -> Result<TypedPart, TypeError>
-    ensures { Gives result (literal_of metas.now kind elements) }
+    ensures { Gives fault_in (λ x. x) result (literal_of metas.now kind elements) }
 {
     let of = literal_type(alloc, metas, elements.as_slice())?;
     let joined = with_models(None, elements.as_slice());

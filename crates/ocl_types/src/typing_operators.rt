@@ -3,7 +3,8 @@ ghost use Rattle.ocl_types.specs.TypingOperators.{both as both_of, comparable_el
 ghost use Rattle.ocl_types.specs.Agreement.{collection_parts as parts_of_collection};
 ghost use Rattle.qv_syntax.specs.declared.typed.Node.TheVariants as nodes;
 ghost use Rattle.ocl_types.specs.Parts.{tree_of};
-ghost use Rattle.ocl_types.specs.Written.{Gives};
+ghost use Rattle.mof_metamodel.specs.Giving.{Gives};
+ghost use Rattle.ocl_types.specs.Written.{fault_in};
 
 use crate::agreement::{
     are_related, collection_parts, is_null, joined_models, model_for, same_kind, same_type, upper,
@@ -26,7 +27,7 @@ fn both(
     right: &Ty,
     gives: Ty,
 ) -> Result<Ty, TypeError>
-    ensures { Gives result (both_of metas.now wanted.now left.now right.now gives) }
+    ensures { Gives fault_in (λ x. x) result (both_of metas.now wanted.now left.now right.now gives) }
 {
     exactly(alloc, metas, wanted, left)?;
     exactly(alloc, metas, wanted, right)?;
@@ -52,7 +53,7 @@ fn are_comparable(metas: &[MetaModel], a: &Ty, b: &Ty) -> bool
 
 /// The type of `=` and `<>` between two types.
 fn compared(alloc: Global, metas: &[MetaModel], a: &Ty, b: &Ty) -> Result<Ty, TypeError>
-    ensures { Gives result (compared_by metas.now a.now b.now) }
+    ensures { Gives fault_in (λ x. x) result (compared_by metas.now a.now b.now) }
 {
     if are_comparable(metas, a, b) {
         return Ok(Ty::Bool);
@@ -62,7 +63,7 @@ fn compared(alloc: Global, metas: &[MetaModel], a: &Ty, b: &Ty) -> Result<Ty, Ty
 
 /// The type of `+` between two types: Strings or Integers, as the first one is.
 fn added(alloc: Global, metas: &[MetaModel], a: &Ty, b: &Ty) -> Result<Ty, TypeError>
-    ensures { Gives result (added_by metas.now a.now b.now) }
+    ensures { Gives fault_in (λ x. x) result (added_by metas.now a.now b.now) }
 {
     if same_type(a, &Ty::Str) {
         both(alloc, metas, &Ty::Str, a, b, Ty::Str)
@@ -79,7 +80,7 @@ fn operated(
     a: &Ty,
     b: &Ty,
 ) -> Result<Ty, TypeError>
-    ensures { Gives result (operated_by metas.now operator a.now b.now) }
+    ensures { Gives fault_in (λ x. x) result (operated_by metas.now operator a.now b.now) }
 {
     match operator {
         Operator::Implies | Operator::Xor | Operator::Or | Operator::And => both(
@@ -106,7 +107,7 @@ fn operated(
 
 /// The type of two branches of an `if`.
 fn branches(alloc: Global, metas: &[MetaModel], one: &Ty, other: &Ty) -> Result<Ty, TypeError>
-    ensures { Gives result (branches_of metas.now one.now other.now) }
+    ensures { Gives fault_in (λ x. x) result (branches_of metas.now one.now other.now) }
 {
     if is_null(one) {
         Ok(other.duplicate(alloc)?)
@@ -163,7 +164,7 @@ pub(crate) fn link_rule(
     operator: Operator,
     right: TypedPart,
 ) -> Result<Chained, TypeError>
-    ensures { Gives result (linked_by metas.now chain operator right) }
+    ensures { Gives fault_in (λ x. x) result (linked_by metas.now chain operator right) }
 {
     let ty = operated(alloc, metas, operator, &chain.ty, &right.ty)?;
     Ok(and_linked(alloc, chain, operator, right, ty)?)
@@ -195,7 +196,7 @@ pub(crate) fn not_rule(
     metas: &[MetaModel],
     operand: TypedPart,
 ) -> Result<TypedPart, TypeError>
-    ensures { Gives result (not_of metas.now operand) }
+    ensures { Gives fault_in (λ x. x) result (not_of metas.now operand) }
 {
     exactly(alloc, metas, &Ty::Bool, &operand.ty)?;
     let operand = boxed_tree(alloc, operand)?;
@@ -213,7 +214,7 @@ pub(crate) fn negated_rule(
     metas: &[MetaModel],
     operand: TypedPart,
 ) -> Result<TypedPart, TypeError>
-    ensures { Gives result (negated_of metas.now operand) }
+    ensures { Gives fault_in (λ x. x) result (negated_of metas.now operand) }
 {
     exactly(alloc, metas, &Ty::Int, &operand.ty)?;
     let operand = boxed_tree(alloc, operand)?;
@@ -258,7 +259,7 @@ fn if_branches(
     one: &TypedPart,
     other: &TypedPart,
 ) -> Result<(Ty, Option<u32>), TypeError>
-    ensures { Gives result (branches_of_if metas.now condition.now one.now other.now) }
+    ensures { Gives fault_in (λ x. x) result (branches_of_if metas.now condition.now one.now other.now) }
 {
     exactly(alloc, metas, &Ty::Bool, condition)?;
     let ty = branches(alloc, metas, &one.ty, &other.ty)?;
@@ -275,7 +276,7 @@ pub(crate) fn if_rule(
     one: TypedPart,
     other: TypedPart,
 ) -> Result<TypedPart, TypeError>
-    ensures { Gives result (if_of metas.now condition one other) }
+    ensures { Gives fault_in (λ x. x) result (if_of metas.now condition one other) }
 {
     match if_branches(alloc, metas, &condition.ty, &one, &other) {
         Ok((ty, model)) => Ok(if_part(alloc, condition, one, other, ty, model)?),

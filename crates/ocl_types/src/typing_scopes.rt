@@ -4,7 +4,8 @@ ghost use Rattle.ocl_types.specs.Scopes.{in_reach};
 ghost use Rattle.ocl_types.specs.Naming.{names_of};
 ghost use Rattle.ocl_types.specs.Classifiers.{named_literal};
 ghost use Rattle.ocl_types.specs.TypingScopes.{variable_part as variable_of, literal_by, path_part as path_of, element as element_of, flat as flat_of, declared_type as declared_by, free_name as free, let_type as type_of_let, let_variable as variable_of_let, let_part as part_of_let};
-ghost use Rattle.ocl_types.specs.Written.{Gives};
+ghost use Rattle.mof_metamodel.specs.Giving.{Gives};
+ghost use Rattle.ocl_types.specs.Written.{fault_in};
 
 use crate::agreement::{collection_parts, fits};
 use crate::env::Env;
@@ -21,7 +22,7 @@ use std::alloc::Global;
 
 /// A variable that is in reach.
 fn variable_part(alloc: Global, scope: &Scope<'_>, name: &Text) -> Result<TypedPart, TypeError>
-    ensures { Gives result (variable_of (in_reach scope.now) name.now) }
+    ensures { Gives fault_in (λ x. x) result (variable_of (in_reach scope.now) name.now) }
 {
     match scope.variable(name) {
         Some((number, variable)) => {
@@ -38,7 +39,7 @@ fn variable_part(alloc: Global, scope: &Scope<'_>, name: &Text) -> Result<TypedP
 
 /// A literal of an enumeration.
 fn literal_part(alloc: Global, env: &Env<'_>, path: &Path) -> Result<TypedPart, TypeError>
-    ensures { Gives result (literal_by (names_of path.now) (named_literal env.now (names_of path.now))) }
+    ensures { Gives fault_in (λ x. x) result (literal_by (names_of path.now) (named_literal env.now (names_of path.now))) }
 {
     match env.named_literal(path) {
         Some((meta, enumeration, literal)) => Ok(TypedPart {
@@ -61,7 +62,7 @@ pub(crate) fn path_part(
     scope: &Scope<'_>,
     path: &Path,
 ) -> Result<TypedPart, TypeError>
-    ensures { Gives result (path_of (in_reach scope.now) path.now) }
+    ensures { Gives fault_in (λ x. x) result (path_of (in_reach scope.now) path.now) }
 {
     match path.names.as_slice() {
         [] => literal_part(alloc, scope.env(), path),
@@ -72,7 +73,7 @@ pub(crate) fn path_part(
 
 /// The type of an element: no collection.
 pub(crate) fn element(alloc: Global, metas: &[MetaModel], ty: &Ty) -> Result<Ty, TypeError>
-    ensures { Gives result (element_of metas.now ty.now) }
+    ensures { Gives fault_in (λ x. x) result (element_of metas.now ty.now) }
 {
     match collection_parts(ty) {
         None => Ok(ty.duplicate(alloc)?),
@@ -82,7 +83,7 @@ pub(crate) fn element(alloc: Global, metas: &[MetaModel], ty: &Ty) -> Result<Ty,
 
 /// A type that isn't a collection of collections.
 fn flat(alloc: Global, metas: &[MetaModel], ty: &Ty) -> Result<Ty, TypeError>
-    ensures { Gives result (flat_of metas.now ty.now) }
+    ensures { Gives fault_in (λ x. x) result (flat_of metas.now ty.now) }
 {
     match collection_parts(ty) {
         None => Ok(ty.duplicate(alloc)?),
@@ -95,7 +96,7 @@ fn flat(alloc: Global, metas: &[MetaModel], ty: &Ty) -> Result<Ty, TypeError>
 
 /// The type that is written for a variable.
 pub(crate) fn declared_type(alloc: Global, env: &Env<'_>, tree: &TypeTree) -> Result<Ty, TypeError>
-    ensures { Gives result (declared_by env.now tree.now) }
+    ensures { Gives fault_in (λ x. x) result (declared_by env.now tree.now) }
 {
     let ty = written_type(alloc, env, tree)?;
     flat(alloc, env.metas(), &ty)
@@ -103,7 +104,7 @@ pub(crate) fn declared_type(alloc: Global, env: &Env<'_>, tree: &TypeTree) -> Re
 
 /// Whether a name is free: variables hide nothing.
 pub(crate) fn free_name(alloc: Global, scope: &Scope<'_>, name: &Text) -> Result<(), TypeError>
-    ensures given { Gives result (free (in_reach scope.now) name.now) }
+    ensures given { Gives fault_in (λ x. x) result (free (in_reach scope.now) name.now) }
     ensures unbound { OnOk result (bound (in_reach scope.now) name.now ≡ false) }
 {
     if scope.is_bound(name) {
@@ -119,7 +120,7 @@ pub(crate) fn let_type(
     name: &Text,
     tree: &TypeTree,
 ) -> Result<Ty, TypeError>
-    ensures given { Gives result (type_of_let (in_reach scope.now) name.now tree.now) }
+    ensures given { Gives fault_in (λ x. x) result (type_of_let (in_reach scope.now) name.now tree.now) }
     ensures unbound { OnOk result (bound (in_reach scope.now) name.now ≡ false) }
 {
     free_name(alloc, scope, name)?;
@@ -134,7 +135,7 @@ pub(crate) fn let_variable(
     ty: Ty,
     value: &TypedPart,
 ) -> Result<Variable, TypeError>
-    ensures { Gives result (variable_of_let metas.now ty value.now) }
+    ensures { Gives fault_in (λ x. x) result (variable_of_let metas.now ty value.now) }
 {
     if !fits(metas, &value.ty, &ty) {
         return Err(TypeError::Fault(wrong_type(alloc, metas, &ty, &value.ty)?));

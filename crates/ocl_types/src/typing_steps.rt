@@ -3,7 +3,8 @@ ghost use Rattle.std.specs.Option.{option_map, option_and_then};
 ghost use Rattle.mof_metamodel.specs.Metamodels.{prop_count, prop_number, class_count};
 ghost use Rattle.ocl_types.specs.Environments.{class_of as class_meant};
 ghost use Rattle.ocl_types.specs.Scopes.{in_reach};
-ghost use Rattle.ocl_types.specs.Written.{Gives};
+ghost use Rattle.mof_metamodel.specs.Giving.{Gives};
+ghost use Rattle.ocl_types.specs.Written.{fault_in};
 ghost use Rattle.ocl_types.specs.TypingSteps.{described as described_prop, class_property as property_of_class, property_of as property_meant, navigated_to, collected_from, property_rule as property_meaning, each_exactly as all_exactly, counted as has_count, called_with as value_called_with, operation_by, operation_rule as operation_meaning, class_or, class_at_path as path_class, is_of_meta as meta_is, tested as test_gives, tested_with as test_meaning, class_operation_rule as class_operation_meaning, model_or, extent_part as extent_of, extent_rule as extent_meaning, each_fits as all_fits, query_by, query_rule as query_meaning};
 
 use crate::agreement::{collection_parts, fits, model_for};
@@ -89,7 +90,7 @@ fn navigate(
     called: CallsSoFar,
     property: Option<(PropId, Values, Ty)>,
 ) -> Result<CallsSoFar, TypeError>
-    ensures { Gives result (navigated_to name.now called property) }
+    ensures { Gives fault_in (λ x. x) result (navigated_to name.now called property) }
 {
     match property {
         Some((prop, values, ty)) => {
@@ -110,7 +111,7 @@ fn collect(
     kind: Kind,
     property: Option<(PropId, Values, Ty)>,
 ) -> Result<CallsSoFar, TypeError>
-    ensures { Gives result (collected_from name.now called kind property) }
+    ensures { Gives fault_in (λ x. x) result (collected_from name.now called kind property) }
 {
     match property {
         Some((prop, values, ty)) => {
@@ -131,7 +132,7 @@ pub(crate) fn property_rule(
     name: &Text,
     called: CallsSoFar,
 ) -> Result<CallsSoFar, TypeError>
-    ensures { Gives result (property_meaning metas.now name.now called) }
+    ensures { Gives fault_in (λ x. x) result (property_meaning metas.now name.now called) }
 {
     match collection_parts(&called.ty) {
         Some((kind, inner)) => {
@@ -165,7 +166,7 @@ fn each_exactly(
     wanted: &Ty,
     args: &[TypedPart],
 ) -> Result<(), TypeError>
-    ensures { Gives result (all_exactly metas.now wanted.now args.now) }
+    ensures { Gives fault_in (λ x. x) result (all_exactly metas.now wanted.now args.now) }
 {
     for arg in args {
         exactly(alloc, metas, wanted, &arg.ty)?;
@@ -180,7 +181,7 @@ pub(crate) fn counted(
     count: usize,
     args: &[TypedPart],
 ) -> Result<(), TypeError>
-    ensures { Gives result (has_count name.now count args.now) }
+    ensures { Gives fault_in (λ x. x) result (has_count name.now count args.now) }
 {
     if args.len() == count {
         Ok(())
@@ -198,7 +199,7 @@ fn operate(
     args: Seq<TypedPart>,
     operation: Operation,
 ) -> Result<CallsSoFar, TypeError>
-    ensures { Gives result (operation_by metas.now name.now called args (Some operation)) }
+    ensures { Gives fault_in (λ x. x) result (operation_by metas.now name.now called args (Some operation)) }
 {
     let row = operation_row(operation);
     if !is_receiver(row.receivers, &called.ty) {
@@ -231,7 +232,7 @@ pub(crate) fn operation_rule(
     called: CallsSoFar,
     args: Seq<TypedPart>,
 ) -> Result<CallsSoFar, TypeError>
-    ensures { Gives result (operation_meaning metas.now name.now called args) }
+    ensures { Gives fault_in (λ x. x) result (operation_meaning metas.now name.now called args) }
 {
     match operation_named(name.as_str()) {
         Some(operation) => operate(alloc, metas, name, called, args, operation),
@@ -241,7 +242,7 @@ pub(crate) fn operation_rule(
 
 /// The class that a path names alone.
 fn class_at_path(alloc: Global, env: &Env<'_>, path: &Path) -> Result<(u32, ClassId), TypeError>
-    ensures { Gives result (path_class env.now path.now) }
+    ensures { Gives fault_in (λ x. x) result (path_class env.now path.now) }
 {
     match env.named_class(path) {
         Some(class) => Ok(class),
@@ -277,7 +278,7 @@ fn tested_with(
     operation: ClassOperation,
     class: (u32, ClassId),
 ) -> Result<CallsSoFar, TypeError>
-    ensures { Gives result (test_meaning metas.now called operation class) }
+    ensures { Gives fault_in (λ x. x) result (test_meaning metas.now called operation class) }
 {
     if !is_of_meta(class.0, &called.ty) {
         let wanted = Ty::Class(class.0, class.1);
@@ -300,7 +301,7 @@ pub(crate) fn class_operation_rule(
     path: &Path,
     called: CallsSoFar,
 ) -> Result<CallsSoFar, TypeError>
-    ensures { Gives result (class_operation_meaning (in_reach scope.now) name.now path.now called) }
+    ensures { Gives fault_in (λ x. x) result (class_operation_meaning (in_reach scope.now) name.now path.now called) }
 {
     match class_operation_named(name.as_str()) {
         Some(operation) => {
@@ -318,7 +319,7 @@ fn each_fits(
     params: &[Ty],
     args: &[TypedPart],
 ) -> Result<(), TypeError>
-    ensures { Gives result (all_fits metas.now params.now args.now) }
+    ensures { Gives fault_in (λ x. x) result (all_fits metas.now params.now args.now) }
 {
     match params {
         [] => Ok(()),
@@ -343,7 +344,7 @@ fn call_query(
     number: u32,
     signature: &Signature,
 ) -> Result<TypedPart, TypeError>
-    ensures { Gives result (query_by metas.now name.now args (Some number) (Some signature.now)) }
+    ensures { Gives fault_in (λ x. x) result (query_by metas.now name.now args (Some number) (Some signature.now)) }
 {
     let params = signature.params.as_slice();
     counted(alloc, name, params.len(), args.as_slice())?;
@@ -368,7 +369,7 @@ pub(crate) fn query_rule(
     name: &Text,
     args: Seq<TypedPart>,
 ) -> Result<TypedPart, TypeError>
-    ensures { Gives result (query_meaning (in_reach scope.now) name.now args) }
+    ensures { Gives fault_in (λ x. x) result (query_meaning (in_reach scope.now) name.now args) }
 {
     match scope.env().query(name) {
         Some((number, signature)) => call_query(
@@ -385,7 +386,7 @@ pub(crate) fn query_rule(
 
 /// The model, or the fault that there is none, or more than one.
 fn model_found(alloc: Global, path: &Path, model: Option<u32>) -> Result<u32, TypeError>
-    ensures { Gives result (model_or path.now model) }
+    ensures { Gives fault_in (λ x. x) result (model_or path.now model) }
 {
     match model {
         Some(model) => Ok(model),
@@ -400,7 +401,7 @@ pub(crate) fn extent_rule(
     scope: &Scope<'_>,
     path: &Path,
 ) -> Result<TypedPart, TypeError>
-    ensures { Gives result (extent_meaning (in_reach scope.now) path.now) }
+    ensures { Gives fault_in (λ x. x) result (extent_meaning (in_reach scope.now) path.now) }
 {
     let (meta, class) = class_at_path(alloc, scope.env(), path)?;
     let model = model_found(alloc, path, scope.env().only_model(meta))?;

@@ -1,6 +1,7 @@
 ghost use Rattle.ocl_types.specs.Naming.{names_of};
 ghost use Rattle.ocl_types.specs.Classifiers.{named_type};
-ghost use Rattle.ocl_types.specs.Written.{Gives, found_type, written};
+ghost use Rattle.mof_metamodel.specs.Giving.{Gives};
+ghost use Rattle.ocl_types.specs.Written.{fault_in, found_type, written};
 
 use crate::env::Env;
 use crate::fault::{TypeError, TypeFault};
@@ -11,7 +12,7 @@ use std::alloc::Global;
 
 /// The type that a path names.
 fn path_type(alloc: Global, env: &Env<'_>, path: &Path) -> Result<Ty, TypeError>
-    ensures { Gives result (found_type (names_of path.now) (named_type env.now (names_of path.now))) }
+    ensures { Gives fault_in (λ x. x) result (found_type (names_of path.now) (named_type env.now (names_of path.now))) }
 {
     match env.named_type(path) {
         Some(ty) => Ok(ty),
@@ -25,7 +26,7 @@ fn path_type(alloc: Global, env: &Env<'_>, path: &Path) -> Result<Ty, TypeError>
 ///
 /// `UnknownName` with the path, where one doesn't name one class or enumeration alone, and `NoMemory`.
 pub fn written_type(alloc: Global, env: &Env<'_>, tree: &TypeTree) -> Result<Ty, TypeError>
-    ensures { Gives result (written env.now tree.now) }
+    ensures { Gives fault_in (λ x. x) result (written env.now tree.now) }
 {
     match tree {
         TypeTree::Str { .. } => Ok(Ty::Str),
