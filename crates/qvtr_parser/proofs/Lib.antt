@@ -19,4 +19,13 @@ pub mod Told
 pub mod ToldLists
 pub mod ToldTypes
 pub mod ToldScripts
+pub mod Ended
+pub mod EndedParts
+pub mod EndedLists
+pub mod EndedExprs
+pub mod EndedTemplates
+pub mod EndedScripts
 pub mod Refused
+pub mod Begun
+pub mod Tells
+pub mod OneAnswer

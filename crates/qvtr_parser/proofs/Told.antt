@@ -226,19 +226,23 @@ told_by {Y} {Is} {at} {step} {i} {m} {o} equal t = record {
 }
 
 -- a reading where a level less is left
-pub lower : {Y : Type 0} {Is : ℕ → Type 0} {at : Y → ℕ} {step i : ℕ} {m : Reading Y} → Told Is at step i m → Told (λ n. (1 ≤ n) × Is (n - 1)) at step i (λ ts n. m ts (n - 1))
-lower {Y} {Is} {at} {step} {i} {m} t = record {
-  on = λ ts n is. t.on ts (n - 1) is.1;
-  further = λ ts n is. t.further ts (n - 1) is.1;
-  within = λ ts n is. t.within ts (n - 1) is.1;
-  alike = λ ts us n w is same levels. t.alike ts us (n - 1) (w - 1) is.1 same (less n w (m ts (n - 1)) levels);
-  opens = λ ts n is. t.opens ts (n - 1) is.1;
+pub lower_all : {Y : Type 0} {Is : ℕ → Type 0} {at : Y → ℕ} {step i : ℕ} {m : Reading Y} → Told Is at step i m → Told (λ n. Is (n - 1)) at step i (λ ts n. m ts (n - 1))
+lower_all {Y} {Is} {at} {step} {i} {m} t = record {
+  on = λ ts n is. t.on ts (n - 1) is;
+  further = λ ts n is. t.further ts (n - 1) is;
+  within = λ ts n is. t.within ts (n - 1) is;
+  alike = λ ts us n w is same levels. t.alike ts us (n - 1) (w - 1) is same (less n w (m ts (n - 1)) levels);
+  opens = λ ts n is. t.opens ts (n - 1) is;
 }
   where
     less : (n w : ℕ) (r : Result Y Stop) → Levels n w r → Levels (n - 1) (w - 1) r
     less n w (Ok y) h = omega arith
     less n w (Err (stops.Stuck k)) h = omega arith
     less n w (Err (stops.Deep k)) h = ap (λ (x : ℕ). x - 1) h
+
+-- where one is left
+pub lower : {Y : Type 0} {Is : ℕ → Type 0} {at : Y → ℕ} {step i : ℕ} {m : Reading Y} → Told Is at step i m → Told (λ n. (1 ≤ n) × Is (n - 1)) at step i (λ ts n. m ts (n - 1))
+lower t = restricted (λ n is. is.1) (lower_all t)
 
 -- ---- single tokens
 

@@ -143,7 +143,7 @@ alike_by {A} {Is} go d end read l ts us n w is count other before at enough also
     by_other zero few less seen = absurd (omega (arith, few, less))
     by_other (suc more) few less seen = rw seen (by more few (read ts n at) refl same levels)
 
-alike_listed : {A : Type 0} {Is : ℕ → Type 0} (go : List Lexeme → ℕ → Bool) (d : ℕ) (end : List Lexeme → ℕ → ℕ) (read : List Lexeme → ℕ → ℕ → Read A) → Listed Is go d end read → (ts us : List Lexeme) (n w : ℕ) → Is n
+pub alike_listed : {A : Type 0} {Is : ℕ → Type 0} (go : List Lexeme → ℕ → Bool) (d : ℕ) (end : List Lexeme → ℕ → ℕ) (read : List Lexeme → ℕ → ℕ → Read A) → Listed Is go d end read → (ts us : List Lexeme) (n w : ℕ) → Is n
     → (count other : ℕ) (before : List A) (at : ℕ) → length ts ≤ at + count → length us ≤ at + other → Same ts us (number_of ends_at (listed go end read ts n count before at) + 1) → Levels n w (listed go end read ts n count before at)
     → listed go end read us w other before at ≡ listed go end read ts n count before at
 unfolding each_read
@@ -182,7 +182,7 @@ listed_told {A} {Is} go d end read l before i = record {
 }
 
 -- the list ends where no value follows
-unfinished : {A : Type 0} (r : Read (List A)) → and_then r (λ xs. Ok (xs.0, xs.1)) ≡ r
+pub unfinished : {A : Type 0} (r : Read (List A)) → and_then r (λ xs. Ok (xs.0, xs.1)) ≡ r
 unfinished (Ok xs) = refl
 unfinished (Err s) = refl
 

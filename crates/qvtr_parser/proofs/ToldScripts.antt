@@ -52,23 +52,23 @@ props_told : {Is : ℕ → Type 0} (i : ℕ) → Told Is ends_at 1 i (λ ts n. p
 unfolding props_read
 props_told i = loosen 1 (omega arith) (braced_told (codes "{") brace_opens i (λ x a. sequence (names_told x) (λ ns b. sequence (token_told (is_sign (codes "}")) ns.1) (λ end c. whole end (λ ts. ns.0) (λ ts us same. refl)))))
 
-key_told : {Is : ℕ → Type 0} (i : ℕ) → Told Is ends_at 1 i (λ ts n. key_read ts n i)
+pub key_told : {Is : ℕ → Type 0} (i : ℕ) → Told Is ends_at 1 i (λ ts n. key_read ts n i)
 unfolding key_read
 key_told i = loosen 1 (omega arith) (sequence (token_told (is_word (codes "key")) i) (λ first a. sequence (path_told first) (λ class b. sequence (props_told class.1) (λ props c. sequence (token_told (is_sign (codes ";")) props.1)
     (λ end d. ends_with i end (omega (arith, a, b, c, d)) (λ span. record { class = class.0; props = props.0; span = span }))))))
 
 -- ---- domains
 
-word_same : (text : List ℕ) (ts us : List Lexeme) (i k : ℕ) → i < k → Same ts us k → is_word_at us text i ≡ is_word_at ts text i
+pub word_same : (text : List ℕ) (ts us : List Lexeme) (i k : ℕ) → i < k → Same ts us k → is_word_at us text i ≡ is_word_at ts text i
 word_same text ts us i k less same = same_stands (is_word text) ts us k i less same
 
-marked_same : (ts us : List Lexeme) (i k : ℕ) → i < k → Same ts us k → is_marked us i ≡ is_marked ts i
+pub marked_same : (ts us : List Lexeme) (i k : ℕ) → i < k → Same ts us k → is_marked us i ≡ is_marked ts i
 marked_same ts us i k less same = rw (word_same (codes "checkonly") ts us i k less same, word_same (codes "enforce") ts us i k less same) refl
 
-mark_same : (ts us : List Lexeme) (i k : ℕ) → i < k → Same ts us k → mark_at us i ≡ mark_at ts i
+pub mark_same : (ts us : List Lexeme) (i k : ℕ) → i < k → Same ts us k → mark_at us i ≡ mark_at ts i
 mark_same ts us i k less same = rw (word_same (codes "checkonly") ts us i k less same, word_same (codes "enforce") ts us i k less same) refl
 
-mark_there : (ts : List Lexeme) (i : ℕ) → is_marked ts i ≡ true → i < length ts
+pub mark_there : (ts : List Lexeme) (i : ℕ) → is_marked ts i ≡ true → i < length ts
 mark_there ts i e = by (is_word_at ts (codes "checkonly") i) refl (is_word_at ts (codes "enforce") i) refl e
   where
     by : (a : Bool) → is_word_at ts (codes "checkonly") i ≡ a → (b : Bool) → is_word_at ts (codes "enforce") i ≡ b → (a || b) ≡ true → i < length ts
@@ -91,10 +91,10 @@ primitive_told i = loosen 1 (omega arith) (sequence (token_told (is_word (codes 
     (λ root c. sequence (token_told (is_sign (codes ":")) root.1) (λ colon d. sequence (type_told colon) (λ ty f. sequence (token_told (is_sign (codes ";")) ty.1)
     (λ end g. ends_with i end (omega (arith, a, b, c, d, f, g)) (λ span. domains.Primitive root.0 ty.0 span))))))))
 
-domain_told : {Is : ℕ → Type 0} (i : ℕ) → Told Is ends_at 1 i (λ ts n. domain_read ts n i)
+pub domain_told : {Is : ℕ → Type 0} (i : ℕ) → Told Is ends_at 1 i (λ ts n. domain_read ts n i)
 domain_told i = choice (λ ts. is_word_at ts (codes "primitive") i) (λ ts us same. word_same (codes "primitive") ts us i (i + 1) (omega arith) same) (primitive_told i) (pattern_told i)
 
-domain_test : Test begins_domain
+pub domain_test : Test begins_domain
 domain_test = record {
   there = λ ts j e. (domain_loop ts 0).within j e;
   seen = λ ts us j same. rw (
@@ -119,14 +119,14 @@ vars_told i = loosen 1 (omega arith) (sequence (names_told i) (λ ns a. sequence
 all_vars_told : {Is : ℕ → Type 0} (i : ℕ) → Told Is ends_at 0 i (λ ts n. all_vars_read ts n i)
 all_vars_told i = each_told is_name_at (test_of_token is_any_name) 0 (omega arith) (λ ts n j. vars_read ts n j) (λ j. here_told j (vars_told j)) [] i
 
-abbrev behind_semicolon : List Lexeme → ℕ → ℕ
+abbrev pub behind_semicolon : List Lexeme → ℕ → ℕ
 behind_semicolon ts j = behind_if (is_sign_at ts (codes ";") j) j
 
-first_true : (a b : Bool) → (a && b) ≡ true → a ≡ true
+pub first_true : (a b : Bool) → (a && b) ≡ true → a ≡ true
 first_true true b e = refl
 first_true false b e = cc
 
-conjuncts_listed : {Is : ℕ → Type 0} → Listed Is goes_on 1 behind_semicolon (λ ts n j. conjunct_read ts n j)
+pub conjuncts_listed : {Is : ℕ → Type 0} → Listed Is goes_on 1 behind_semicolon (λ ts n j. conjunct_read ts n j)
 conjuncts_listed = record {
   one = λ j. expr_told (j + 1);
   there = λ ts j g. omega (arith, semicolon_there ts j g);
@@ -160,7 +160,7 @@ conjuncts_listed = record {
     within_by ts j start true e = omega (arith, stands_before (is_sign (codes ";")) ts j e)
     within_by ts j start false e = start
 
-conjuncts_told : {Is : ℕ → Type 0} (i : ℕ) → Told Is ends_at 0 i (λ ts n. conjuncts_read ts n i)
+pub conjuncts_told : {Is : ℕ → Type 0} (i : ℕ) → Told Is ends_at 0 i (λ ts n. conjuncts_read ts n i)
 unfolding conjuncts_read
 conjuncts_told i = choice (λ ts. is_sign_at ts (codes "}") i) (λ ts us same. same_stands (is_sign (codes "}")) ts us (i + 1) i (omega arith) same) (whole i (λ ts. []) (λ ts us same. refl))
     (loosen 0 (omega arith) (sequence (expr_told i) (λ e a. listed_told goes_on 1 behind_semicolon (λ ts n j. conjunct_read ts n j) conjuncts_listed (e.0 ∷ []) e.1)))
@@ -179,7 +179,7 @@ unfolding body_read
 body_told i = sequence (all_vars_told i) (λ vs a. sequence (domains_told vs.1) (λ ds b. sequence (clause_told (codes "when") ds.1) (λ when c. sequence (clause_told (codes "where") when.1)
     (λ wheres d. whole wheres.1 (λ ts. record { vars = vs.0; domains = ds.0; when = when.0; wheres = wheres.0 }) (λ ts us same. refl)))))
 
-relation_told : {Is : ℕ → Type 0} (i : ℕ) → Told Is ends_at 1 i (λ ts n. relation_read ts n i)
+pub relation_told : {Is : ℕ → Type 0} (i : ℕ) → Told Is ends_at 1 i (λ ts n. relation_read ts n i)
 unfolding relation_read
 relation_told i = loosen 1 (omega arith) (sequence (skip_told i (λ ts. is_word_at ts (codes "top") i) (λ ts us same. word_same (codes "top") ts us i (i + 1) (omega arith) same) (λ ts e. word_within ts (codes "top") i e))
     (λ k a. sequence (token_told (is_word (codes "relation")) k) (λ first b. sequence (name_told first) (λ x c. braced_told (codes "{") brace_opens x.1 (λ inside d. sequence (lowered (body_told inside)) (λ body f. sequence (token_told (is_sign (codes "}")) body.1)
@@ -198,12 +198,12 @@ query_body_told : {Is : ℕ → Type 0} (i : ℕ) → Told Is ends_at 1 i (λ ts
 unfolding query_body_read
 query_body_told i = loosen 1 (omega arith) (braced_told (codes "{") brace_opens i (λ x a. sequence (lowered (expr_told x)) (λ e b. sequence (token_told (is_sign (codes "}")) e.1) (λ end c. whole end (λ ts. e.0) (λ ts us same. refl)))))
 
-query_told : {Is : ℕ → Type 0} (i : ℕ) → Told Is ends_at 1 i (λ ts n. query_read ts n i)
+pub query_told : {Is : ℕ → Type 0} (i : ℕ) → Told Is ends_at 1 i (λ ts n. query_read ts n i)
 unfolding query_read
 query_told i = loosen 1 (omega arith) (sequence (token_told (is_word (codes "query")) i) (λ first a. sequence (name_told first) (λ x b. sequence (params_told x.1) (λ ps c. sequence (token_told (is_sign (codes ":")) ps.1) (λ colon d. sequence (type_told colon)
     (λ ty f. sequence (query_body_told ty.1) (λ body g. whole body.1 (λ ts. record { name = x.0; params = ps.0; result = ty.0; body = body.0 }) (λ ts us same. refl))))))))
 
-declaration_told : {Is : ℕ → Type 0} (i : ℕ) → Told Is ends_at 1 i (λ ts n. declaration_read ts n i)
+pub declaration_told : {Is : ℕ → Type 0} (i : ℕ) → Told Is ends_at 1 i (λ ts n. declaration_read ts n i)
 unfolding declaration_read
 declaration_told i = choice (λ ts. is_word_at ts (codes "key") i) (λ ts us same. word_same (codes "key") ts us i (i + 1) (omega arith) same)
     (sequence (key_told i) (λ k a. whole k.1 (λ ts. declarations.Key k.0) (λ ts us same. refl)))
@@ -211,7 +211,7 @@ declaration_told i = choice (λ ts. is_word_at ts (codes "key") i) (λ ts us sam
     (sequence (query_told i) (λ q a. whole q.1 (λ ts. declarations.Query q.0) (λ ts us same. refl)))
     (sequence (relation_told i) (λ r a. whole r.1 (λ ts. declarations.Relation r.0) (λ ts us same. refl))))
 
-declaration_test : Test begins_declaration
+pub declaration_test : Test begins_declaration
 declaration_test = record {
   there = λ ts j e. (declaration_loop ts 0).within j e;
   seen = λ ts us j same. rw (
@@ -237,7 +237,7 @@ abbrev ended_by : ℕ → Script → Bool → Read Script
 ended_by at s b = if b then Ok (s, at) else Err (stops.Stuck at)
 
 -- the end of the text
-end_told : {Is : ℕ → Type 0} (i at : ℕ) → i < at → (f : Span → Script) → Told Is ends_at 0 at (λ ts n. end_read ts (f (span_at ts i at)) at)
+pub end_told : {Is : ℕ → Type 0} (i at : ℕ) → i < at → (f : Span → Script) → Told Is ends_at 0 at (λ ts n. end_read ts (f (span_at ts i at)) at)
 end_told {Is} i at less f = record {
   on = λ ts n is. on_by ts (length ts == at);
   further = λ ts n is y e. further_by ts (length ts == at) y e;

@@ -195,7 +195,7 @@ value_named {Is} inner i ts n is e false = by (expr_read ts n i) (expr_named ts 
     by (Ok x) h = h
     by (Err s) h = h
 
-value_told : {Is : ℕ → Type 0} → ((j : ℕ) → Told Is ends_at 1 j (λ ts n. template_read ts n j)) → (i : ℕ) → Told Is ends_at 1 i (λ ts n. value_read ts (template_read ts n) n i)
+pub value_told : {Is : ℕ → Type 0} → ((j : ℕ) → Told Is ends_at 1 j (λ ts n. template_read ts n j)) → (i : ℕ) → Told Is ends_at 1 i (λ ts n. value_read ts (template_read ts n) n i)
 value_told {Is} inner i = choice_by (λ ts. begins_template ts i) (λ ts us n is same.
     template_seen ts us i (number_of ends_at (value_by ts n i (begins_template ts i))) (on_by ts n is (begins_template ts i)) (λ e. value_named inner i ts n is e (begins_template ts i)) same)
     (nested_told inner i) (plain_told i)
@@ -212,7 +212,7 @@ unfolding item_by
 item_told inner i = loosen 1 (omega arith) (sequence (name_told i) (λ x far. sequence (token_told (is_sign (codes "=")) x.1) (λ equals further. sequence (value_told inner equals)
     (λ v last. whole v.1 (λ ts. record { prop = x.0; value = v.0 }) (λ ts us same. refl)))))
 
-items_told : {Is : ℕ → Type 0} → ((j : ℕ) → Told Is ends_at 1 j (λ ts n. template_read ts n j)) → (i : ℕ) → Told Is ends_at 0 i (λ ts n. items_read ts n i)
+pub items_told : {Is : ℕ → Type 0} → ((j : ℕ) → Told Is ends_at 1 j (λ ts n. template_read ts n j)) → (i : ℕ) → Told Is ends_at 0 i (λ ts n. items_read ts n i)
 unfolding items_by
 items_told inner i = any_told (codes "}") (λ ts n j. item_by ts (template_read ts n) n j) (item_told inner) i
 

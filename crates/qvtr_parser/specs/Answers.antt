@@ -25,10 +25,10 @@ IsAnswered expected result = expected ≡ result
 abbrev pub Answers : LexedText → Read Script → Result Script ParseError → Type 0
 Answers text read result = IsAnswered (result_of text read) result
 
--- What is answered is so: the tokens are the script; or they are none, and none begins with those up to and with the token that is told;
--- or that token opens a level, and none that nests within the levels begins with those up to and with it.
+-- What is answered is so: the tokens are the script; or they are none, and the token that is told is the first with which none goes on,
+-- or the text ends before one is whole; or that token is the first that opens a level past the last.
 abbrev pub Tells : LexedText → ℕ → Result Script ParseError → Type 0
 Tells text levels (Ok script) = IsScriptWithin text.lexemes levels script
-Tells text levels (Err (errors.Parse at)) = (k : ℕ) × IsRefused text.lexemes k × (at ≡ place_of text k)
+Tells text levels (Err (errors.Parse at)) = (k : ℕ) × IsRefused text.lexemes levels k × (at ≡ place_of text k)
 Tells text levels (Err (errors.Limit at)) = (k : ℕ) × IsTooDeep text.lexemes levels k × (at ≡ place_of text k)
 Tells text levels (Err errors.NoMemory) = Unit {0}

@@ -168,14 +168,15 @@ fn answer_of(alloc: Global, tokens: &Tokens<'_>, levels: usize) -> Result<Script
 ///
 /// # Errors
 ///
-/// `Parse` where no script begins with the tokens up to and with one, at the start of that token, in bytes, or at the end of
-/// the text; `Limit` at the start of a token that is reached before that and opens a level past `MAX_NESTING`; and `NoMemory`.
+/// `Parse` at the start of the first token with which no script goes on, in bytes: some script begins with the tokens before
+/// it, and none with those up to and with it; or at the end of the text, where tokens are missing there. `Limit` at the start
+/// of the first token that opens a level past `MAX_NESTING`, if that comes before. And `NoMemory`.
 pub fn parse_script(alloc: Global, tokens: &Tokens<'_>) -> Result<Script, ParseError>
     // What is answered is what reading the tokens answers, with the place of the token at which it stops.
     ensures reads { Answers tokens.now (script_read tokens.now.lexemes MAX_NESTING) result }
     // What is answered is spelled by all tokens.
     ensures found { IfOk result (λ s. IsScript tokens.now.lexemes s) }
-    // A fault that is answered stands at its token: no script begins with the tokens up to and with it, or none within the levels.
+    // A fault that is answered stands at the first token with which no script goes on, or that opens a level past the last.
     ensures tells { Tells tokens.now MAX_NESTING result }
     // What all tokens spell is answered, unless memory could not be had.
     ensures only { (s : AnyScript) → IsScript tokens.now.lexemes s → IsAnswered (Ok s) result }

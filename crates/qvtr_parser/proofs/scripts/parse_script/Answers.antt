@@ -1,7 +1,8 @@
+use Rattle.std.proofs.Common.{arith}
 use Rattle.mof_metamodel.specs.declared.limits.TheConstants.{MAX_NESTING}
 use Rattle.qvtr_parser.proofs.AnswerFound.{answered_found}
 use Rattle.qvtr_parser.proofs.AnswerComplete.{answered_complete}
-use Rattle.qvtr_parser.proofs.Refused.{answer_tells}
+use Rattle.qvtr_parser.proofs.Tells.{answer_tells}
 use Rattle.qvtr_parser.proofs.scripts.parse_script.Goals as goal
 
 pub returns-clause-found : goal.returns-clause-found
@@ -11,4 +12,4 @@ pub returns-clause-only : goal.returns-clause-only
 returns-clause-only c = answered_complete c.args.tokens.now MAX_NESTING c.answer_of.result c.answer_of.ensures
 
 pub returns-clause-tells : goal.returns-clause-tells
-returns-clause-tells c = answer_tells c.args.tokens.now MAX_NESTING c.answer_of.result c.answer_of.ensures
+returns-clause-tells c = answer_tells c.args.tokens.now MAX_NESTING (omega arith) c.answer_of.result c.answer_of.ensures
