@@ -5,3 +5,12 @@ pub mod FaultLemmas
 pub mod NameFaultLaws
 pub mod UsageLemmas
 pub mod DistinctLemmas
+pub mod RepeatLemmas
+pub mod DivisionLaws
+pub mod NumberLemmas
+pub mod MemberLemmas
+pub mod RefusalLemmas
+pub mod CallLaws
+pub mod DirectionLaws
+pub mod PrintedLemmas
+pub mod ConjunctLemmas

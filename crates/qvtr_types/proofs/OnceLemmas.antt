@@ -147,7 +147,7 @@ count_among xs names all = length-from_same_keys nat_list_eq_equiv (each_once xs
     by q true e = e ∙ sym (ap (λ b. b && is_member same_name names q) e ∙ All-contains (λ n. is_member same_name names n ≡ true) xs q all (has_name xs q e))
     by q false e = e ∙ sym (ap (λ b. b && is_member same_name names q) e)
 
-get_at : {X : Type 0} (xs : List X) (x : X) (ys : List X) → slice_get (xs ++ x ∷ ys) (length xs) ≡ Some x
+pub get_at : {X : Type 0} (xs : List X) (x : X) (ys : List X) → slice_get (xs ++ x ∷ ys) (length xs) ≡ Some x
 get_at [] x ys = refl
 get_at (w ∷ xs) x ys = get_at xs x ys
 

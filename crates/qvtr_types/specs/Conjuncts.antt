@@ -5,7 +5,7 @@ use Rattle.qv_syntax.specs.declared.name.Name.{Name}
 use Rattle.qv_syntax.specs.declared.operator.Operator.{Operator}
 use Rattle.qv_syntax.specs.declared.operator.Operator.TheVariants as operators
 use Rattle.qv_syntax.specs.declared.expr.Expr.{Expr, out-Expr, fold-Expr, rec-Expr}
-use Rattle.qv_syntax.specs.declared.expr.Infix.{Infix, out-Infix}
+use Rattle.qv_syntax.specs.declared.expr.Infix.{Infix, out-Infix, rec-Infix}
 use Rattle.qv_syntax.specs.declared.expr.Postfix.{Postfix}
 use Rattle.qv_syntax.specs.declared.expr.Args.{Args, out-Args}
 use Rattle.qv_syntax.specs.declared.expr.Args.TheOpen as of
@@ -35,6 +35,13 @@ conjuncts_rule part expr link layer whole = whole ∷ []
 
 abbrev pub splitting : Expr → Splitting
 splitting = rec-Expr (Unit {1}) Splitting (Unit {1}) BehindOperator
+    (λ X X' X'' X3 a part s l args expr call link layer. tt)
+    (λ X X' X'' X3 a part s l args expr call link layer. record { of = conjuncts_rule part expr link layer })
+    (λ X X' X'' X3 a part s l args expr call link layer. tt)
+    (λ X X' X'' X3 a part s l args expr call link layer. record { is_and = is_and layer.operator; conjuncts = (expr layer.right).of (part layer.right) })
+
+abbrev pub behind : Infix → BehindOperator
+behind = rec-Infix (Unit {1}) Splitting (Unit {1}) BehindOperator
     (λ X X' X'' X3 a part s l args expr call link layer. tt)
     (λ X X' X'' X3 a part s l args expr call link layer. record { of = conjuncts_rule part expr link layer })
     (λ X X' X'' X3 a part s l args expr call link layer. tt)

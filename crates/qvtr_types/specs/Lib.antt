@@ -11,3 +11,7 @@ pub mod Environments
 pub mod Declarations
 pub mod Resolutions
 pub mod Faults
+pub mod Refusals
+pub mod UniversalNames
+pub mod PrintedNames
+pub mod CallNames

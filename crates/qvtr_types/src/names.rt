@@ -9,14 +9,14 @@ use mof_metamodel::Text;
 use qv_syntax::{ModelTree, Script};
 
 /// Whether a text is this name.
-fn is_name(text: &Text, name: &str) -> bool
+pub(crate) fn is_name(text: &Text, name: &str) -> bool
     ensures { result ≡ same_name (chars name.now) text.now }
 {
     text.is(name)
 }
 
 /// Whether a model has this name.
-fn is_model(models: &[ModelTree], name: &str) -> bool
+pub(crate) fn is_model(models: &[ModelTree], name: &str) -> bool
     ensures { result ≡ is_member same_name (model_names models.now) (chars name.now) }
 {
     for model in models {

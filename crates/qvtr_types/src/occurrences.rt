@@ -4,7 +4,7 @@ ghost use Rattle.qvtr_types.specs.Usages.{variable_in, variables_in};
 ghost use Rattle.qvtr_types.specs.Occurrences.{nameless, piece_variables, root_of, template_count, domain_variables, domains_variables, clause_variables, declared_names, occurrences as all_occurrences, variables_of as variables};
 ghost use Rattle.qvtr_types.specs.BorrowedPieces.{shown_variable, shown_piece};
 
-use crate::distinct::each_once;
+use crate::distinct::{each_once, each_once_listed};
 use crate::piece::{BorrowedPiece, VariableName};
 use crate::pieces::add_pieces;
 use crate::usage::Usage;
@@ -22,7 +22,7 @@ fn nameless_text(alloc: Global, k: u32) -> Result<Text, NoMemory>
 }
 
 /// The text by which a variable is known.
-fn variable_text(alloc: Global, variable: &VariableName<'_>) -> Result<Text, NoMemory>
+pub(crate) fn variable_text(alloc: Global, variable: &VariableName<'_>) -> Result<Text, NoMemory>
     ensures { IfOk result (λ t. t ≡ shown_variable variable.now) }
 {
     match variable {
@@ -105,7 +105,7 @@ fn root_name(domain: &DomainTree) -> &Text
 }
 
 /// The variables of a domain, whose first template has this number. The number behind its last one.
-fn add_domain(
+pub(crate) fn add_domain(
     alloc: Global,
     k: u32,
     domain: &DomainTree,
@@ -133,7 +133,11 @@ fn add_domains(alloc: Global, domains: &[DomainTree], out: &mut Seq<Text>) -> Re
 }
 
 /// The variables of a clause.
-fn add_clause(alloc: Global, block: &Option<BlockTree>, out: &mut Seq<Text>) -> Result<(), NoMemory>
+pub(crate) fn add_clause(
+    alloc: Global,
+    block: &Option<BlockTree>,
+    out: &mut Seq<Text>,
+) -> Result<(), NoMemory>
     ensures { OnOk result (out.new ≡ out.old ++ clause_variables block.now) }
 {
     match block {
@@ -153,7 +157,11 @@ fn add_names(alloc: Global, names: &[Name], out: &mut Seq<Text>) -> Result<(), N
 }
 
 /// The variables of declarations one behind the other.
-fn add_declared(alloc: Global, vars: &[VarsTree], out: &mut Seq<Text>) -> Result<(), NoMemory>
+pub(crate) fn add_declared(
+    alloc: Global,
+    vars: &[VarsTree],
+    out: &mut Seq<Text>,
+) -> Result<(), NoMemory>
     ensures { OnOk result (out.new ≡ out.old ++ flat_map declared_names vars.now) }
 {
     for declared in vars {
@@ -184,4 +192,16 @@ pub fn variables_of(alloc: Global, r: &RelationTree) -> Result<NameTable<u32>, N
     ensures { IfOk result (λ names. map (λ e. e.0) names ≡ variables r.now) }
 {
     each_once(alloc, occurrences(alloc, r)?)
+}
+
+/// The same variables as a list.
+///
+/// # Errors
+///
+/// As those of `variables_of`.
+pub fn variables_listed(alloc: Global, r: &RelationTree) -> Result<Seq<Text>, NoMemory>
+    ensures { IfOk result (λ names. names ≡ variables r.now) }
+{
+    let all = occurrences(alloc, r)?;
+    each_once_listed(alloc, all.as_slice())
 }

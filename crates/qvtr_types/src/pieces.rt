@@ -18,7 +18,7 @@ fn variable_of(variable: &Option<Name>, k: u32) -> VariableName<'_>
 }
 
 /// The next number, as far as numbers go.
-fn next(k: u32) -> Result<u32, NoMemory>
+pub(crate) fn next(k: u32) -> Result<u32, NoMemory>
     ensures { IfOk result (λ n. n ≡ k + 1) }
 {
     match k.checked_add(1) {
