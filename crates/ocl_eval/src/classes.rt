@@ -5,6 +5,7 @@ ghost use Rattle.qvtr_semantics.specs.Expressions.{class_operation};
 ghost use Rattle.qvtr_semantics.specs.declared.out.Out.TheVariants.{One, Invalid};
 ghost use Rattle.qvtr_semantics.specs.Outs.{boolean, given};
 ghost use Rattle.qvtr_semantics.specs.Objects.{object_datum, is_kind_of, conforms_at, extent_of, extent};
+ghost use Rattle.qvtr_semantics.specs.Templates.{conforms};
 ghost use Rattle.ocl_eval.specs.Worlds.{setting_of, class_in};
 
 use crate::world::World;
@@ -36,8 +37,9 @@ fn conforms_at(model: &Model<'_>, class: ClassId, object: ObjId) -> bool
     }
 }
 
-/// The objects of a class in a model, by number.
-fn extent_of(
+/// The live objects of a model whose class is the class or inherits from it, by number (OCL 2.4, section 7.5.10). The model is the
+/// one of this number.
+pub fn extent_of(
     alloc: Global,
     number: u32,
     model: &Model<'_>,
@@ -84,6 +86,16 @@ fn class_of<'m>(models: &Models<'m>, datum: &Datum) -> Option<(&'m MetaModel, Cl
             None => None,
         },
         Datum::Val(..) => None,
+    }
+}
+
+/// Whether the datum is a live object whose class is the class or inherits from it (OCL 2.4, section 11.3.1).
+pub fn is_of_class(models: &Models<'_>, class: ClassId, datum: &Datum) -> bool
+    ensures { result ≡ conforms class.0 (class_in models.now datum.now) }
+{
+    match class_of(models, datum) {
+        Some((meta, of)) => is_kind_of(meta, of, class),
+        None => false,
     }
 }
 

@@ -11,5 +11,7 @@ mod operators;
 mod scope;
 mod world;
 
+pub use classes::{extent_of, is_of_class};
 pub use evaluation::{eval, holds};
+pub use navigation::held_at;
 pub use ocl_values::Models;

@@ -2,16 +2,16 @@ ghost use Rattle.std.specs.Prelude.{◌≡◌, map, IfOk};
 ghost use Rattle.object_tables.specs.Models.{IsReferenceOf, partners_at};
 ghost use Rattle.std.specs.List.{fold};
 ghost use Rattle.qvtr_semantics.specs.Iterators.{collect};
-ghost use Rattle.qvtr_semantics.specs.Objects.{object_datum, value_datum, held_by, single, navigated, property, meta_of};
-ghost use Rattle.qvtr_semantics.specs.Expressions.{with_datum, with_collection};
+ghost use Rattle.qvtr_semantics.specs.Objects.{object_datum, value_datum, held_by, held_at, single, navigated, property, meta_of};
+ghost use Rattle.qvtr_semantics.specs.Expressions.{setting, with_datum, with_collection};
 ghost use Rattle.ocl_values.specs.Progress.{advanced};
 ghost use Rattle.ocl_eval.specs.Worlds.{setting_of};
 
 use crate::world::World;
 use mof_metamodel::{NoMemory, PropId, Seq};
 use object_tables::{Model, ObjId, Value};
-use ocl_values::{Progress, in_order, iterator_result};
-use qv_syntax::{IteratorKind, Kind, Values};
+use ocl_values::{Models, Progress, in_order, iterator_result};
+use qv_syntax::{IteratorKind, Kind, Program, Values};
 use qvtr_semantics::{Datum, Out};
 use std::alloc::Global;
 
@@ -88,6 +88,28 @@ fn held_by(
             }
         }
         None => Ok(None),
+    }
+}
+
+/// What stands at a property of an object (OCL 2.4, section 7.5.3): nothing, if the datum is no live object whose class has the property.
+pub fn held_at(
+    alloc: Global,
+    program: &Program,
+    models: &Models<'_>,
+    datum: &Datum,
+    prop: PropId,
+) -> Result<Option<Seq<Datum>>, NoMemory>
+    ensures { IfOk result (λ found. found ≡ held_at (setting program.now models.now) datum.now prop.0) }
+{
+    let world = World {
+        alloc,
+        program,
+        models,
+        calls: 0,
+    };
+    match datum {
+        Datum::Obj(number, object) => held_by(&world, *number, *object, prop),
+        Datum::Val(..) => Ok(None),
     }
 }
 

@@ -1,0 +1,56 @@
+-- Sorted, each once, what the search finds is what is looked for; and what is looked for is what meets the source or the target.
+use Rattle.std.specs.Prelude.{◌≡◌, ◌↔◌, ℕ, List, [], ◌∷◌, map, length, Contains, AllPairs, IsTrue}
+use Rattle.std.proofs.Common.{refl, sym, ap, subst, ◌∙◌, arith, zero, suc}
+use Rattle.object_tables.specs.Models.{ModelData}
+use Rattle.qv_syntax.specs.declared.program.Program.{Program}
+use Rattle.qv_syntax.specs.declared.program.Rel.{Rel}
+use Rattle.qvtr_semantics.specs.declared.datum.Datum.{Datum}
+use Rattle.qvtr_semantics.specs.declared.binding.Binding.{Binding}
+use Rattle.qvtr_semantics.specs.Templates.{Values, value_at}
+use Rattle.qvtr_semantics.specs.Satisfaction.{IsLess}
+use Rattle.template_match.proofs.ListLaws.{contains_later}
+use Rattle.template_match.specs.Order.{values_order, binding_order}
+use Rattle.template_match.specs.Each.{IsEachOnce}
+use Rattle.template_match.specs.Problems.{Problem}
+use Rattle.template_match.specs.Search.{sought, search_from, values_of}
+use Rattle.template_match.specs.Posed.{IsPosed, IsPartial, IsSought}
+use Rattle.template_match.proofs.ListLaws.{contains_map}
+use Rattle.template_match.proofs.ValueLaws.{same_values}
+use Rattle.template_match.proofs.SideLaws.{Meets, meets_parts, Valued, valued}
+use Rattle.template_match.proofs.OrderLaws.{AreBound, ties_are, in_pairs}
+use Rattle.template_match.proofs.SearchLaws.{exact, one_binding}
+
+-- a binding whose values are these
+binding_of : (bs : List Binding) (v : Values) → Contains (values_of bs) v → (b : Binding) × Contains bs b × (b.values ≡ v)
+binding_of [] v (k, within, is) = absurd (omega (arith, within))
+binding_of (b ∷ bs) v (zero, within, is) = (b, (zero, omega arith, refl), is)
+binding_of (b ∷ bs) v (suc k, within, is) =
+    let more = binding_of bs v (k, omega (arith, within), is) in
+    (more.0, contains_later more.0 b bs more.1, more.2)
+
+bound_in : (p : Problem) (roots b : Values) → IsSought p roots b → AreBound (sought p) b
+bound_in p roots b whole v c =
+    let val = valued p.program p.models p.rel (sought p) b v (meets_parts p.side p.program p.models p.rel b whole.meets).have c in
+    (val.value, val.at)
+
+module _ (p : Problem) (roots : Values) (posed : IsPosed p roots) (places : length roots ≡ length p.rel.vars) (xs ys : List Binding)
+    (is : values_of xs ≡ search_from p (length roots) roots) (each : IsEachOnce (binding_order (sought p)) xs ys) where
+  found_sought : (x : Binding) → Contains xs x → IsSought p roots x.values
+  found_sought x c = (exact p roots posed places x.values).0 (subst (λ vs. Contains vs x.values) is (contains_map (λ b. b.values) xs x c))
+
+  kept : (b : Values) → IsSought p roots b → Contains (values_of ys) b
+  kept b whole =
+      let x = binding_of xs b (subst (λ vs. Contains vs b) (sym is) ((exact p roots posed places b).1 whole)) in
+      let y = each.all x.0 x.1 in
+      let same : x.0.values ≡ y.0.values = one_binding p roots x.0.values y.0.values (found_sought x.0 x.1) (found_sought y.0 (each.only y.0 y.1))
+      (ties_are (sought p) x.0.values y.0.values y.2) in
+      subst (Contains (values_of ys)) (sym same ∙ x.2) (contains_map (λ b. b.values) ys y.0 y.1)
+
+  pub all_exact : (b : Values) → Contains (values_of ys) b ↔ IsSought p roots b
+  all_exact b = (
+    λ c. let y = binding_of ys b c in subst (IsSought p roots) y.2 (found_sought y.0 (each.only y.0 y.1)),
+    kept b,
+  )
+
+  pub all_sorted : AllPairs (IsLess (sought p)) (values_of ys)
+  all_sorted = in_pairs (sought p) ys each.sorted (λ b c. bound_in p roots b.values (found_sought b (each.only b c)))

@@ -1,0 +1,15 @@
+pub mod ListLaws
+pub mod SteadyLaws
+pub mod ReadyLaws
+pub mod LinkLaws
+pub mod NestedLaws
+pub mod ValueLaws
+pub mod SideLaws
+pub mod TellingLaws
+pub mod ProgressLaws
+pub mod SearchLaws
+pub mod OrderLaws
+pub mod BindingLaws
+pub mod PublicLaws
+pub mod SearchForms
+pub mod PruneLaws

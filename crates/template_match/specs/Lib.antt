@@ -1,0 +1,12 @@
+pub mod Sides
+pub mod Meeting
+pub mod Ready
+pub mod Links
+pub mod Problems
+pub mod Pruning
+pub mod Search
+pub mod Tasks
+pub mod Order
+pub mod Each
+pub mod Posed
+pub mod Plans

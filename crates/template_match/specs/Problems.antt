@@ -1,0 +1,15 @@
+-- What a search is for.
+use Rattle.std.specs.Prelude.{List}
+use Rattle.object_tables.specs.Models.{ModelData}
+use Rattle.qv_syntax.specs.declared.program.Program.{Program}
+use Rattle.qv_syntax.specs.declared.program.Rel.{Rel}
+use Rattle.template_match.specs.declared.side.Side.{Side}
+use Rattle.template_match.specs.declared.link.Link.{Link}
+
+-- what is looked for: the bindings of a side of a relation, with the links of its templates
+pub record Problem : Type 0 where
+  pub side : Side
+  pub program : Program
+  pub models : List ModelData
+  pub rel : Rel
+  pub links : List Link

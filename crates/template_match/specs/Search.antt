@@ -1,0 +1,163 @@
+-- A search for the bindings of one side of a relation: one variable gets a value after another. The value of a variable is taken from a slot
+-- of an object that has been chosen, or from a conjunct that says what it is, or from the objects of its class.
+use Rattle.std.specs.Prelude.{ℕ, zero, suc, Bool, true, false, ◌&&◌, not, List, [], ◌∷◌, map, Option, None, Some, is_some, slice_get, slice_set, if◌then◌else◌}
+use Rattle.std.specs.List.{flat_map, list_any, find}
+use Rattle.mof_metamodel.specs.declared.desc.ClassId.{ClassId}
+use Rattle.object_tables.specs.Models.{ModelData}
+use Rattle.qv_syntax.specs.declared.ty.Ty.{Ty}
+use Rattle.qv_syntax.specs.declared.ty.Ty.TheVariants as types
+use Rattle.qv_syntax.specs.declared.operator.Operator.{Operator}
+use Rattle.qv_syntax.specs.declared.operator.Operator.TheVariants as operators
+use Rattle.qv_syntax.specs.declared.typed.Typed.{Typed}
+use Rattle.qv_syntax.specs.declared.typed.Node.{Node, out-Node}
+use Rattle.qv_syntax.specs.declared.typed.Call.{Call}
+use Rattle.qv_syntax.specs.declared.typed.Call.TheOpen as nodes
+use Rattle.qv_syntax.specs.declared.typed.TypedInfix.{TypedInfix}
+use Rattle.qv_syntax.specs.declared.typed.TypedPostfix.{TypedPostfix}
+use Rattle.qv_syntax.specs.declared.program.Program.{Program}
+use Rattle.qv_syntax.specs.declared.program.Rel.{Rel}
+use Rattle.qv_syntax.specs.declared.program.Var.{Var}
+use Rattle.qv_syntax.specs.declared.program.Conj.{Conj}
+use Rattle.qv_syntax.specs.declared.program.Conj.TheVariants as conjuncts
+use Rattle.qvtr_semantics.specs.declared.datum.Datum.{Datum}
+use Rattle.qvtr_semantics.specs.declared.binding.Binding.{Binding}
+use Rattle.qvtr_semantics.specs.Outs.{datum_of, and_then}
+use Rattle.qvtr_semantics.specs.Objects.{Setting, is_number_among, held_at, object_datum, extent_of}
+use Rattle.qvtr_semantics.specs.Expressions.{setting, value_for}
+use Rattle.qvtr_semantics.specs.Templates.{Values, value_at}
+use Rattle.template_match.specs.declared.side.Side.{Side}
+use Rattle.template_match.specs.declared.link.Link.{Link}
+use Rattle.template_match.specs.declared.branch.Branch.{Branch}
+use Rattle.template_match.specs.Problems.{Problem}
+use Rattle.template_match.specs.Pruning.{may_meet}
+use Rattle.template_match.specs.Ready.{is_ready}
+use Rattle.template_match.specs.Links.{variable_alone}
+use Rattle.template_match.specs.Sides.{variables_of, clause_of, meets_side}
+
+abbrev pub sought : Problem → List ℕ
+sought p = variables_of p.side p.rel
+
+abbrev pub conjuncts_in : Problem → List Conj
+conjuncts_in p = clause_of p.side p.rel
+
+-- ---- which variable is next
+
+-- a variable that is sought and has no value yet
+abbrev pub is_open : Problem → Values → ℕ → Bool
+is_open p a v = is_number_among v (sought p) && not (is_some (value_at a v))
+
+abbrev pub usable_link : Problem → Values → Link → Bool
+usable_link p a l = is_open p a l.variable && is_some (value_at a l.holder)
+
+-- a conjunct `v = e`: v and e
+abbrev pub saying_by : Operator → Option ℕ → Typed → Option (ℕ × Typed)
+saying_by operators.Equal (Some v) e = Some (v, e)
+saying_by o v e = None
+
+abbrev pub saying_chain : Typed → List TypedInfix → Option (ℕ × Typed)
+saying_chain first (l ∷ []) = saying_by l.operator (variable_alone (out-Node first.node)) l.right
+saying_chain first ls = None
+
+abbrev pub saying_node : nodes.Node-F Call Node Typed TypedInfix TypedPostfix → Option (ℕ × Typed)
+saying_node (nodes.Chain first rest) = saying_chain first rest
+saying_node d = None
+
+abbrev pub saying : Conj → Option (ℕ × Typed)
+saying (conjuncts.Equation v e) = Some (v, e)
+saying (conjuncts.Cond e) = saying_node (out-Node e.node)
+saying (conjuncts.Call rel args) = None
+
+abbrev pub usable_saying : Problem → Values → Option (ℕ × Typed) → Bool
+usable_saying p a None = false
+usable_saying p a (Some s) = is_open p a s.0 && is_ready a s.1
+
+abbrev pub usable_conjunct : Problem → Values → Conj → Bool
+usable_conjunct p a c = usable_saying p a (saying c)
+
+-- the model and the class of a variable for objects
+abbrev pub extent_by : Ty → Option ℕ → Option (ℕ × ClassId)
+extent_by (types.Class meta class) (Some m) = Some (m, class)
+extent_by ty m = None
+
+abbrev pub extent_for : Option Var → Option (ℕ × ClassId)
+extent_for None = None
+extent_for (Some var) = extent_by var.ty var.model
+
+abbrev pub usable_variable : Problem → Values → ℕ → Bool
+usable_variable p a v = is_open p a v && is_some (extent_for (slice_get p.rel.vars v))
+
+-- ---- which values it may have
+
+abbrev pub setting_in : Problem → Setting
+setting_in p = setting p.program p.models
+
+abbrev pub slot_at : Problem → Values → Link → Option (List Datum)
+slot_at p a l = and_then (value_at a l.holder) (λ d. held_at (setting_in p) d l.prop.0)
+
+abbrev pub some_data : Option (List Datum) → List Datum
+some_data None = []
+some_data (Some ds) = ds
+
+abbrev pub one_datum : Option Datum → List Datum
+one_datum None = []
+one_datum (Some d) = d ∷ []
+
+abbrev pub objects_in : ℕ → ClassId → Option ModelData → List Datum
+objects_in m class None = []
+objects_in m class (Some model) = map (object_datum m) (extent_of model class.0)
+
+abbrev pub objects_of : List ModelData → Option (ℕ × ClassId) → List Datum
+objects_of models None = []
+objects_of models (Some x) = objects_in x.0 x.1 (slice_get models x.0)
+
+-- a variable that is given nothing
+abbrev pub no_branch : Branch
+no_branch = record { variable = 0; candidates = [] }
+
+abbrev pub saying_branch : Problem → Values → Option (ℕ × Typed) → Branch
+saying_branch p a None = no_branch
+saying_branch p a (Some s) = record { variable = s.0; candidates = one_datum (datum_of (value_for p.program p.models s.1 a)) }
+
+abbrev pub link_branch : Problem → Values → Link → Branch
+link_branch p a l = record { variable = l.variable; candidates = some_data (slot_at p a l) }
+
+abbrev pub object_branch : Problem → Option ℕ → Branch
+object_branch p None = no_branch
+object_branch p (Some v) = record { variable = v; candidates = objects_of p.models (extent_for (slice_get p.rel.vars v)) }
+
+abbrev pub conjunct_branch : Problem → Values → Option Conj → Branch
+conjunct_branch p a None = object_branch p (find (usable_variable p a) (sought p))
+conjunct_branch p a (Some c) = saying_branch p a (saying c)
+
+abbrev pub branch_by : Problem → Values → Option Link → Branch
+branch_by p a None = conjunct_branch p a (find (usable_conjunct p a) (conjuncts_in p))
+branch_by p a (Some l) = link_branch p a l
+
+-- the next variable, and the values that it may have
+abbrev pub branch : Problem → Values → Branch
+branch p a = branch_by p a (find (usable_link p a) p.links)
+
+-- ---- the search
+
+abbrev pub with_value : Values → ℕ → Datum → Values
+with_value a v d = slice_set a v (Some d)
+
+-- the binding alone, if it meets the side
+abbrev pub tested : Problem → Values → List Values
+tested p a = if meets_side p.side p.program p.models p.rel a then a ∷ [] else []
+
+abbrev pub is_any_open : Problem → Values → Bool
+is_any_open p a = list_any (is_open p a) (sought p)
+
+-- the values of the next variable that are tried: none, if what can be asked yet is against the binding
+abbrev pub tried : Problem → Values → List Datum
+tried p a = if may_meet p a then (branch p a).candidates else []
+
+-- the bindings that are found from a binding on, where so many variables may still get values
+unfoldable pub search_from : Problem → ℕ → Values → List Values
+search_from p zero a = if is_any_open p a then [] else tested p a
+search_from p (suc n) a = if is_any_open p a then flat_map (λ d. search_from p n (with_value a (branch p a).variable d)) (tried p a) else tested p a
+
+-- the values in bindings
+abbrev pub values_of : List Binding → List Values
+values_of bs = map (λ b. b.values) bs

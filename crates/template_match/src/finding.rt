@@ -1,0 +1,96 @@
+ghost use Rattle.std.specs.Prelude.{◌≡◌, ◌↔◌, length, Contains, AllPairs, IfOk};
+ghost use Rattle.qv_syntax.specs.declared.program.Rel.{Rel};
+ghost use Rattle.qv_syntax.specs.Directions.{AreMeant};
+ghost use Rattle.qvtr_semantics.specs.Templates.{Values};
+ghost use Rattle.qvtr_semantics.specs.Bindings.{Source, Target};
+ghost use Rattle.qvtr_semantics.specs.Satisfaction.{IsLess};
+ghost use Rattle.template_match.specs.Order.{binding_order};
+ghost use Rattle.template_match.specs.Each.{IsEachOnce};
+ghost use Rattle.template_match.specs.Plans.{IsPlanOf};
+ghost use Rattle.template_match.specs.Posed.{HasPrimitives, HasUniversals, IsPosed, IsSought};
+ghost use Rattle.template_match.specs.Search.{values_of, search_from, sought};
+ghost use Rattle.template_match.specs.Tasks.{problem_of};
+
+use crate::order::each_once;
+use crate::plan::Plan;
+use crate::search::search_from;
+use crate::side::Side;
+use crate::sides::variables_of;
+use crate::task::Task;
+use mof_metamodel::{NoMemory, Seq};
+use ocl_values::Models;
+use qv_syntax::Program;
+use qvtr_semantics::Binding;
+use std::alloc::Global;
+
+/// All that the search finds from the roots on.
+fn found_from(task: &Task<'_, '_>, roots: &Binding) -> Result<Seq<Binding>, NoMemory>
+    ensures { IfOk result (λ bs. values_of bs ≡ search_from (problem_of task.now) (length roots.now.values) roots.now.values) }
+{
+    let mut found = Seq::new(task.alloc);
+    search_from(task, roots.values.len(), roots, &mut found)?;
+    Ok(found)
+}
+
+/// The bindings of a side, in order, each once.
+fn all_found(task: &Task<'_, '_>, roots: &Binding) -> Result<Seq<Binding>, NoMemory>
+    requires posed { IsPosed (problem_of task.now) roots.now.values }
+    requires places { length roots.now.values ≡ length task.now.rel.now.vars }
+    ensures exact { IfOk result (λ bs. (b : Values) → Contains (values_of bs) b ↔ IsSought (problem_of task.now) roots.now.values b) }
+    ensures sorted { IfOk result (λ bs. AllPairs (IsLess (sought (problem_of task.now))) (values_of bs)) }
+{
+    let found = found_from(task, roots)?;
+    Ok(each_once(variables_of(task.side, task.rel), found))
+}
+
+/// The bindings of the universal variables of a relation that extend `fixed` and meet the source, in the order of the values of these
+/// variables, each once (QVT 1.3, sections 7.10.1 and 7.11.1.4). What calls in the when clause ask is told apart.
+pub fn bindings(
+    alloc: Global,
+    program: &Program,
+    plan: &Plan,
+    models: &Models<'_>,
+    fixed: &Binding,
+) -> Result<Seq<Binding>, NoMemory>
+    requires meant { AreMeant program.now }
+    requires planned { (rel : Rel) × IsPlanOf program.now plan.now.rel rel plan.now × (length fixed.now.values ≡ length rel.vars) × HasPrimitives rel fixed.now.values }
+    ensures exact { IfOk result (λ bs. (rel : Rel) → IsPlanOf program.now plan.now.rel rel plan.now → (b : Values)
+        → Contains (values_of bs) b ↔ Source program.now models.now rel fixed.now.values b) }
+    ensures sorted { IfOk result (λ bs. (rel : Rel) → IsPlanOf program.now plan.now.rel rel plan.now → AllPairs (IsLess rel.universal) (values_of bs)) }
+{
+    let task = Task {
+        alloc,
+        side: Side::Source,
+        program,
+        models,
+        rel: &program.rels.as_slice()[plan.rel as usize],
+        links: plan.source.as_slice(),
+    };
+    all_found(&task, fixed)
+}
+
+/// The bindings that extend `b`, a binding of the universal variables, by the existential variables and meet the target, in the order of
+/// the values of these variables, each once (QVT 1.3, sections 7.10.1 and 7.11.1.4). What calls in the where clause ask is told apart.
+pub fn target_bindings(
+    alloc: Global,
+    program: &Program,
+    plan: &Plan,
+    models: &Models<'_>,
+    b: &Binding,
+) -> Result<Seq<Binding>, NoMemory>
+    requires meant { AreMeant program.now }
+    requires planned { (rel : Rel) × IsPlanOf program.now plan.now.rel rel plan.now × (length b.now.values ≡ length rel.vars) × HasUniversals rel b.now.values }
+    ensures exact { IfOk result (λ gs. (rel : Rel) → IsPlanOf program.now plan.now.rel rel plan.now → (g : Values)
+        → Contains (values_of gs) g ↔ Target program.now models.now rel b.now.values g) }
+    ensures sorted { IfOk result (λ gs. (rel : Rel) → IsPlanOf program.now plan.now.rel rel plan.now → AllPairs (IsLess rel.existential) (values_of gs)) }
+{
+    let task = Task {
+        alloc,
+        side: Side::Target,
+        program,
+        models,
+        rel: &program.rels.as_slice()[plan.rel as usize],
+        links: plan.target.as_slice(),
+    };
+    all_found(&task, b)
+}

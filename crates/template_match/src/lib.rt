@@ -1,0 +1,27 @@
+//! Bindings of the variables of a relation (QVT 1.3, sections 7.2, 7.10.1 and 7.11.1.4): those that meet its source, and those that meet
+//! its target for a binding of the source. A search gives one variable a value after another, from a slot of an object that has been
+//! chosen, from a conjunct `v = e`, or from the objects of its class. A partial binding is dropped as soon as an item or a conjunct is
+//! against it all of whose variables have values, and each full binding is tested by all that its side asks.
+//! A search takes the time of the partial bindings that it looks at, each with its tests.
+#![tactic(auto)]
+
+mod branch;
+mod expressions;
+mod finding;
+mod link;
+mod linking;
+mod meeting;
+mod order;
+mod plan;
+mod pruning;
+mod readiness;
+mod search;
+mod side;
+mod sides;
+mod task;
+mod values;
+
+pub use finding::{bindings, target_bindings};
+pub use link::Link;
+pub use plan::{Plan, plan_of};
+pub use side::Side;
