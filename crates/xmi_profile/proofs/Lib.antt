@@ -25,3 +25,6 @@ pub mod Positions
 pub mod NumberingLaws
 pub mod ExternLaws
 pub mod LexicalLaws
+pub mod assembling
+pub mod filed_laws
+pub mod written

@@ -71,7 +71,7 @@ closed_inside es above n place number = ap (λ (ns : List ℕ). at_state es ns (
 
 -- ---- numbers
 
-counted : (item : Item) (inner : List Item) (number : ℕ) → number_behind inner (number_in item.role number) ≡ number_behind (item ∷ inner) number
+pub counted : (item : Item) (inner : List Item) (number : ℕ) → number_behind inner (number_in item.role number) ≡ number_behind (item ∷ inner) number
 counted item inner number = by (is_object item)
   where
     by : (b : Bool) → (if b then suc number else number) + length (filter is_object inner) ≡ number + length (cond b (item ∷ filter is_object inner) (filter is_object inner))

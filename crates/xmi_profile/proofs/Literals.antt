@@ -98,3 +98,7 @@ falsehood = refl
 pub underscore : chars (codes "_") ≡ codes "_"
 unfolding chars
 underscore = refl
+
+pub name : chars (codes "name") ≡ codes "name"
+unfolding chars
+name = refl

@@ -113,7 +113,7 @@ pub disputed_link : StandsBy disputed_elements
 disputed_link = record {
   p = 1;
   target = Named (codes "c2");
-  written = record { property = refl; target_is = refl };
+  written = record { property = refl; reference = refl; target_is = refl };
   b = 1;
   named = refl;
   q = 2;

@@ -58,7 +58,7 @@ not_prefixed prefixed name bad h = by (pointwise nat_eq prefixed name) refl
 not_xmi : (name : List ℕ) → is_meta_name name ≡ true → has (xmi_id ∷ xmi_type ∷ []) name ≡ false
 not_xmi name h = ap₂ (λ a b. a || (b || false)) (not_prefixed xmi_id name refl h) (not_prefixed xmi_type name refl h)
 
-filtered : {X : Type 0} (p : X → Bool) (xs : List X) (x : X) → Contains (filter p xs) x → Contains xs x × (p x ≡ true)
+pub filtered : {X : Type 0} (p : X → Bool) (xs : List X) (x : X) → Contains (filter p xs) x → Contains xs x × (p x ≡ true)
 filtered p [] x (k, l, e) = absurd (omega arith)
 filtered p (y ∷ ys) x c = by (filtered p ys x) (p y) refl c
   where

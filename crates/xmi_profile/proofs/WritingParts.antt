@@ -13,17 +13,17 @@ use Rattle.object_tables.specs.Models.{ModelData, object_at, class_at, partners_
 use Rattle.xmi_profile.specs.Profile.{props_or_none, object_props, live_numbers, contains_by, is_part}
 use Rattle.xmi_profile.proofs.WritingCalls.{contains_head, contains_tail}
 
-any_of : {X : Type 0} (p : X → Bool) (xs : List X) (x : X) → Contains xs x → p x ≡ true → list_any p xs ≡ true
+pub any_of : {X : Type 0} (p : X → Bool) (xs : List X) (x : X) → Contains xs x → p x ≡ true → list_any p xs ≡ true
 any_of p xs x (k, l, e) h = list_any_at p xs k x l (ap p e ∙ h)
 
-one_of : {X : Type 0} (p : X → Bool) (xs : List X) → list_any p xs ≡ true → (x : X) × Contains xs x × (p x ≡ true)
+pub one_of : {X : Type 0} (p : X → Bool) (xs : List X) → list_any p xs ≡ true → (x : X) × Contains xs x × (p x ≡ true)
 one_of p [] h = absurd cc
 one_of p (y ∷ ys) h = elim (or_cases (p y) (list_any p ys) h) [
   | inl here ↦ (y, contains_head y ys, here)
   | inr there ↦ (let found = one_of p ys there in (found.0, contains_tail y found.0 ys found.1, found.2))
 ]
 
-kept_in : {X : Type 0} (p : X → Bool) (xs : List X) (x : X) → Contains xs x → p x ≡ true → Contains (filter p xs) x
+pub kept_in : {X : Type 0} (p : X → Bool) (xs : List X) (x : X) → Contains xs x → p x ≡ true → Contains (filter p xs) x
 kept_in p [] x (k, l, e) h = absurd (omega arith)
 kept_in p (y ∷ ys) x c h = by (kept_in p ys x) (p y) refl c
   where
@@ -33,13 +33,13 @@ kept_in p (y ∷ ys) x c h = by (kept_in p ys x) (p y) refl c
     by later false e (zero, l, at) = absurd (true≢false (sym h ∙ ap p (sym at) ∙ e))
     by later false e (suc k, l, at) = later (k, omega arith, at) h
 
-numbered : (n a : ℕ) → a < n → Contains (range_with_len 0 n) a
+pub numbered : (n a : ℕ) → a < n → Contains (range_with_len 0 n) a
 numbered n a l =
     let len : length (range_with_len 0 n) ≡ n = length-range_with_len 0 n in
     let at : get_or (range_with_len 0 n) a a ≡ a = get_or-range_with_len 0 n a a l ∙ omega arith in
     (a, omega arith, at)
 
-known : (m : ModelData) (a : ℕ) → is_some (object_at m a) ≡ true → a < length m.objects
+pub known : (m : ModelData) (a : ℕ) → is_some (object_at m a) ≡ true → a < length m.objects
 known m a h = elim (cases_lt a (length m.objects)) [
   | inl below ↦ below
   | inr past ↦ absurd (true≢false (sym h ∙ ap is_some (get_or_past m.objects a None past)))

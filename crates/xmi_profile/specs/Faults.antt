@@ -2,7 +2,7 @@
 -- by the object, the property and the number of what is written there (MOF 2.5.1, 12.4; UML 2.5.1, 7.5, 9.5.3 and 11.5).
 use Rattle.std.specs.Prelude.{◌≡◌, ◌≢◌, ◌⊎◌, ℕ, ◌<◌, true, List, slice_get, Contains, Some}
 use Rattle.mof_metamodel.specs.Metamodels.{prop_at, type_of, opposite_of}
-use Rattle.object_tables.specs.Models.{ConformsTo}
+use Rattle.object_tables.specs.Models.{ConformsTo, is_class_type}
 use Rattle.xmi_profile.specs.declared.fault.ModelFault.{ModelFault}
 use Rattle.xmi_profile.specs.declared.fault.ModelFault.TheVariants as faults
 use Rattle.xmi_profile.specs.Elements.{Item, object_items}
@@ -51,9 +51,10 @@ pub data IsBefore (a b : Spot) : Type 0 where
   ByProperty : (object : a.object ≡ b.object) (property : a.property < b.property) → IsBefore a b
   ByTarget : (object : a.object ≡ b.object) (property : a.property ≡ b.property) (target : a.target < b.target) → IsBefore a b
 
--- the object writes the target there at the property p
+-- the object writes the target there at the reference p; what an attribute of a data type writes is a value, and no target
 pub record IsWritten (s : Source) (spot : Spot) (p : ℕ) (target : Target) : Type 0 where
   pub property : slice_get (props_or_none s.meta (class_of s spot.object)) spot.property ≡ Some p
+  pub reference : is_class_type (type_of s.meta p) ≡ true
   pub target_is : slice_get (targets_at s spot.object p) spot.target ≡ Some target
 
 -- the target is the object b, of the property's type

@@ -7,6 +7,7 @@ use Rattle.object_tables.specs.declared.breach.Breach.{Breach}
 use Rattle.object_tables.specs.declared.limit.LimitKind.{LimitKind}
 use Rattle.object_tables.specs.declared.limit.LimitKind.TheVariants as limits
 use Rattle.object_tables.specs.Containment.{IsDepth}
+use Rattle.object_tables.specs.Kept.{Kept}
 use Rattle.object_tables.specs.Models.{ModelData, IsLive, id_at}
 use Rattle.object_tables.specs.Validity.{Valid, IsFirstBreach}
 use Rattle.xmi_profile.specs.declared.fault.ModelFault.{ModelFault}
@@ -52,6 +53,7 @@ pub record IsInvalid (s : Source) (breach : Breach) (id : List ℕ) : Type 0 whe
   pub fewer : object_count s ≤ MAX_OBJECTS
   pub model : ModelData
   pub content : Content s model
+  pub kept : Kept model
   pub broken : IsFirstBreach model breach
   pub id_is : id_at model breach.object.0 ≡ Some id
 

@@ -121,7 +121,7 @@ fn is_unknown(meta: &MetaModel, element: &Element, name: &str) -> bool
 }
 
 /// The class of an object's element.
-fn class_by(role: &Role) -> Option<u32>
+pub(crate) fn class_by(role: &Role) -> Option<u32>
     ensures { result ≡ judging.class_by role.now }
 {
     match role {
@@ -148,7 +148,7 @@ fn attr_found(element: &Element, number: usize, fault: ModelFault) -> Found
 }
 
 /// Whether a class conforms to another.
-fn conforms_to(meta: &MetaModel, class: ClassId, d: ClassId) -> bool
+pub(crate) fn conforms_to(meta: &MetaModel, class: ClassId, d: ClassId) -> bool
     requires { class.0 < class_count meta.now }
     ensures { result ≡ judging.conforms_to meta.now class.0 (Some (types.Class d)) }
 {

@@ -1,4 +1,5 @@
-ghost use Rattle.std.specs.Prelude.{◌≡◌, ◌<◌, ◌+◌, ◌^◌, All, None, Some, false, chars, is_some, IfOk, OnOk};
+ghost use Rattle.std.specs.Prelude.{◌≡◌, ◌<◌, ◌+◌, ◌^◌, All, None, Some, false, chars, is_some, IfSome, IfOk, OnOk};
+ghost use Rattle.mof_metamodel.specs.Metamodels.{class_count};
 ghost use Rattle.std.specs.Fmt.{decimal};
 ghost use Rattle.mof_metamodel.specs.NameTables.{value_of};
 ghost use Rattle.xmi_profile.specs.declared.element.Element.{Element};
@@ -114,6 +115,27 @@ impl Numbers {
         self.ids.as_slice()
     }
 
+    /// Moves the identifiers out.
+    pub(crate) fn into_ids(self) -> Seq<Text>
+        ensures { result ≡ self.ids }
+    {
+        let Numbers {
+            ids,
+            names,
+            repeated,
+        } = self;
+        drop(names);
+        drop(repeated);
+        ids
+    }
+
+    /// The number of the first object of this identifier.
+    pub(crate) fn number(&self, id: &str) -> Option<u64>
+        ensures { result ≡ value_of self.now.names (chars id.now) }
+    {
+        self.names.get(id).copied()
+    }
+
     /// Takes out the first fault of a repeated identifier.
     pub(crate) fn take_repeated(&mut self) -> Option<Found>
         ensures result { result ≡ self.old.repeated }
@@ -214,8 +236,9 @@ fn is_used(name: &str, elements: &[Element]) -> bool
 
 /// The class of primitive types.
 #[tactic(auto, using(crate::proofs::Literals::primitive))]
-fn primitive_class(meta: &MetaModel) -> Option<u32>
-    ensures { result ≡ sources.primitive_class meta.now }
+pub(crate) fn primitive_class(meta: &MetaModel) -> Option<u32>
+    ensures class { result ≡ sources.primitive_class meta.now }
+    ensures within { IfSome result (λ c. c < class_count meta.now) }
 {
     concrete_class(meta, "PrimitiveType")
 }

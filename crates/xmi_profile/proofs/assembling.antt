@@ -1,0 +1,22 @@
+-- From the flat lists of what a file writes to the first fault of its references, or to a model with their links.
+pub mod ListLaws
+pub mod MetLaws
+pub mod EntrySteps
+pub mod SpotLaws
+pub mod FaultLaws
+pub mod EndLaws
+pub mod PartLaws
+pub mod NameLaws
+pub mod MismatchLaws
+pub mod ToldLaws
+pub mod ValuedLaws
+pub mod SortedLaws
+pub mod LinkLaws
+pub mod LinkedLaws
+pub mod StartLaws
+pub mod OrderLaws
+pub mod MemberLaws
+pub mod ObjectLaws
+pub mod EntryLaws
+pub mod FirstLaws
+pub mod CheckLaws

@@ -1,0 +1,56 @@
+ghost use Rattle.std.specs.Prelude.{IfOk};
+ghost use Rattle.xmi_profile.specs.AssemblyModels.{IsLinkedModel};
+ghost use Rattle.xmi_profile.specs.AssemblyObjects.{AreObjects, bare_model};
+ghost use Rattle.xmi_profile.specs.AssemblyReferences.{AreAnswered, MayBeAssembled};
+ghost use Rattle.xmi_profile.specs.AssemblyValues.{AreValuesOf, HasValues};
+
+use super::links::link_all;
+use super::naming::Naming;
+use super::objects::bare_model;
+use super::values::put_values;
+use crate::filed::{Filed, WrittenValue};
+use mof_metamodel::{ClassId, MetaModel, NoMemory, Seq, Text};
+use object_tables::Model;
+use std::alloc::Global;
+
+/// The objects of a file with their values.
+fn valued_model<'m>(
+    alloc: Global,
+    meta: &'m MetaModel,
+    classes: &[ClassId],
+    ids: &[Text],
+    values: Seq<WrittenValue>,
+) -> Result<Model<'m>, NoMemory>
+    requires objects { AreObjects meta.now classes.now ids.now }
+    requires values { AreValuesOf (bare_model meta.now classes.now ids.now) values }
+    ensures { IfOk result (HasValues (bare_model meta.now classes.now ids.now) values) }
+{
+    let mut model = bare_model(alloc, meta, classes, ids)?;
+    put_values(alloc, &mut model, values)?;
+    Ok(model)
+}
+
+/// The same with their links. The partners stand in the order in which they were linked.
+pub(super) fn linked_model<'m>(
+    alloc: Global,
+    meta: &'m MetaModel,
+    filed: Filed,
+    namings: &[Naming],
+) -> Result<Model<'m>, NoMemory>
+    requires sound { MayBeAssembled meta.now filed }
+    requires values { AreValuesOf (bare_model meta.now filed.classes filed.ids) filed.values }
+    requires answered { AreAnswered meta.now filed namings.now }
+    ensures { IfOk result (IsLinkedModel meta.now filed namings.now) }
+{
+    let Filed {
+        ids,
+        classes,
+        values,
+        ..
+    } = filed;
+    let mut model = valued_model(alloc, meta, classes.as_slice(), ids.as_slice(), values)?;
+    // What every model keeps is known here.
+    let _ = model.end();
+    link_all(alloc, &mut model, namings)?;
+    Ok(model)
+}
