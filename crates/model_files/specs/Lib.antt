@@ -3,10 +3,13 @@ pub mod Bounds
 pub mod CanonJson
 pub mod Described
 pub mod Emof
+pub mod FileForm
 pub mod JsonContent
 pub mod JsonFaults
+pub mod JsonFiled
 pub mod JsonSteps
 pub mod JsonText
+pub mod JsonTrees
 pub mod Literals
 pub mod Reflection
 pub mod Shape

@@ -208,7 +208,7 @@ fn wrong_slots(
 }
 
 /// The text of a member of an object.
-fn member_text<'a>(value: &'a Value, name: &str) -> &'a str
+pub(crate) fn member_text<'a>(value: &'a Value, name: &str) -> &'a str
     ensures { chars result.now ≡ content.text_of (get name.now (view value.now)) }
 {
     match value.get(name) {
@@ -250,7 +250,7 @@ fn wrong_id(
 }
 
 /// The concrete class of this name.
-fn concrete_class(meta: &MetaModel, name: &str) -> Option<ClassId>
+pub(crate) fn concrete_class(meta: &MetaModel, name: &str) -> Option<ClassId>
     ensures class { option_map (λ c. c.0) result ≡ concrete_class meta.now (chars name.now) }
     ensures within { IfSome result (λ c. c.0 < class_count meta.now) }
 {
@@ -308,7 +308,7 @@ fn wrong_object(
 }
 
 /// Adds the identifier of an object to those that were met.
-fn add_id(alloc: Global, ids: &mut NameTable<()>, value: &Value) -> Result<(), NoMemory>
+pub(crate) fn add_id(alloc: Global, ids: &mut NameTable<()>, value: &Value) -> Result<(), NoMemory>
     requires { list_any (same_name (content.written_of (view value.now)).id) (met_ids ids.old) ≡ false }
     ensures { OnOk result (met_ids ids.new ≡ met_ids ids.old ++ (content.written_of (view value.now)).id ∷ []) }
 {

@@ -16,7 +16,7 @@ use std::alloc::Global;
 use xmi_profile::ModelFault;
 
 /// The bytes behind a byte order mark.
-fn without_mark(bytes: &[u8]) -> &[u8]
+pub(crate) fn without_mark(bytes: &[u8]) -> &[u8]
     ensures { result.now ≡ without_mark bytes.now }
 {
     match bytes.strip_prefix(b"\xef\xbb\xbf") {
@@ -68,7 +68,7 @@ fn shaped_value(alloc: Global, bytes: &[u8]) -> Result<Value, FileError>
 }
 
 /// The items of a list, or none of another value.
-fn in_list(value: &Value) -> &[Value]
+pub(crate) fn in_list(value: &Value) -> &[Value]
     ensures { items_list (items_view result.now) ≡ in_list (view value.now) }
 {
     match value {
@@ -78,7 +78,7 @@ fn in_list(value: &Value) -> &[Value]
 }
 
 /// The objects of a value that has the form of a model.
-fn objects_of(value: &Value) -> &[Value]
+pub(crate) fn objects_of(value: &Value) -> &[Value]
     ensures { map (λ v. written_of (view v)) result.now ≡ objects_of (view value.now) }
 {
     match value.get("objects") {

@@ -8,7 +8,10 @@ mod bounds;
 mod description;
 mod emof;
 mod fault;
+mod file_form;
 mod json_faults;
+mod json_filed;
+mod json_laws;
 mod json_reading;
 mod json_values;
 mod json_writing;
@@ -19,5 +22,6 @@ mod shape;
 
 pub use emof::emof_metamodel;
 pub use fault::{FileError, JsonFault};
+pub use file_form::{Form, form_of};
 pub use json_writing::write_json;
 pub use metamodels::metamodel_of;
