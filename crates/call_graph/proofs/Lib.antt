@@ -1,6 +1,12 @@
 pub mod ChainLemmas
+pub mod CloseLemmas
+pub mod EnterLemmas
+pub mod LeaveLemmas
 pub mod MarkLemmas
-pub mod OrderLemmas
+pub mod PassLemmas
+pub mod ReachLemmas
 pub mod SearchLemmas
-pub mod StrataLemmas
-pub mod UnionLemmas
+pub mod SegmentLemmas
+pub mod StandingLemmas
+pub mod TopLemmas
+pub mod WalkLemmas

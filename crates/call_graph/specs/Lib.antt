@@ -1,4 +1,5 @@
 pub mod Graphs
-pub mod Orders
 pub mod Searches
 pub mod Strata
+pub mod Tops
+pub mod Walks

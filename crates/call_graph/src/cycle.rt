@@ -1,8 +1,7 @@
-ghost use Rattle.std.specs.Prelude.{◌≡◌, ℕ, List, ◌++◌, ◌∷◌, [], ◌<◌, ◌≤◌, ◌↔◌, length, slice_index_or, set, IsTrue, IfOk, OnOk, MatchOption, replicate};
+ghost use Rattle.std.specs.Prelude.{◌≡◌, ℕ, List, ◌++◌, ◌∷◌, [], ◌<◌, ◌≤◌, ◌↔◌, length, slice_index_or, IsTrue, IfOk, OnOk, MatchOption, replicate};
 ghost use Rattle.call_graph.specs.declared.mark.Mark.TheVariants as marked;
 ghost use Rattle.call_graph.specs.Graphs.{neighbours, Leads, IsOnCycle};
 ghost use Rattle.call_graph.specs.Searches.{mark_at, Settled, ArePassed, IsSearch, StaySeen, weight};
-ghost use Rattle.call_graph.specs.Orders.{IsOrder, IsSorted};
 
 use crate::mark::Mark;
 use mof_metamodel::{NoMemory, Seq};
@@ -67,32 +66,9 @@ fn finish(graph: &[Seq<u32>], marks: &mut [Mark], next: &[usize], path: &mut Seq
     ensures search { IsSearch graph.now marks.new next.now path.new }
     ensures seen { StaySeen marks.old marks.new }
     ensures falls { weight marks.new path.new < weight marks.old path.old }
-    ensures marks { marks.new ≡ set marks.old u marked.Done }
 {
     marks[u] = Mark::Done;
     let _last = path.pop();
-}
-
-/// Takes the last node off the path, and puts it behind the nodes that are done.
-fn put_in_order(
-    graph: &[Seq<u32>],
-    marks: &mut [Mark],
-    next: &[usize],
-    path: &mut Seq<usize>,
-    order: &mut Seq<usize>,
-    u: usize,
-) -> Result<(), NoMemory>
-    requires last { (before : List ℕ) × (path.old ≡ before ++ u ∷ []) }
-    requires search { IsSearch graph.now marks.old next.now path.old }
-    requires settled { ArePassed marks.old (neighbours graph.now u) (length (neighbours graph.now u)) }
-    requires order { IsOrder graph.now marks.old order.old }
-    ensures search { OnOk result (IsSearch graph.now marks.new next.now path.new) }
-    ensures order { OnOk result (IsOrder graph.now marks.new order.new) }
-    ensures seen { StaySeen marks.old marks.new }
-    ensures falls { OnOk result (weight marks.new path.new < weight marks.old path.old) }
-{
-    finish(graph, marks, next, path, u);
-    order.push(u)
 }
 
 /// Puts a neighbour of the last node behind it.
@@ -110,7 +86,6 @@ fn open(
     ensures search { OnOk result (IsSearch graph.now marks.new next.now path.new) }
     ensures seen { StaySeen marks.old marks.new }
     ensures falls { OnOk result (weight marks.new path.new < weight marks.old path.old) }
-    ensures marks { marks.new ≡ set marks.old link.1 marked.Open }
 {
     marks[link.1] = Mark::Open;
     path.push(link.1)
@@ -118,22 +93,18 @@ fn open(
 
 /// Goes on from the last node of the path: to its first neighbour that isn't done, or back where all are. A neighbour
 /// that stands on the path lies on a cycle.
-#[tactic(auto, using(crate::proofs::OrderLemmas::order_opened))]
 fn advance(
     graph: &[Seq<u32>],
     marks: &mut [Mark],
     next: &mut [usize],
     path: &mut Seq<usize>,
-    order: &mut Seq<usize>,
     u: usize,
 ) -> Result<Option<usize>, NoMemory>
     requires last { (before : List ℕ) × (path.old ≡ before ++ u ∷ []) }
     requires search { IsSearch graph.now marks.old next.old path.old }
-    requires order { IsOrder graph.now marks.old order.old }
     requires inside { u < length graph.now }
     requires nexts { length next.old ≡ length graph.now }
     ensures search { IfOk result (λ o. MatchOption o (IsSearch graph.now marks.new next.new path.new) (IsOnCycle graph.now)) }
-    ensures order { IfOk result (λ o. MatchOption o (IsOrder graph.now marks.new order.new) (λ v. Unit {0})) }
     ensures seen { StaySeen marks.old marks.new }
     ensures falls { IfOk result (λ o. MatchOption o (weight marks.new path.new < weight marks.old path.old) (λ v. Unit {0})) }
 {
@@ -141,7 +112,7 @@ fn advance(
     let i = first_unsettled(row, next[u], marks);
     next[u] = i;
     if i >= row.len() {
-        put_in_order(graph, marks, next, path, order, u)?;
+        finish(graph, marks, next, path, u);
         return Ok(None);
     }
     let v = row[i] as usize;
@@ -153,20 +124,16 @@ fn advance(
 }
 
 /// Searches all that a node leads to.
-#[tactic(auto, using(crate::proofs::OrderLemmas::order_opened))]
 fn search(
     alloc: Global,
     graph: &[Seq<u32>],
     marks: &mut [Mark],
     next: &mut [usize],
-    order: &mut Seq<usize>,
     root: usize,
 ) -> Result<Option<usize>, NoMemory>
     requires unseen { mark_at marks.old root ≡ marked.New }
     requires search { IsSearch graph.now marks.old next.old [] }
-    requires order { IsOrder graph.now marks.old order.old }
     ensures search { IfOk result (λ o. MatchOption o (IsSearch graph.now marks.new next.new []) (IsOnCycle graph.now)) }
-    ensures order { IfOk result (λ o. MatchOption o (IsOrder graph.now marks.new order.new) (λ v. Unit {0})) }
     ensures seen { StaySeen marks.old marks.new }
     ensures root { mark_at marks.new root ≡ marked.New → ⊥ }
 {
@@ -174,7 +141,7 @@ fn search(
     marks[root] = Mark::Open;
     path.push(root)?;
     while let Some(u) = last(path.as_slice()) {
-        match advance(graph, marks, next, &mut path, order, u)? {
+        match advance(graph, marks, next, &mut path, u)? {
             Some(v) => return Ok(Some(v)),
             None => {}
         }
@@ -194,7 +161,7 @@ fn new_marks(alloc: Global, count: usize) -> Result<Vec<Mark>, NoMemory>
 }
 
 /// No neighbour of any node was passed.
-pub(crate) fn no_places(alloc: Global, count: usize) -> Result<Vec<usize>, NoMemory>
+fn no_places(alloc: Global, count: usize) -> Result<Vec<usize>, NoMemory>
     ensures { IfOk result (λ next. next.items ≡ replicate count 0) }
 {
     let mut next = Vec::new(alloc);
@@ -210,18 +177,15 @@ fn visit(
     graph: &[Seq<u32>],
     marks: &mut [Mark],
     next: &mut [usize],
-    order: &mut Seq<usize>,
     root: usize,
 ) -> Result<Option<usize>, NoMemory>
     requires search { IsSearch graph.now marks.old next.old [] }
-    requires order { IsOrder graph.now marks.old order.old }
     ensures search { IfOk result (λ o. MatchOption o (IsSearch graph.now marks.new next.new []) (IsOnCycle graph.now)) }
-    ensures order { IfOk result (λ o. MatchOption o (IsOrder graph.now marks.new order.new) (λ v. Unit {0})) }
     ensures seen { StaySeen marks.old marks.new }
     ensures root { mark_at marks.new root ≡ marked.New → ⊥ }
 {
     if is_new(marks, root) {
-        search(alloc, graph, marks, next, order, root)
+        search(alloc, graph, marks, next, root)
     } else {
         Ok(None)
     }
@@ -233,15 +197,12 @@ fn visit_all(
     graph: &[Seq<u32>],
     marks: &mut [Mark],
     next: &mut [usize],
-    order: &mut Seq<usize>,
 ) -> Result<Option<usize>, NoMemory>
     requires search { IsSearch graph.now marks.old next.old [] }
-    requires order { IsOrder graph.now marks.old order.old }
-    ensures cycle { IfOk result (λ o. MatchOption o ((u : ℕ) → IsOnCycle graph.now u → ⊥) (IsOnCycle graph.now)) }
-    ensures order { IfOk result (λ o. MatchOption o (IsSorted graph.now order.new) (λ v. Unit {0})) }
+    ensures { IfOk result (λ o. MatchOption o ((u : ℕ) → IsOnCycle graph.now u → ⊥) (IsOnCycle graph.now)) }
 {
     for root in 0..graph.len() {
-        match visit(alloc, graph, marks, next, order, root)? {
+        match visit(alloc, graph, marks, next, root)? {
             Some(u) => return Ok(Some(u)),
             None => {}
         }
@@ -249,37 +210,16 @@ fn visit_all(
     Ok(None)
 }
 
-/// A node on a cycle, if there is a cycle. If there is none, all nodes are put in order: those that a node leads to
-/// stand before it.
-#[tactic(auto, using(crate::proofs::SearchLemmas::begun, crate::proofs::OrderLemmas::none_in_order))]
-pub(crate) fn sort(
-    alloc: Global,
-    graph: &[Seq<u32>],
-    order: &mut Seq<usize>,
-) -> Result<Option<usize>, NoMemory>
-    requires none { order.old ≡ [] }
-    ensures cycle { IfOk result (λ o. MatchOption o ((u : ℕ) → IsOnCycle graph.now u → ⊥) (IsOnCycle graph.now)) }
-    ensures order { IfOk result (λ o. MatchOption o (IsSorted graph.now order.new) (λ v. Unit {0})) }
-{
-    let mut marks = new_marks(alloc, graph.len())?;
-    let mut next = no_places(alloc, graph.len())?;
-    visit_all(
-        alloc,
-        graph,
-        marks.as_mut_slice(),
-        next.as_mut_slice(),
-        order,
-    )
-}
-
 /// A node on a cycle, if there is a cycle.
 ///
 /// # Errors
 ///
 /// `NoMemory` where memory runs out.
+#[tactic(auto, using(crate::proofs::SearchLemmas::begun))]
 pub fn find_cycle(alloc: Global, graph: &[Seq<u32>]) -> Result<Option<usize>, NoMemory>
     ensures { IfOk result (λ o. MatchOption o ((u : ℕ) → IsOnCycle graph.now u → ⊥) (IsOnCycle graph.now)) }
 {
-    let mut order = Seq::new(alloc);
-    sort(alloc, graph, &mut order)
+    let mut marks = new_marks(alloc, graph.len())?;
+    let mut next = no_places(alloc, graph.len())?;
+    visit_all(alloc, graph, marks.as_mut_slice(), next.as_mut_slice())
 }
