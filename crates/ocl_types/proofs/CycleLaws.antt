@@ -360,8 +360,11 @@ module _ (queries : List Query) where
   reached_by a b [] leads = Reaches.call a b (call_there a b leads)
   reached_by a b (m ∷ between) path = Reaches.more a m b (call_there a m path.0) (reached_by m b between path.1)
 
+  pub cycle_reached : (u : ℕ) → IsOnCycle (rows_of 0 queries) u → Reaches queries u u
+  cycle_reached u cycle = reached_by u u cycle.0 cycle.1
+
   pub none_on_cycle : AreAcyclic queries → (u : ℕ) → IsOnCycle (rows_of 0 queries) u → ⊥
-  none_on_cycle acyclic u cycle = acyclic u (reached_by u u cycle.0 cycle.1)
+  none_on_cycle acyclic u cycle = acyclic u (cycle_reached u cycle)
 
   pub acyclic_where : ((u : ℕ) → IsOnCycle (rows_of 0 queries) u → ⊥) → AreAcyclic queries
   acyclic_where none = λ q reaches. none q (path_there q q reaches)

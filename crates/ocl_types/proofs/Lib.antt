@@ -19,6 +19,7 @@ pub mod ClassifierIndexLemmas
 pub mod DeclaredLemmas
 pub mod QueryCallLemmas
 pub mod QueryLemmas
+pub mod SignatureLemmas
 pub mod QueriesDecide
 pub mod QueryTrees
 pub mod CycleLaws

@@ -118,7 +118,7 @@ described_is metas m c name (Some ty) q p within inside own typed is =
       named = own.named;
     })
 
-class_property_is : (metas : List MetaDesc) (m : ℕ) (c : ClassId) (name : List ℕ) (p : PropId × Values × Ty) → class_property metas m c name ≡ Some p → HasPropertyNamed metas (types.Class m c) name p
+pub class_property_is : (metas : List MetaDesc) (m : ℕ) (c : ClassId) (name : List ℕ) (p : PropId × Values × Ty) → class_property metas m c name ≡ Some p → HasPropertyNamed metas (types.Class m c) name p
 class_property_is metas m c name p is = by (nat_lt m (length metas) && nat_lt c.0 (class_count (meta_at metas m))) refl is
   where
     there : (o : Option ℕ) → prop_number (meta_at metas m) c.0 name ≡ o → m < length metas → c.0 < class_count (meta_at metas m)

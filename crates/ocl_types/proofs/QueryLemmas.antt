@@ -1,5 +1,5 @@
 -- Queries one after the other: what a function that types them all answers.
-use Rattle.std.proofs.Common.{◌≡◌, ◌<◌, ◌+◌, ℕ, List, [], ◌∷◌, ◌++◌, drop, get_or, Option, None, Some, Result, Ok, Err, length, refl, sym, ◌∙◌, ap, subst, inl, inr}
+use Rattle.std.proofs.Common.{◌≡◌, ◌<◌, ◌+◌, ℕ, List, [], ◌∷◌, ◌++◌, drop, get_or, map, Bor, Option, None, Some, Result, Ok, Err, length, refl, sym, ◌∙◌, ap, subst, inl, inr}
 use Rattle.std.specs.Prelude.{IsTrue, IfSome, IfOk, OnOk}
 use Rattle.std.specs.List.{list_all}
 use Rattle.std.proofs.lemmas.List.{drop_more}
@@ -113,16 +113,30 @@ gives_told r y e meaning Q is same tells fault =
     subst (λ k. Gives fault_in (λ x. x) k meaning) (sym is)
     (subst (λ z. IfSome (fault_in z) (λ f. meaning ≡ Err f)) (sym same) (fault_told (fault_in e) Q (λ f. meaning ≡ Err f) tells fault))
 
-module _ (env : Environment) (acc : List Query) (qs : List QueryTree) (i : ℕ) (t : QueryTree) (within : i < length qs) (is : t ≡ get_or qs i t) where
-  bodies_rest : queries_from env acc (drop i qs) ≡ and_then (query_typed env t) (λ q. queries_from env (acc ++ q ∷ []) (drop (i + 1) qs))
+abbrev shown : List (Bor QueryTree) → List QueryTree
+shown qs = map {A = Bor QueryTree} {B = QueryTree} (λ q. q.now) qs
+
+module _ (env : Environment) (acc : List Query) (qs : List (Bor QueryTree)) (i : ℕ) (t : Bor QueryTree) (within : i < length qs) (is : t ≡ get_or qs i t) where
+  bodies_rest : queries_from env acc (shown (drop i qs)) ≡ and_then (query_typed env t.now) (λ q. queries_from env (acc ++ q ∷ []) (shown (drop (i + 1) qs)))
   unfolding queries_from
-  bodies_rest = ap (λ ts. queries_from env acc ts) (drop_more qs i t within ∙ ap (λ x. x ∷ drop (i + 1) qs) (sym is))
+  bodies_rest = ap (λ ts. queries_from env acc (shown ts)) (drop_more qs i t within ∙ ap (λ x. x ∷ drop (i + 1) qs) (sym is))
 
-  pub bodies_step : (q : Query) (grown : List Query) → query_typed env t ≡ Ok q → grown ≡ acc ++ q ∷ []
-      → queries_from env grown (drop (i + 1) qs) ≡ queries_from env acc (drop i qs)
+  pub bodies_step : (q : Query) (grown : List Query) → query_typed env t.now ≡ Ok q → grown ≡ acc ++ q ∷ []
+      → queries_from env grown (shown (drop (i + 1) qs)) ≡ queries_from env acc (shown (drop i qs))
   bodies_step q grown made more =
-      ap (λ g. queries_from env g (drop (i + 1) qs)) more
-      ∙ sym (bodies_rest ∙ ap (λ o. and_then o (λ q. queries_from env (acc ++ q ∷ []) (drop (i + 1) qs))) made)
+      ap (λ g. queries_from env g (shown (drop (i + 1) qs))) more
+      ∙ sym (bodies_rest ∙ ap (λ o. and_then o (λ q. queries_from env (acc ++ q ∷ []) (shown (drop (i + 1) qs)))) made)
 
-  pub bodies_stop : (f : TypeFault) → query_typed env t ≡ Err f → queries_from env acc (drop i qs) ≡ Err f
-  bodies_stop f made = bodies_rest ∙ ap (λ o. and_then o (λ q. queries_from env (acc ++ q ∷ []) (drop (i + 1) qs))) made
+  pub bodies_stop : (f : TypeFault) → query_typed env t.now ≡ Err f → queries_from env acc (shown (drop i qs)) ≡ Err f
+  bodies_stop f made = bodies_rest ∙ ap (λ o. and_then o (λ q. queries_from env (acc ++ q ∷ []) (shown (drop (i + 1) qs)))) made
+
+-- ---- what is meant, of what a function gives
+
+pub ok_given : {X : Type 0} (r : Result X TypeError) (meaning : RuleResult X) (P : X → Type 0) → ((x : X) → meaning ≡ Ok x → P x) → Gives fault_in (λ x. x) r meaning → IfOk r P
+ok_given (Ok x) meaning P holds is = holds x is
+ok_given (Err e) meaning P holds is = tt
+
+pub fault_given : {X : Type 0} (r : Result X TypeError) (meaning : RuleResult X) (P : TypeFault → Type 0) → ((f : TypeFault) → meaning ≡ Err f → P f)
+    → Gives fault_in (λ x. x) r meaning → IfFault r P
+fault_given (Ok x) meaning P holds is = tt
+fault_given (Err e) meaning P holds is = fault_told (fault_in e) (λ f. meaning ≡ Err f) P holds is

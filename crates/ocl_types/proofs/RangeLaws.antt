@@ -128,7 +128,7 @@ module _ (metas : List MetaDesc) where
   value_over m meta (props.Enum e) found is = over_enum m e (record { meta = meta; found = found; within = is })
   value_over m meta (props.Class c) found is = over_class m c (record { meta = meta; found = found; within = is })
 
-  property_over : (object : Ty) (prop : _) (gives : Values) (t : Ty) → HasProperty metas object prop gives t → IsOver t
+  pub property_over : (object : Ty) (prop : _) (gives : Values) (t : Ty) → HasProperty metas object prop gives t → IsOver t
   property_over object prop gives t p = subst IsOver (sym p.value) (value_over p.m p.has.meta p.of p.has.found (prop_type p.has.meta prop.0 p.of p.typed))
 
   navigated_over : (gives : Values) (t : Ty) → IsOver t → IsOver (navigated gives t)

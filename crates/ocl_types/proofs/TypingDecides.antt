@@ -498,6 +498,15 @@ module _ (env : Environment) (order : IsInOrder env) (e : Expr) where
   unfolding Stands
   fault_stands f is = (decided env (ready env order) e).fault f is
 
+  -- of what the search for the first fault gives
+  pub part_told : (p : TypedPart) → (meaning e).typing env ≡ Ok p → HasType env e p
+  unfolding part_of
+  part_told p is = has_type p is
+
+  pub part_fault : (f : TypeFault) → (meaning e).typing env ≡ Err f → Stands env e f
+  unfolding part_of
+  part_fault f is = fault_stands f is
+
   refused_where : (f : TypeFault) → Stands env e f → (p : TypedPart) → part_of env e ≡ Ok p → ⊥
   unfolding Stands
   refused_where f stands p is = (decided env (ready env order) e).refused f stands p is

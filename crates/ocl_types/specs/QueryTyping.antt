@@ -63,6 +63,10 @@ queries_from env typed (q ∷ qs) = and_then (query_typed env q) (λ query. quer
 unfoldable pub queries_typed : Environment → List QueryTree → RuleResult (Environment × List Query)
 queries_typed env qs = and_then (queries_bound (without_variables env) qs) (λ bound. and_then (queries_from bound [] qs) (λ typed. Ok (bound, typed)))
 
+-- a typed query by its name, with the types of its parameters and of its result
+abbrev pub signed : Query → List ℕ × Signature
+signed q = (q.name, record { params = q.params; result = q.result })
+
 -- a fault of these, or a query on a cycle of calls
 abbrev pub IsFirstFault : Environment → List QueryTree → TypeFault → Type 0
 IsFirstFault env qs f = (queries_typed env qs ≡ Err f)

@@ -114,8 +114,8 @@ pub(crate) fn fits(metas: &[MetaModel], a: &Ty, b: &Ty) -> bool
     }
 }
 
-/// Whether one of two types conforms to the other.
-pub(crate) fn are_related(metas: &[MetaModel], a: &Ty, b: &Ty) -> bool
+/// Whether one of two types conforms to the other (OCL 2.4, section 8.2.1).
+pub fn are_related(metas: &[MetaModel], a: &Ty, b: &Ty) -> bool
     ensures { result ≡ related metas.now a.now b.now }
 {
     fits(metas, a, b) || fits(metas, b, a)

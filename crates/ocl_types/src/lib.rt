@@ -37,6 +37,7 @@ mod typing_steps;
 mod variable;
 mod written;
 
+pub use agreement::are_related;
 pub use env::Env;
 pub use fault::{TypeError, TypeFault};
 pub use laws::{
@@ -47,8 +48,10 @@ pub use laws::{
 pub use limits::MAX_NUMBERED;
 pub use metas::Metas;
 pub use naming::{path_text, type_text};
-pub use part::TypedPart;
+pub use navigation::prop_type;
+pub use outcomes::wrong_type;
+pub use part::{CallsSoFar, Chained, TypedPart};
 pub use queries::{type_queries, variable_type};
-pub use typing::type_expr;
+pub use typing::{type_expr, type_whole};
 pub use variable::{Signature, Variable};
 pub use written::written_type;

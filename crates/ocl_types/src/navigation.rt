@@ -57,7 +57,7 @@ pub(crate) fn navigated(alloc: Global, values: Values, ty: Ty) -> Result<Ty, NoM
 }
 
 /// The type of one value of a property of the metamodel of number `m`.
-pub(crate) fn prop_type(m: u32, meta: &MetaModel, p: PropId) -> Ty
+pub fn prop_type(m: u32, meta: &MetaModel, p: PropId) -> Ty
     requires { p.0 < prop_count meta.now }
     ensures { option_map (type_of_value m) (type_of meta.now p.0) ≡ Some result }
 {

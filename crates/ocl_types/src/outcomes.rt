@@ -14,7 +14,7 @@ use qv_syntax::{Path, Ty};
 use std::alloc::Global;
 
 /// A type in the place of another.
-pub(crate) fn wrong_type(
+pub fn wrong_type(
     alloc: Global,
     metas: &[MetaModel],
     wanted: &Ty,

@@ -11,7 +11,7 @@ pub struct TypedPart {
 
 /// What was called on a part so far, and what came of it.
 #[derive(Drop)]
-pub(crate) struct CallsSoFar {
+pub struct CallsSoFar {
     pub calls: Seq<TypedPostfix>,
     pub ty: Ty,
     pub model: Option<u32>,
@@ -19,7 +19,7 @@ pub(crate) struct CallsSoFar {
 
 /// What stands behind the first part of a chain so far, and what came of it.
 #[derive(Drop)]
-pub(crate) struct Chained {
+pub struct Chained {
     pub links: Seq<TypedInfix>,
     pub ty: Ty,
 }

@@ -13,7 +13,7 @@ use std::alloc::Global;
 
 impl TypedPart {
     /// The tree.
-    pub(crate) fn into_tree(self) -> Typed
+    pub fn into_tree(self) -> Typed
         ensures { result ≡ tree_of self }
     {
         Typed {

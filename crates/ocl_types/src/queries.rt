@@ -1,4 +1,4 @@
-ghost use Rattle.std.specs.Prelude.{◌≡◌, ◌+◌, ◌<◌, ◌≤◌, ℕ, List, [], ◌∷◌, ◌++◌, length, false, IfOk, OnOk, IsTrue, Ok};
+ghost use Rattle.std.specs.Prelude.{◌≡◌, ◌+◌, ◌<◌, ◌≤◌, ℕ, List, [], ◌∷◌, ◌++◌, map, length, false, IfOk, OnOk, IsTrue, Ok};
 ghost use Rattle.mof_metamodel.specs.Giving.{Gives};
 ghost use Rattle.call_graph.specs.Graphs.{IsOnCycle};
 ghost use Rattle.ocl_types.specs.Written.{IfFault, fault_in};
@@ -7,7 +7,7 @@ ghost use Rattle.ocl_types.specs.Outcomes.{asking, wrong_type as wrong};
 ghost use Rattle.ocl_types.specs.Agreement.{fits as fits_by};
 ghost use Rattle.ocl_types.specs.TypingScopes.{let_type, declared_type as declared_by};
 ghost use Rattle.ocl_types.specs.Typing.{typed as tree_typed};
-ghost use Rattle.ocl_types.specs.QueryTyping.{with_param, query_bound, params_from, signature_of, queries_bound, query_typed, queries_from, queries_typed, IsFirstFault};
+ghost use Rattle.ocl_types.specs.QueryTyping.{with_param, query_bound, params_from, signature_of, queries_bound, query_typed, queries_from, queries_typed, signed, IsFirstFault};
 ghost use Rattle.ocl_types.specs.QueryCalls.{rows_of, HasNameAt, IsCycleFault};
 
 use crate::agreement::fits;
@@ -107,9 +107,9 @@ fn bind_one(alloc: Global, env: &mut Env<'_>, query: &QueryTree) -> Result<(), T
 
 /// Brings queries into reach.
 #[tactic(auto, unfolding(crate::specs::QueryTyping::queries_bound))]
-fn bind_queries(alloc: Global, env: &mut Env<'_>, queries: &[QueryTree]) -> Result<(), TypeError>
+fn bind_queries(alloc: Global, env: &mut Env<'_>, queries: &[&QueryTree]) -> Result<(), TypeError>
     requires { without_variables env.old ≡ env.old }
-    ensures given { Gives fault_in (λ u. env.new) result (queries_bound env.old queries.now) }
+    ensures given { Gives fault_in (λ u. env.new) result (queries_bound env.old (map (λ q. q.now) queries.now)) }
     ensures empty { OnOk result (without_variables env.new ≡ env.new) }
     ensures kept { without_names env.new ≡ without_names env.old }
 {
@@ -168,10 +168,10 @@ fn type_query(alloc: Global, env: &mut Env<'_>, query: &QueryTree) -> Result<Que
 fn type_bodies(
     alloc: Global,
     env: &mut Env<'_>,
-    queries: &[QueryTree],
+    queries: &[&QueryTree],
 ) -> Result<Seq<Query>, TypeError>
     requires { without_variables env.old ≡ env.old }
-    ensures given { Gives fault_in (λ x. x) result (queries_from env.old [] queries.now) }
+    ensures given { Gives fault_in (λ x. x) result (queries_from env.old [] (map (λ q. q.now) queries.now)) }
     ensures same { OnOk result (env.new ≡ env.old) }
     ensures kept { without_variables env.new ≡ without_variables env.old }
 {
@@ -222,12 +222,12 @@ fn refuse_cycle(alloc: Global, before: usize, queries: &[Query]) -> Result<(), T
 fn type_all(
     alloc: Global,
     env: &mut Env<'_>,
-    queries: &[QueryTree],
+    queries: &[&QueryTree],
 ) -> Result<Seq<Query>, TypeError>
     requires { without_variables env.old ≡ env.old }
-    ensures typed { IfOk result (λ typed. queries_typed env.old queries.now ≡ Ok (env.new, typed)) }
+    ensures typed { IfOk result (λ typed. queries_typed env.old (map (λ q. q.now) queries.now) ≡ Ok (env.new, typed)) }
     ensures acyclic { IfOk result (λ typed. (u : ℕ) → IsOnCycle (rows_of (length env.old.queries) typed) u → ⊥) }
-    ensures fault { IfFault result (IsFirstFault env.old queries.now) }
+    ensures fault { IfFault result (IsFirstFault env.old (map (λ q. q.now) queries.now)) }
     ensures empty { OnOk result (without_variables env.new ≡ env.new) }
     ensures kept { without_names env.new ≡ without_names env.old }
 {
@@ -249,11 +249,12 @@ fn type_all(
 pub fn type_queries(
     alloc: Global,
     env: &mut Env<'_>,
-    queries: &[QueryTree],
+    queries: &[&QueryTree],
 ) -> Result<Seq<Query>, TypeError>
-    ensures typed { IfOk result (λ typed. queries_typed env.old queries.now ≡ Ok (without_variables env.new, typed)) }
+    ensures typed { IfOk result (λ typed. queries_typed env.old (map (λ q. q.now) queries.now) ≡ Ok (without_variables env.new, typed)) }
+    ensures in_reach { IfOk result (λ typed. env.new.queries ≡ env.old.queries ++ map signed typed) }
     ensures acyclic { IfOk result (λ typed. (u : ℕ) → IsOnCycle (rows_of (length env.old.queries) typed) u → ⊥) }
-    ensures fault { IfFault result (IsFirstFault env.old queries.now) }
+    ensures fault { IfFault result (IsFirstFault env.old (map (λ q. q.now) queries.now)) }
     ensures kept { without_queries env.new ≡ without_queries env.old }
 {
     let variables = env.take_variables(alloc);

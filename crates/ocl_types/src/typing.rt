@@ -1,8 +1,12 @@
 ghost use Rattle.std.specs.Prelude.{◌≡◌, [], map, IfOk, IsTrue, OnOk, option_copied};
 ghost use Rattle.mof_metamodel.specs.Giving.{Gives};
-ghost use Rattle.ocl_types.specs.Written.{fault_in};
+ghost use Rattle.qv_syntax.specs.TypedTrees.{IsTyped};
+ghost use Rattle.ocl_types.specs.Written.{IfFault, fault_in};
+ghost use Rattle.ocl_types.specs.Environments.{is_over};
+ghost use Rattle.ocl_types.specs.TypedContext.{context_of, variables_of, typing_of};
+ghost use Rattle.ocl_types.specs.HasType.{HasType, Stands};
 ghost use Rattle.ocl_types.specs.Scopes.{in_reach};
-ghost use Rattle.ocl_types.specs.Parts.{plain_part, uncalled as started};
+ghost use Rattle.ocl_types.specs.Parts.{plain_part, tree_of, uncalled as started};
 ghost use Rattle.ocl_types.specs.Forms.{is_let, is_if, is_calls, is_iterator};
 ghost use Rattle.ocl_types.specs.Typing.{meaning, operated_by, calling, given, parts_from, chained_from, called_from, query_typing, linked_part as part_linked, called_part as part_called, called_whole, has_no_values, is_all_instances as names_extent, path_of_extent, dot_typing, arrow_typing, typed};
 
@@ -455,4 +459,27 @@ pub fn type_expr(alloc: Global, env: &Env<'_>, expr: &Expr) -> Result<Typed, Typ
     let mut scope = Scope::over(alloc, env);
     let part = type_part(alloc, &mut scope, expr)?;
     Ok(part.into_tree())
+}
+
+/// The part that an expression is, over an environment.
+fn part_over(alloc: Global, env: &Env<'_>, expr: &Expr) -> Result<TypedPart, TypeError>
+    ensures { Gives fault_in (λ x. x) result ((meaning expr.now).typing env.now) }
+{
+    let mut scope = Scope::over(alloc, env);
+    type_part(alloc, &mut scope, expr)
+}
+
+/// The type of an expression, the model of its objects and its tree.
+///
+/// # Errors
+///
+/// As those of `type_expr`.
+pub fn type_whole(alloc: Global, env: &Env<'_>, expr: &Expr) -> Result<TypedPart, TypeError>
+    ensures typed { IfOk result (λ p. HasType env.now expr.now p) }
+    ensures tree { IfOk result (λ p. IsTyped (context_of env.now) (variables_of env.now) (tree_of p) (typing_of p)) }
+    ensures within { IfOk result (λ p. IsTrue (is_over env.now.metas p.ty)) }
+    ensures fault { IfFault result (λ f. Stands env.now expr.now f) }
+{
+    env.in_order();
+    part_over(alloc, env, expr)
 }

@@ -40,7 +40,7 @@ fn put_answer(alloc: Global, pen: &mut Pen, line: &str) -> Result<(), NoMemory> 
 
 fn put_parsed(alloc: Global, pen: &mut Pen, tokens: &Tokens<'_>) -> Result<(), NoMemory> {
     match parse_script(alloc, tokens) {
-        Ok(script) => put_typed(alloc, pen, script),
+        Ok(script) => put_typed(alloc, pen, &script),
         Err(_) => {
             pen.put(" no script");
             Ok(())
@@ -49,9 +49,9 @@ fn put_parsed(alloc: Global, pen: &mut Pen, tokens: &Tokens<'_>) -> Result<(), N
 }
 
 /// The queries of a script.
-fn queries_of(alloc: Global, script: Script) -> Result<Seq<QueryTree>, NoMemory> {
+fn queries_of(alloc: Global, script: &Script) -> Result<Seq<&QueryTree>, NoMemory> {
     let mut queries = Seq::new(alloc);
-    for declaration in script.declarations.into_vec() {
+    for declaration in script.declarations.as_slice() {
         match declaration {
             Declaration::Query { query } => queries.push(query)?,
             _ => {}
@@ -60,13 +60,13 @@ fn queries_of(alloc: Global, script: Script) -> Result<Seq<QueryTree>, NoMemory>
     Ok(queries)
 }
 
-fn put_typed(alloc: Global, pen: &mut Pen, script: Script) -> Result<(), NoMemory> {
+fn put_typed(alloc: Global, pen: &mut Pen, script: &Script) -> Result<(), NoMemory> {
     let queries = queries_of(alloc, script)?;
     put_types(alloc, pen, queries.as_slice());
     Ok(())
 }
 
-fn put_types(alloc: Global, pen: &mut Pen, queries: &[QueryTree]) {
+fn put_types(alloc: Global, pen: &mut Pen, queries: &[&QueryTree]) {
     let mut env = Env::new(alloc);
     let typed = type_queries(alloc, &mut env, queries);
     match &typed {

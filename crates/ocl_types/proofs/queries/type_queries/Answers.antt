@@ -1,10 +1,15 @@
-use Rattle.std.proofs.Common.{ℕ, ap, subst, ◌∙◌, length}
+use Rattle.std.proofs.Common.{ℕ, List, Bor, map, ap, subst, ◌∙◌, length}
 use Rattle.call_graph.specs.Graphs.{IsOnCycle}
 use Rattle.ocl_types.specs.Environments.{Environment, without_names}
 use Rattle.ocl_types.specs.QueryTyping.{IsFirstFault}
 use Rattle.ocl_types.specs.QueryCalls.{rows_of}
 use Rattle.ocl_types.proofs.QueryLemmas.{kept_variables, fault_of_result, fault_without, ok_told, put_typed}
+use Rattle.qv_syntax.specs.declared.query.QueryTree.{QueryTree}
+use Rattle.ocl_types.proofs.SignatureLemmas.{in_reach_of}
 use Rattle.ocl_types.proofs.queries.type_queries.Goals as goal
+
+abbrev shown : List (Bor QueryTree) → List QueryTree
+shown qs = map {A = Bor QueryTree} {B = QueryTree} (λ q. q.now) qs
 
 pub put_variables-requires-clause-typed : goal.put_variables-requires-clause-typed
 put_variables-requires-clause-typed c =
@@ -14,7 +19,7 @@ put_variables-requires-clause-typed c =
 pub returns-clause-typed : goal.returns-clause-typed
 returns-clause-typed c =
     ok_told c.type_all-typed.result _ _ _
-    (λ typed empty is. put_typed c.args.env.now c.take_variables-variables.new.self c.type_all-typed.new.env c.put_variables.new.self c.take_variables-variables.result c.args.queries.now typed
+    (λ typed empty is. put_typed c.args.env.now c.take_variables-variables.new.self c.type_all-typed.new.env c.put_variables.new.self c.take_variables-variables.result (shown c.args.queries.now) typed
     c.take_variables-variables.ensures.left empty c.put_variables.ensures is)
     c.type_all-typed.ensures.empty c.type_all-typed.ensures.typed
 
@@ -27,6 +32,9 @@ returns-clause-acyclic c =
 pub returns-clause-fault : goal.returns-clause-fault
 returns-clause-fault c =
     fault_of_result c.type_all-typed.result _ _
-    (λ f stands. fault_without c.args.env.now c.args.queries.now f
-    (subst (λ (e : Environment). IsFirstFault e c.args.queries.now f) c.take_variables-variables.ensures.left stands))
+    (λ f stands. fault_without c.args.env.now (shown c.args.queries.now) f
+    (subst (λ (e : Environment). IsFirstFault e (shown c.args.queries.now) f) c.take_variables-variables.ensures.left stands))
     c.type_all-typed.ensures.fault
+
+pub returns-clause-in_reach : goal.returns-clause-in_reach
+returns-clause-in_reach c = in_reach_of c.args.env.now c.put_variables.new.self (shown c.args.queries.now) c.type_all-typed.result (returns-clause-typed c)
