@@ -25,6 +25,10 @@ pub mod Positions
 pub mod NumberingLaws
 pub mod ExternLaws
 pub mod LexicalLaws
+pub mod HeldLaws
 pub mod assembling
 pub mod filed_laws
 pub mod written
+pub mod SpotFaults
+pub mod PlaceOwners
+pub mod PlaceFaults

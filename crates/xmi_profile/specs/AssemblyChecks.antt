@@ -10,6 +10,8 @@ use Rattle.xmi_profile.specs.declared.assembly.check.AssemblyError.{AssemblyErro
 use Rattle.xmi_profile.specs.declared.assembly.check.AssemblyError.TheVariants as errors
 use Rattle.xmi_profile.specs.declared.fault.ModelFault.{ModelFault}
 use Rattle.xmi_profile.specs.declared.fault.ModelFault.TheVariants as faults
+use Rattle.xmi_profile.specs.declared.fault.XmiError.{XmiError}
+use Rattle.xmi_profile.specs.declared.fault.XmiError.TheVariants as read
 
 -- the fault names the breach and the identifier of its object
 abbrev pub IsInvalidBy : ModelData → Breach → ModelFault → Type 0
@@ -39,3 +41,8 @@ IsModelFault m (Some fault) = IsFaultOf m fault
 abbrev pub IsRefusedBy : ModelData → AssemblyError → Type 0
 IsRefusedBy m (errors.Content fault) = IsFaultOf m fault
 IsRefusedBy m errors.NoMemory = Unit {0}
+
+-- the error of a reader
+abbrev pub read_error : AssemblyError → XmiError
+read_error (errors.Content fault) = read.Content fault
+read_error errors.NoMemory = read.NoMemory

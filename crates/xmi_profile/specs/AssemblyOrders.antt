@@ -1,5 +1,5 @@
 -- The partners of objects that speak, put into the order in which they are written (UML 2.5.1, 7.5: ordered multiplicity elements).
-use Rattle.std.specs.Prelude.{ℕ, zero, suc, Bool, true, not, List, [], ◌∷◌, drop, IsPermutation, if◌then◌else◌}
+use Rattle.std.specs.Prelude.{◌≡◌, ℕ, zero, suc, ◌<◌, Bool, true, false, not, List, [], ◌∷◌, length, drop, IsPermutation, AllPairs, if◌then◌else◌}
 use Rattle.mof_metamodel.specs.Metamodels.{united}
 use Rattle.object_tables.specs.Models.{ModelData, partners_at, with_order, IsReferenceOf}
 use Rattle.xmi_profile.specs.declared.assembly.naming.Naming.{Naming}
@@ -10,6 +10,23 @@ use Rattle.xmi_profile.specs.Source.{is_at}
 abbrev pub targets_run : ℕ → ℕ → List Naming → List ℕ
 targets_run o p [] = []
 targets_run o p (n ∷ ns) = if is_at o p n.object n.property then n.target ∷ targets_run o p ns else []
+
+-- all that is named at a reference
+abbrev pub targets : ℕ → ℕ → List Naming → List ℕ
+targets o p [] = []
+targets o p (n ∷ ns) = if is_at o p n.object n.property then n.target ∷ targets o p ns else targets o p ns
+
+-- the same, each once and at its first place
+abbrev pub distinct_targets : List Naming → ℕ → ℕ → List ℕ
+distinct_targets xs o p = united [] (targets o p xs)
+
+-- nothing is named at a reference
+abbrev pub IsUnnamed : List Naming → ℕ → ℕ → Type 0
+IsUnnamed xs o p = (i : ℕ) → i < length xs → is_at o p (at xs i).object (at xs i).property ≡ false
+
+-- the partners of objects that name none stand by number
+abbrev pub StandByNumber : List Naming → ModelData → Type 0
+StandByNumber xs m = (o p : ℕ) → IsUnnamed xs o p → AllPairs (λ a b. a < b) (partners_at m o p)
 
 -- what is named together at a place of a list, each once
 abbrev pub named_from : List Naming → ℕ → List ℕ

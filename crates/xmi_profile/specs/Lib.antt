@@ -13,6 +13,7 @@ pub mod Faults
 pub mod Content
 pub mod FirstFault
 pub mod Reads
+pub mod FedModel
 pub mod Filed
 pub mod SoundFiled
 pub mod Scanning
@@ -32,6 +33,7 @@ pub mod AssemblyValues
 pub mod AssemblyLinks
 pub mod AssemblyOrders
 pub mod AssemblyModels
+pub mod Assembled
 pub mod Numbering
 pub mod Known
 pub mod WordList

@@ -1,6 +1,7 @@
 ghost use Rattle.std.specs.Prelude.{◌≡◌};
 ghost use Rattle.xmi_profile.specs.Words.{fault_word};
 
+use crate::assembly::AssemblyError;
 use mof_metamodel::{NoMemory, Text};
 use object_tables::{Breach, LimitKind};
 use xmi_text::{TextError, TextFault};
@@ -107,6 +108,19 @@ impl From<TextError> for XmiError {
         match error {
             TextError::Fault(fault) => XmiError::Text(fault),
             TextError::NoMemory => XmiError::NoMemory,
+        }
+    }
+}
+
+impl From<AssemblyError> for XmiError {
+    ghost use Rattle.xmi_profile.specs.AssemblyChecks.{read_error};
+
+    ghost from_gives = { λ given e. e ≡ read_error given };
+
+    fn from(error: AssemblyError) -> XmiError {
+        match error {
+            AssemblyError::Content(fault) => XmiError::Content(fault),
+            AssemblyError::NoMemory => XmiError::NoMemory,
         }
     }
 }

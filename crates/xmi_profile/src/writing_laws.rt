@@ -6,9 +6,9 @@ ghost use Rattle.mof_metamodel.specs.Metamodels.{class_count, class_at, props_of
 ghost use Rattle.mof_metamodel.specs.WellMeta.{WellMeta};
 ghost use Rattle.object_tables.specs.declared.value.Value.{Value};
 ghost use Rattle.object_tables.specs.Kept.{Kept};
-ghost use Rattle.mof_metamodel.specs.declared.limits.TheConstants.{MAX_DEPTH};
+ghost use Rattle.mof_metamodel.specs.declared.limits.TheConstants.{MAX_DEPTH, MAX_OBJECTS};
 ghost use Rattle.object_tables.specs.Containment.{IsDepth};
-ghost use Rattle.object_tables.specs.Models.{ModelData, IsLive, is_value_of};
+ghost use Rattle.object_tables.specs.Models.{ModelData, IsLive, is_value_of, live_count};
 ghost use Rattle.object_tables.specs.Sameness.{IsSame};
 ghost use Rattle.object_tables.specs.Validity.{Valid};
 ghost use Rattle.xmi_text.specs.Markup.{Markup};
@@ -27,11 +27,26 @@ ghost use Rattle.xmi_profile.specs.Values.{value_of};
 ghost use Rattle.xmi_profile.specs.WrittenOrder.{written_order};
 ghost use Rattle.xmi_profile.specs.WrittenTree.{written_tree};
 
+use crate::held::models_are_held;
+use object_tables::Model;
+
 /// What is written of a model is read as the same model, and as no other (XMI 2.5.1, clauses 7 and 9).
 pub fn written_models_are_read()
     ensures read { (m : ModelData) → MayBeWritten m → (k : ModelData) × Spells m.meta externs.None (canon_bytes m) k × IsSame m k }
     ensures only { (m k : ModelData) → MayBeWritten m → Spells m.meta externs.None (canon_bytes m) k → IsSame m k }
 {}
+
+/// The same of a model of code: each is held.
+pub fn models_are_read_back(model: &Model<'_>)
+    requires valid { Valid model.now }
+    requires depth { (o depth : ℕ) → IsLive model.now o → IsDepth model.now o depth → depth ≤ MAX_DEPTH }
+    requires objects { live_count model.now ≤ MAX_OBJECTS }
+    ensures read { (k : ModelData) × Spells model.now.meta externs.None (canon_bytes model.now) k × IsSame model.now k }
+    ensures only { (k : ModelData) → Spells model.now.meta externs.None (canon_bytes model.now) k → IsSame model.now k }
+    ensures accepted { (fault : ModelFault) → ¬ IsRefused model.now.meta externs.None (canon_bytes model.now) fault }
+{
+    models_are_held(model);
+}
 
 /// What is written of a model is refused for no fault.
 pub fn written_models_are_accepted()

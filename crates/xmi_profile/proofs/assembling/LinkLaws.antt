@@ -25,7 +25,7 @@ partner_is m n h = Contains-from_Has (Rattle.object_tables.specs.Models.partners
 pub is_partner : (m : ModelData) (n : Naming) → IsLinked m n.property n.object n.target → has_partner m n ≡ true
 is_partner m n c = contains_any (nat_eq n.target) (Rattle.object_tables.specs.Models.partners_at m n.object n.property) n.target c (eq-eqb n.target n.target refl)
 
-slotted_with : (m : ModelData) (o p : ℕ) (f : Slot → Slot) → IsSlotted m → IsSlotted (with_slot m o p f)
+pub slotted_with : (m : ModelData) (o p : ℕ) (f : Slot → Slot) → IsSlotted m → IsSlotted (with_slot m o p f)
 slotted_with m o p f s a object e =
     let old = object_before m o p f a object e in
     old.2.slots ∙ s a old.0 old.1 ∙ ap (λ c. length (props_of m.meta c)) (sym old.2.class)
@@ -44,7 +44,7 @@ same_parts r a b o e =
     let y = and_parts (r == o.property) (b == o.target) x.1 in
     (sym (eqb-true r o.property y.0), sym (eqb-true a o.object x.0), sym (eqb-true b o.target y.1))
 
-parts_same : (r a b : ℕ) (o : Naming) → o.property ≡ r → o.object ≡ a → o.target ≡ b → same_naming (naming a r b) o ≡ true
+pub parts_same : (r a b : ℕ) (o : Naming) → o.property ≡ r → o.object ≡ a → o.target ≡ b → same_naming (naming a r b) o ≡ true
 parts_same r a b o x y z = and_from _ _ (eq-eqb a o.object (sym y)) (and_from _ _ (eq-eqb r o.property (sym x)) (eq-eqb b o.target (sym z)))
 
 linked_at_parts : (m : ModelData) (r a b : ℕ) (o : Naming) → o.property ≡ r → o.object ≡ a → o.target ≡ b → IsLinked m r a b → IsLinked m o.property o.object o.target

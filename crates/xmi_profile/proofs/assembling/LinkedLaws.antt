@@ -63,7 +63,7 @@ same_whole start m xs i b a p a' p' h k single e c = by (cases_eq a' a) (cases_e
     by (inl x) (inr ne) = second (λ q. ne (ap (λ (u : Part). u.property) q))
 
 -- what fits at the start fits later
-fit_later : (start m : ModelData) (xs : List Naming) (i : ℕ) (n : Naming) → IsLinkedTo start xs i m → IsFitNaming start n → IsFitNaming m n
+pub fit_later : (start m : ModelData) (xs : List Naming) (i : ℕ) (n : Naming) → IsLinkedTo start xs i m → IsFitNaming start n → IsFitNaming m n
 fit_later start m xs i n h f = record {
   reference = record {
     class = f.reference.class;
@@ -79,7 +79,7 @@ fit_later start m xs i n h f = record {
 }
 
 -- the next naming may be linked, if its pair isn't
-linkable_next : (start m : ModelData) (xs : List Naming) (i : ℕ) → IsLinkedTo start xs i m → Kept start → (IsSecondWhole start.meta xs i → ⊥) → IsFitNaming start (at xs i) → has_partner m (at xs i) ≡ false
+pub linkable_next : (start m : ModelData) (xs : List Naming) (i : ℕ) → IsLinkedTo start xs i m → Kept start → (IsSecondWhole start.meta xs i → ⊥) → IsFitNaming start (at xs i) → has_partner m (at xs i) ≡ false
     → IsLinkable m (at xs i)
 linkable_next start m xs i h k single f new = record { reference = later.reference; partner = later.partner; free = record { part = free_part; whole = free_whole } }
   where
@@ -175,14 +175,14 @@ step_new start m xs i h l new = record {
     either j o (inr q) e = or_left (is_pair_of m.meta n o) (has_partner m o) (ap (λ d. is_pair_of d n o) h.meta ∙ subst (λ z. is_pair_of start.meta (at xs z) o ≡ true) q e)
 
 -- one naming more
-linked_step : (start m : ModelData) (xs : List Naming) (i : ℕ) → IsLinkedTo start xs i m → Kept start → (IsSecondWhole start.meta xs i → ⊥) → IsFitNaming start (at xs i) → IsLinkedTo start xs (suc i) (linked_once m (at xs i))
+pub linked_step : (start m : ModelData) (xs : List Naming) (i : ℕ) → IsLinkedTo start xs i m → Kept start → (IsSecondWhole start.meta xs i → ⊥) → IsFitNaming start (at xs i) → IsLinkedTo start xs (suc i) (linked_once m (at xs i))
 linked_step start m xs i h k single f = by (has_partner m (at xs i)) refl
   where
     by : (b : Bool) → has_partner m (at xs i) ≡ b → IsLinkedTo start xs (suc i) (cond b m (linked m (at xs i).property (at xs i).object (at xs i).target))
     by true t = step_there start m xs i h t
     by false t = step_new start m xs i h (linkable_next start m xs i h k single f t) t
 
-unlinked_start : (start : ModelData) (xs : List Naming) → Kept start → ((o : Naming) → has_partner start o ≡ false) → IsLinkedTo start xs 0 start
+pub unlinked_start : (start : ModelData) (xs : List Naming) → Kept start → ((o : Naming) → has_partner start o ≡ false) → IsLinkedTo start xs 0 start
 unlinked_start start xs k none = record {
   meta = refl;
   classes = λ o. refl;
@@ -191,7 +191,7 @@ unlinked_start start xs k none = record {
   all = λ j o l e. absurd (omega (arith, l));
 }
 
-next_of : (xs : List Naming) (i : ℕ) (n : Naming) (ns : List Naming) → drop i xs ≡ n ∷ ns → (i < length xs) × (at xs i ≡ n) × (drop (suc i) xs ≡ ns)
+pub next_of : (xs : List Naming) (i : ℕ) (n : Naming) (ns : List Naming) → drop i xs ≡ n ∷ ns → (i < length xs) × (at xs i ≡ n) × (drop (suc i) xs ≡ ns)
 next_of [] zero n ns e = absurd cc
 next_of [] (suc i) n ns e = absurd cc
 next_of (x ∷ xs) zero n ns e = (omega arith, cc, cc)

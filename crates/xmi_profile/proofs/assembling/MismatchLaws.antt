@@ -57,7 +57,7 @@ mentions_said : (o p : ℕ) (ms : List Mention) → list_any (same_saying (sayin
 mentions_said o p [] = refl
 mentions_said o p (m ∷ ms) = λ i. said_at o p m.object m.property.0 i || mentions_said o p ms i
 
-sayings_told : (s : Source) (f : Filed) (es : List Entry) (xs : List Naming) → AreNamings s f es xs → (o p : ℕ)
+pub sayings_told : (s : Source) (f : Filed) (es : List Entry) (xs : List Naming) → AreNamings s f es xs → (o p : ℕ)
     → list_any (same_saying (saying o p)) (sayings_of xs f.mentions) ≡ (list_any (λ (r : WrittenReference). is_at o p r.object r.property.0) f.references || list_any (λ (m : Mention). is_at o p m.object m.property.0) f.mentions)
 sayings_told s f es xs a o p =
     list_any-append (same_saying (saying o p)) (map saying_of xs) (map saying_of_mention f.mentions)

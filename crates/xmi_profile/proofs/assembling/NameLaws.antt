@@ -22,7 +22,7 @@ use Rattle.xmi_profile.proofs.assembling.SpotLaws.{IsGood, entry_good, told_by, 
 use Rattle.xmi_profile.proofs.assembling.PartLaws.{AreNamings, target_fit}
 
 -- a list without its repeats has the same numbers
-united_any : (b : ℕ) (ys : List ℕ) → list_any (nat_eq b) (united [] ys) ≡ list_any (nat_eq b) ys
+pub united_any : (b : ℕ) (ys : List ℕ) → list_any (nat_eq b) (united [] ys) ≡ list_any (nat_eq b) ys
 united_any b ys = both_ways (list_any (nat_eq b) (united [] ys)) (list_any (nat_eq b) ys) (λ h. there (united-cases [] ys b h)) (λ h. united-right [] ys b h)
   where
     there : (list_any (nat_eq b) [] ≡ true) ⊎ (list_any (nat_eq b) ys ≡ true) → list_any (nat_eq b) ys ≡ true
@@ -30,11 +30,11 @@ united_any b ys = both_ways (list_any (nat_eq b) (united [] ys)) (list_any (nat_
     there (inr h) = h
 
 -- what is told of targets
-targets_told : (s : Source) (ts : List Target) → filter_map (target_number s) ts ≡ filter_map (λ (t : Option ℕ × List ℕ). t.0) (map (reference_of s) ts)
+pub targets_told : (s : Source) (ts : List Target) → filter_map (target_number s) ts ≡ filter_map (λ (t : Option ℕ × List ℕ). t.0) (map (reference_of s) ts)
 targets_told s [] = refl
 targets_told s (t ∷ ts) = ap (cons_option (target_number s t)) (targets_told s ts)
 
-entries_told_of : (f : Filed) (es : List Entry) → filter_map (λ (t : Option ℕ × List ℕ). t.0) (map (told_by f.references) es) ≡ filter_map (λ (e : Entry). e.target) es
+pub entries_told_of : (f : Filed) (es : List Entry) → filter_map (λ (t : Option ℕ × List ℕ). t.0) (map (told_by f.references) es) ≡ filter_map (λ (e : Entry). e.target) es
 entries_told_of f [] = refl
 entries_told_of f (e ∷ es) = ap (cons_option e.target) (entries_told_of f es)
 
@@ -139,7 +139,7 @@ same_found a b e =
     let t = eqb-true a.target b.target y.1 in
     λ i. record { object = sym o i; property = sym p i; target = sym t i }
 
-same_itself : (a : Naming) → same_naming a a ≡ true
+pub same_itself : (a : Naming) → same_naming a a ≡ true
 same_itself a = and_from _ _ (eq-eqb a.object a.object refl) (and_from _ _ (eq-eqb a.property a.property refl) (eq-eqb a.target a.target refl))
 
 pub naming_found : (n : Naming) (xs : List Naming) → list_any (same_naming n) xs ≡ true → Contains xs n

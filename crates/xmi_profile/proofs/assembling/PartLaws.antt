@@ -35,7 +35,7 @@ pub record AreNamings (s : Source) (f : Filed) (es : List Entry) (xs : List Nami
   pub fit : (j : ℕ) → j < length es → is_dangling s.meta f.classes (entry_at es j) ≡ false
   pub namings : xs ≡ map naming_of es
 
-at_entry : (es : List Entry) (i : ℕ) → at (map naming_of es) i ≡ naming_of (entry_at es i)
+pub at_entry : (es : List Entry) (i : ℕ) → at (map naming_of es) i ≡ naming_of (entry_at es i)
 at_entry [] i = refl
 at_entry (e ∷ es) zero = refl
 at_entry (e ∷ es) (suc i) = at_entry es i
@@ -43,7 +43,7 @@ at_entry (e ∷ es) (suc i) = at_entry es i
 pub naming_at : (s : Source) (f : Filed) (es : List Entry) (xs : List Naming) → AreNamings s f es xs → (i : ℕ) → at xs i ≡ naming_of (entry_at es i)
 naming_at s f es xs a i = ap (λ ys. at ys i) a.namings ∙ at_entry es i
 
-length-map_of : (es : List Entry) → length (map naming_of es) ≡ length es
+pub length-map_of : (es : List Entry) → length (map naming_of es) ≡ length es
 length-map_of [] = refl
 length-map_of (e ∷ es) = ap suc (length-map_of es)
 

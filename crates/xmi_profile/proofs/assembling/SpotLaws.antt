@@ -43,7 +43,7 @@ class_known s f h o l = sym (ap (λ cs. unwrap_or (slice_get cs o) None) h.class
 pub class_counted : (s : Source) (f : Filed) → IsFiled s f → (o c : ℕ) → class_of s o ≡ Some c → o < length f.classes
 class_counted s f h o c e = class_within f.classes o c (ap (λ cs. unwrap_or (slice_get cs o) None) h.classes ∙ e)
 
-has_class : (meta : MetaDesc) (k : Option ℕ) (p : ℕ) → Contains (props_or_none meta k) p → (c : ℕ) × (k ≡ Some c) × Contains (props_of meta c) p
+pub has_class : (meta : MetaDesc) (k : Option ℕ) (p : ℕ) → Contains (props_or_none meta k) p → (c : ℕ) × (k ≡ Some c) × Contains (props_of meta c) p
 has_class meta None p (i, l, e) = absurd (omega (arith, l))
 has_class meta (Some c) p h = (c, refl, h)
 
@@ -145,7 +145,7 @@ pub record AreEntries (s : Source) (f : Filed) (es : List Entry) : Type 0 where
   pub counted : length f.classes ≡ length f.ids
   pub order : IsInOrder (entries_from s.meta f.classes 0 f.references) es
 
-places_listed : (s : Source) (f : Filed) → IsFiled s f → All (λ r. IsReferenceAt s.meta f.classes r.object r.property.0) f.references
+pub places_listed : (s : Source) (f : Filed) → IsFiled s f → All (λ r. IsReferenceAt s.meta f.classes r.object r.property.0) f.references
 places_listed s f h = λ k d l. (
     let r = get_or f.references k d in
     reference_listed s f h r.object r.property.0 (h.reference_place r (k, l, same k d l)))
@@ -302,7 +302,7 @@ entry_of_spot s f es a spot p target w = (i, record { within = within; spot_is =
 
 -- ---- their order
 
-places_rise : (es fs : List Entry) → IsInOrder es fs → (i n : ℕ) → i + n < length fs → (entry_at fs i).object ≡ (entry_at fs (i + n)).object → (entry_at fs i).place ≤ (entry_at fs (i + n)).place
+pub places_rise : (es fs : List Entry) → IsInOrder es fs → (i n : ℕ) → i + n < length fs → (entry_at fs i).object ≡ (entry_at fs (i + n)).object → (entry_at fs i).place ≤ (entry_at fs (i + n)).place
 places_rise es fs a i zero l e = let q : i + 0 ≡ i = omega arith in let same : (entry_at fs (i + 0)).place ≡ (entry_at fs i).place = ap (λ k. (entry_at fs k).place) q in omega (arith, same)
 places_rise es fs a i (suc n) l e =
     let q : i + suc n ≡ (i + n) + 1 = omega arith in

@@ -1,5 +1,5 @@
 -- The model without values and links, and what it has to do with the namings of a file.
-use Rattle.std.proofs.Common.{◌≡◌, ℕ, zero, suc, ◌<◌, false, List, [], ◌∷◌, length, map, get_or, replicate, refl, sym, ◌∙◌, ap, arith, subst, Option, Some, None, true≢false}
+use Rattle.std.proofs.Common.{◌≡◌, ℕ, zero, suc, ◌<◌, false, List, [], ◌∷◌, length, get_or, replicate, refl, sym, ◌∙◌, ap, arith, subst, Option, Some, None, true≢false}
 use Rattle.std.specs.Prelude.{All, slice_get, nat_eq}
 use Rattle.std.specs.List.{list_any}
 use Rattle.std.specs.Option.{unwrap_or}
@@ -16,13 +16,16 @@ use Rattle.xmi_profile.specs.declared.assembly.naming.Naming.{Naming}
 use Rattle.xmi_profile.specs.AssemblyEntries.{class_in, entry_at, no_entry}
 use Rattle.xmi_profile.specs.AssemblyFirsts.{is_unfit, is_astray}
 use Rattle.xmi_profile.specs.AssemblyLinks.{has_partner, linked_all, MayBeLinked, IsLinkedTo}
-use Rattle.xmi_profile.specs.AssemblyNamings.{naming_of, at, IsSecondWhole}
+use Rattle.xmi_profile.specs.AssemblyNamings.{at, IsSecondWhole}
 use Rattle.xmi_profile.specs.AssemblyObjects.{new_objects, bare_model}
+use Rattle.xmi_profile.specs.AssemblyOrders.{StandByNumber}
 use Rattle.xmi_profile.specs.AssemblyReferences.{MayBeAssembled, AreNamed, AreAnswered}
 use Rattle.xmi_profile.specs.AssemblyValues.{HasValues}
 use Rattle.xmi_profile.proofs.assembling.ListLaws.{get_within, get_is}
 use Rattle.xmi_profile.proofs.assembling.FaultLaws.{conforms_sound}
 use Rattle.xmi_profile.proofs.assembling.LinkedLaws.{IsFitNaming, may_be_linked, all_linked}
+use Rattle.xmi_profile.proofs.assembling.PartLaws.{at_entry, length-map_of}
+use Rattle.xmi_profile.proofs.assembling.AscendLaws.{by_object, all_ascend}
 use Rattle.xmi_profile.proofs.assembling.SpotLaws.{IsGood}
 use Rattle.xmi_profile.proofs.assembling.ToldLaws.{all_good, known_properties}
 
@@ -57,15 +60,6 @@ no_partner m none n = ap (list_any (nat_eq n.target)) (none n.object n.property)
 
 -- ---- the namings
 
-at_entry : (es : List Entry) (i : ℕ) → at (map naming_of es) i ≡ naming_of (entry_at es i)
-at_entry [] i = refl
-at_entry (e ∷ es) zero = refl
-at_entry (e ∷ es) (suc i) = at_entry es i
-
-count_of : (es : List Entry) → length (map naming_of es) ≡ length es
-count_of [] = refl
-count_of (e ∷ es) = ap suc (count_of es)
-
 partner_fit : (m : ModelData) (classes : List ClassId) (p : ℕ) (t : Option ℕ) → ((o : ℕ) → o < length classes → class_at m o ≡ Some (class_in classes o).0) → is_astray m.meta classes p t ≡ false
     → Rattle.object_tables.specs.Models.IsPartnerFor m p (unwrap_or t 0)
 partner_fit m classes p None known h = absurd (true≢false h)
@@ -90,7 +84,7 @@ fit_namings m f xs sound named known j l = subst (IsFitNaming m) (sym (ap (λ ys
     e = entry_at named.entries j
 
     within : j < length named.entries
-    within = let n = ap length named.namings ∙ count_of named.entries in omega (arith, l, n)
+    within = let n = ap length named.namings ∙ length-map_of named.entries in omega (arith, l, n)
 
     good : IsGood m.meta f.classes e
     good = all_good m.meta f named.entries sound named.order j no_entry within
@@ -102,6 +96,7 @@ pub record IsReady (start : ModelData) (xs : List Naming) : Type 0 where
   pub empty : (n : Naming) → has_partner start n ≡ false
   pub may : MayBeLinked start xs
   pub linked : IsLinkedTo start xs (length xs) (linked_all start xs)
+  pub by_number : StandByNumber xs (linked_all start xs)
 
 pub ready : (meta : MetaDesc) (f : Filed) (xs : List Naming) (start : ModelData) → MayBeAssembled meta f → AreAnswered meta f xs → HasValues (bare_model meta f.classes f.ids) f.values start → Kept start → IsReady start xs
 ready meta f xs start sound answered v kept = record {
@@ -109,6 +104,7 @@ ready meta f xs start sound answered v kept = record {
   empty = empty;
   may = may_be_linked start xs kept empty single fit;
   linked = all_linked start xs kept empty single fit;
+  by_number = all_ascend start xs kept empty (λ o p. v.partners o p ∙ partners_of_bare meta f.classes f.ids o p) single fit (by_object start.meta f xs named);
 }
   where
     sound' : MayBeAssembled start.meta f

@@ -43,10 +43,10 @@ pub props_known : (meta : MetaDesc) (f : Filed) (es : List Entry) → MayBeAssem
 props_known meta f es h order =
     All-weaker (IsGood meta f.classes) (λ (e : Entry). e.property.0 < prop_count meta) (λ e g. prop_known meta (class_in f.classes e.object).0 e.property.0 g.reference.has) es (all_good meta f es h order)
 
-classes_known : (meta : MetaDesc) (f : Filed) → MayBeAssembled meta f → (o : ℕ) → o < length f.classes → (class_in f.classes o).0 < class_count meta
+pub classes_known : (meta : MetaDesc) (f : Filed) → MayBeAssembled meta f → (o : ℕ) → o < length f.classes → (class_in f.classes o).0 < class_count meta
 classes_known meta f h o l = h.objects.within o (record { 0 = 0 }) l
 
-few_objects : (s : Source) (f : Filed) (meta : MetaDesc) → IsFiled s f → MayBeAssembled meta f → object_count s ≤ MAX_OBJECTS
+pub few_objects : (s : Source) (f : Filed) (meta : MetaDesc) → IsFiled s f → MayBeAssembled meta f → object_count s ≤ MAX_OBJECTS
 few_objects s f meta h sound = let e = ap length h.ids in let few = sound.objects.few in omega (arith, e, few)
 
 id_listed : (s : Source) (f : Filed) → IsFiled s f → (o : ℕ) → listed_id f.ids o ≡ id_of s o
@@ -120,7 +120,7 @@ known_objects meta f xs sound named = All-weaker (IsKnownNaming meta (length f.i
 pub known_targets : (meta : MetaDesc) (f : Filed) (xs : List Naming) → MayBeAssembled meta f → AreNamed meta f xs → All (λ (n : Naming). n.target < length f.ids) xs
 known_targets meta f xs sound named = All-weaker (IsKnownNaming meta (length f.ids)) (λ (n : Naming). n.target < length f.ids) (λ n h. h.target) xs (namings_known meta f xs sound named)
 
-namings_for : (s : Source) (f : Filed) (xs : List Naming) → IsFiled s f → WellMeta s.meta → MayBeAssembled s.meta f → (named : AreNamed s.meta f xs) → AreNamings s f named.entries xs
+pub namings_for : (s : Source) (f : Filed) (xs : List Naming) → IsFiled s f → WellMeta s.meta → MayBeAssembled s.meta f → (named : AreNamed s.meta f xs) → AreNamings s f named.entries xs
 namings_for s f xs filed well sound named = record { entries = record { filed = filed; counted = sound.objects.same; order = named.order }; well = well; fit = named.fit; namings = named.namings }
 
 -- ---- objects that are contained twice

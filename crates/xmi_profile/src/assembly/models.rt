@@ -1,5 +1,5 @@
 ghost use Rattle.std.specs.Prelude.{IfOk};
-ghost use Rattle.xmi_profile.specs.AssemblyModels.{IsLinkedModel};
+ghost use Rattle.xmi_profile.specs.AssemblyModels.{IsLinkedModel, IsOrderedModel, StandsAsWritten};
 ghost use Rattle.xmi_profile.specs.AssemblyObjects.{AreObjects, bare_model};
 ghost use Rattle.xmi_profile.specs.AssemblyReferences.{AreAnswered, MayBeAssembled};
 ghost use Rattle.xmi_profile.specs.AssemblyValues.{AreValuesOf, HasValues};
@@ -7,6 +7,7 @@ ghost use Rattle.xmi_profile.specs.AssemblyValues.{AreValuesOf, HasValues};
 use super::links::link_all;
 use super::naming::Naming;
 use super::objects::bare_model;
+use super::orders::order_all;
 use super::values::put_values;
 use crate::filed::{Filed, WrittenValue};
 use mof_metamodel::{ClassId, MetaModel, NoMemory, Seq, Text};
@@ -31,7 +32,7 @@ fn valued_model<'m>(
 }
 
 /// The same with their links. The partners stand in the order in which they were linked.
-pub(super) fn linked_model<'m>(
+fn linked_model<'m>(
     alloc: Global,
     meta: &'m MetaModel,
     filed: Filed,
@@ -52,5 +53,22 @@ pub(super) fn linked_model<'m>(
     // What every model keeps is known here.
     let _ = model.end();
     link_all(alloc, &mut model, namings)?;
+    Ok(model)
+}
+
+/// The same with the partners of each object that names some in the order in which it names them.
+pub(super) fn ordered_model<'m>(
+    alloc: Global,
+    meta: &'m MetaModel,
+    filed: Filed,
+    namings: &[Naming],
+) -> Result<Model<'m>, NoMemory>
+    requires sound { MayBeAssembled meta.now filed }
+    requires values { AreValuesOf (bare_model meta.now filed.classes filed.ids) filed.values }
+    requires answered { AreAnswered meta.now filed namings.now }
+    ensures { IfOk result (λ m. IsOrderedModel meta.now filed namings.now m × StandsAsWritten meta.now filed m) }
+{
+    let mut model = linked_model(alloc, meta, filed, namings)?;
+    order_all(alloc, &mut model, namings)?;
     Ok(model)
 }

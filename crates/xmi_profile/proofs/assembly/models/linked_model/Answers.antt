@@ -1,7 +1,10 @@
 use Rattle.std.proofs.Common.{length, sym, subst}
 use Rattle.xmi_profile.specs.AssemblyLinks.{IsLinkedTo}
+use Rattle.xmi_profile.specs.AssemblyModels.{IsSameButLinks}
 use Rattle.xmi_profile.specs.AssemblyObjects.{bare_model}
+use Rattle.xmi_profile.specs.AssemblyOrders.{StandByNumber}
 use Rattle.xmi_profile.specs.AssemblyValues.{HasValues}
+use Rattle.xmi_profile.proofs.assembling.SameLaws.{same_linked_all}
 use Rattle.xmi_profile.proofs.assembling.StartLaws.{ready}
 use Rattle.xmi_profile.proofs.assembly.models.linked_model.Goals as goal
 
@@ -36,4 +39,11 @@ returns c =
     let xs = c.args.namings.now in
     let v : HasValues (bare_model c.args.meta.now f.classes f.ids) f.values m =
     subst (λ cs. HasValues (bare_model c.args.meta.now cs f.ids) f.values m) c.as_slice.ensures (subst (λ is. HasValues (bare_model c.args.meta.now c.as_slice.result.now is) f.values m) c.as_slice-2.ensures c.in_ok-model.ensures) in
-    record { start = m; values = v; links = subst (IsLinkedTo m xs (length xs)) (sym c.in_ok-link_all.ensures) (ready c.args.meta.now f xs m c.requires.sound c.requires.answered v c.end.ensures.kept).linked }
+    let done = ready c.args.meta.now f xs m c.requires.sound c.requires.answered v c.end.ensures.kept in
+    record {
+      start = m;
+      values = v;
+      links = subst (IsLinkedTo m xs (length xs)) (sym c.in_ok-link_all.ensures) done.linked;
+      by_number = subst (StandByNumber xs) (sym c.in_ok-link_all.ensures) done.by_number;
+      same = subst (IsSameButLinks m) (sym c.in_ok-link_all.ensures) (same_linked_all m xs);
+    }
