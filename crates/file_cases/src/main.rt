@@ -1,15 +1,22 @@
-//! Cases of metamodels as models: the program reads them from its input and prints each with its answer.
+//! Cases of files: the program reads them from its input and prints each with its answer.
 //!
-//! A line that begins with `#` says what those below it are. Each other line is a model of EMOF: objects parted by `; `, each by words with a
-//! blank between: its class, its identifier, and slots as `PROPERTY=VALUES`, values parted by commas. It is answered by the description of the
-//! metamodel that it describes, or by why it describes none.
+//! | line | answer |
+//! |---|---|
+//! | `meta TEXT` | the metamodel that a file with this text is, or what is printed of its fault; the `read` lines below it are by this metamodel |
+//! | `read TEXT` | the form of a file with this text, and the model that it is as JSON; or what is printed of its fault |
+//! | another one | the metamodel that a model of EMOF describes, or why it describes none. The line is objects parted by `; `, each by words with a blank between: its class, its identifier, and slots as `PROPERTY=VALUES`, values parted by commas |
+//!
+//! In each TEXT `%` and two hexadecimal digits are a byte, and `%[3 ab^ ]` is `ab0 ab1 ab2 `. The first metamodel is EMOF. Lines that are
+//! empty or begin with `#` are printed as they are.
 #![tactic(auto)]
 
 mod building;
 mod printing;
+mod reading;
 
 use crate::building::built;
 use crate::printing::printed;
+use crate::reading::{read, read_meta};
 use model_building::Refusal;
 use model_files::{FileError, emof_metamodel, metamodel_of};
 use mof_metamodel::{MetaModel, NoMemory};
@@ -26,8 +33,8 @@ fn printed_error(alloc: Global, error: &FileError) -> Result<String, NoMemory> {
             let name = fault.name.as_str();
             Ok(format!(in alloc; "{word} {name}")?)
         }
-        FileError::Json(_) => Ok(String::from_str(alloc, "Json")?),
         FileError::NoMemory => Err(NoMemory),
+        _ => Ok(String::from_str(alloc, "no model")?),
     }
 }
 
@@ -39,12 +46,30 @@ fn description(alloc: Global, model: &Model<'_>) -> Result<String, NoMemory> {
     }
 }
 
-/// The answer to a case.
-fn answer(alloc: Global, emof: &MetaModel, line: &str) -> Result<String, NoMemory> {
+/// The answer to a case of a model.
+fn described(alloc: Global, emof: &MetaModel, line: &str) -> Result<String, NoMemory> {
     match built(alloc, emof, line) {
         Ok(editor) => description(alloc, editor.model()),
         Err(Refusal::NoMemory) => Err(NoMemory),
         Err(refusal) => Ok(String::from_str(alloc, refusal.word())?),
+    }
+}
+
+/// The metamodel EMOF, and the one by which files are read.
+#[derive(Drop)]
+struct Metas {
+    emof: MetaModel,
+    current: MetaModel,
+}
+
+/// The answer to a case.
+fn answer(alloc: Global, metas: &mut Metas, line: &str) -> Result<String, NoMemory> {
+    if let Some(text) = line.strip_prefix("meta ") {
+        read_meta(alloc, &mut metas.current, text)
+    } else if let Some(text) = line.strip_prefix("read ") {
+        read(alloc, &metas.current, text)
+    } else {
+        described(alloc, &metas.emof, line)
     }
 }
 
@@ -59,12 +84,15 @@ fn given<T: Drop>(answer: Result<T, NoMemory>) -> io::Result<T> {
 fn main(rt: HostRuntime) -> io::Result<()> {
     let alloc = rt.alloc();
     let text = io::read_to_string(alloc, rt.reader())?;
-    let emof = given(emof_metamodel(alloc))?;
+    let mut metas = Metas {
+        emof: given(emof_metamodel(alloc))?,
+        current: given(emof_metamodel(alloc))?,
+    };
     for line in text.as_str().lines() {
         if line.is_empty() || line.starts_with('#') {
             println!(rt; "{line}")?;
         } else {
-            let answer = given(answer(alloc, &emof, line))?;
+            let answer = given(answer(alloc, &mut metas, line))?;
             println!(rt; "{line} => {answer}")?;
         }
     }

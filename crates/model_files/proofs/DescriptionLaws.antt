@@ -71,7 +71,9 @@ described m root desc (Ok meta) only is made =
 described m root desc (Err e) only is made = tt
 
 why : (m : ModelData) (root : ℕ) (desc : MetaDesc) (e : FileError) → top_packages m ≡ root ∷ [] → desc ≡ description_of m root → IsFaultOf desc e → IsWhy m e
+why m root desc (errors.Text fault) only is made = absurd made
 why m root desc (errors.Json fault) only is made = absurd made
+why m root desc (errors.Content fault) only is made = absurd made
 why m root desc (errors.Meta fault) only is made = (root, only, subst (λ d. IsFirstFault d fault.kind fault.name) is made)
 why m root desc (errors.NoPackage n) only is made = absurd made
 why m root desc errors.NoMemory only is made = tt

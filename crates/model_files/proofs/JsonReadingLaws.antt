@@ -39,9 +39,11 @@ not_utf8 bs none = by (is_utf8 bs) refl
 -- ---- what is told before the objects are looked at
 
 pub unshaped_is_error : (meta : MetaDesc) (bytes : List ℕ) (e : FileError) → IsUnshaped bytes e → IsJsonError meta bytes e
+unshaped_is_error meta bytes (errors.Text fault) h = absurd h
 unshaped_is_error meta bytes (errors.Json json_faults.Syntax) h = h
 unshaped_is_error meta bytes (errors.Json (json_faults.Shape path)) h = h
 unshaped_is_error meta bytes (errors.Json (json_faults.Content fault)) h = absurd h
+unshaped_is_error meta bytes (errors.Content fault) h = absurd h
 unshaped_is_error meta bytes (errors.Meta fault) h = absurd h
 unshaped_is_error meta bytes (errors.NoPackage n) h = absurd h
 unshaped_is_error meta bytes errors.NoMemory h = tt

@@ -5,6 +5,7 @@ use Rattle.std.specs.Prelude.{◌&&◌, ℤ, All, AllPairs, slice_index_or, char
 use Rattle.std.specs.List.{AllByRecursion}
 use Rattle.std.specs.Option.{option_map, unwrap_or}
 use Rattle.std.proofs.lemmas.Bool.{lt-ltb, eq-eqb}
+use Rattle.std.proofs.lemmas.List.{length-map}
 use Rattle.std.proofs.lemmas.Option.{slice_get-get_or}
 use Rattle.serde_json.specs.Data.{Num, Data, null, boolean, number, string, array, object}
 use Rattle.serde_json.specs.Find.{as_i64}
@@ -23,10 +24,12 @@ use Rattle.object_tables.specs.Models.{is_class_type, is_value_of}
 use Rattle.xmi_profile.specs.declared.filed.Filed.{Filed}
 use Rattle.xmi_profile.specs.declared.filed.WrittenValue.{WrittenValue}
 use Rattle.xmi_profile.specs.Elements.{concrete, concrete_class}
+use Rattle.xmi_profile.specs.Filed.{IsFiled}
+use Rattle.xmi_profile.specs.SoundFiled.{IsTyped, IsSoundFiled}
 use Rattle.xmi_profile.specs.Source.{all_ids, all_classes}
 use Rattle.model_files.specs.declared.json_filed.Slot.{Slot}
 use Rattle.model_files.specs.JsonContent.{Written, objects_of, class_in, text_value, value_of, source_of}
-use Rattle.model_files.specs.JsonFiled.{IsTyped, with_value, with_values, with_named, with_found, with_slots, with_object, with_objects}
+use Rattle.model_files.specs.JsonFiled.{with_value, with_values, with_named, with_found, with_slots, with_object, with_objects}
 use Rattle.model_files.proofs.JsonFiledValues.{slot_at}
 use Rattle.model_files.proofs.JsonKnownLaws.{distinct_ids}
 use Rattle.model_files.proofs.JsonTree.{IsKnownObject}
@@ -204,3 +207,24 @@ identifiers_distinct meta d sound =
     distinct_ids [] (map (λ w. w.id) (objects_of d)) j i (slice_index_or (map (λ w. w.id) (objects_of d)) j id) sound.right.1 l
     (slice_get-get_or (map (λ w. w.id) (objects_of d)) j id within)
     (slice_get-get_or (map (λ w. w.id) (objects_of d)) i id early ∙ ap (λ (x : List ℕ). Some x) same)))
+
+-- ---- all of it
+
+-- what is collected of a value is sound
+pub sound_filed : (meta : MetaDesc) (d : Data) (f : Filed) → IsSound meta d → IsFiled (source_of meta d) f → All (IsTyped meta) f.values → IsSoundFiled meta f
+sound_filed meta d f sound filed typed = record {
+  typed = typed;
+  classes = classes_concrete meta d sound f.classes filed.classes;
+  same = long;
+  identifiers = subst (All (λ id. is_identifier_text id ≡ true)) (sym filed.ids) (identifiers_proper meta d sound);
+  distinct = subst (AllPairs (λ x y. x ≢ y)) (sym filed.ids) (identifiers_distinct meta d sound);
+}
+  where
+    long : length f.classes ≡ length f.ids
+    long =
+        let a = length-map f.classes (λ (c : ClassId). Some c.0) in
+        let b = ap (λ (cs : List (Option ℕ)). length cs) (filed.classes ∙ all_classes_are meta d sound) in
+        let e = length-map (objects_of d) (λ w. Some (class_in meta w)) in
+        let g = ap (λ (ids : List (List ℕ)). length ids) (filed.ids ∙ all_ids_are meta d sound) in
+        let h = length-map (objects_of d) (λ w. w.id) in
+        omega (arith, a, b, e, g, h)

@@ -5,6 +5,9 @@ pub mod DescriptionExamples
 pub mod DescriptionLaws
 pub mod EmofLaws
 pub mod Examples
+pub mod FaultTextLaws
+pub mod FaultlessLaws
+pub mod FileLaws
 pub mod JsonFaultLaws
 pub mod JsonFiledLaws
 pub mod JsonFiledReferences
@@ -21,4 +24,9 @@ pub mod JsonTree
 pub mod JsonTreeLaws
 pub mod JsonTypedLaws
 pub mod JsonValueLaws
+pub mod MetaFileLaws
+pub mod OneErrorLaws
+pub mod OneFaultLaws
+pub mod OneModelLaws
+pub mod ReadingLaws
 pub mod ShapeLaws

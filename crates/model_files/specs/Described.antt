@@ -124,7 +124,9 @@ pub record Describes (m : ModelData) (desc : MetaDesc) : Type 0 where
 -- the fault is the first of the description
 abbrev pub IsFaultOf : MetaDesc → FileError → Type 0
 IsFaultOf desc (errors.Meta fault) = IsFirstFault desc fault.kind fault.name
+IsFaultOf desc (errors.Text fault) = ⊥
 IsFaultOf desc (errors.Json fault) = ⊥
+IsFaultOf desc (errors.Content fault) = ⊥
 IsFaultOf desc (errors.NoPackage n) = ⊥
 IsFaultOf desc errors.NoMemory = Unit {0}
 
@@ -132,5 +134,7 @@ IsFaultOf desc errors.NoMemory = Unit {0}
 abbrev pub IsWhy : ModelData → FileError → Type 0
 IsWhy m (errors.Meta fault) = (root : ℕ) × (top_packages m ≡ root ∷ []) × IsFirstFault (description_of m root) fault.kind fault.name
 IsWhy m (errors.NoPackage n) = (n ≡ length (top_packages m)) × (n ≢ 1)
+IsWhy m (errors.Text fault) = ⊥
 IsWhy m (errors.Json fault) = ⊥
+IsWhy m (errors.Content fault) = ⊥
 IsWhy m errors.NoMemory = Unit {0}

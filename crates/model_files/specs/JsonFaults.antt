@@ -38,16 +38,20 @@ IsJsonFault meta bytes (faults.Content fault) = (d : Data) × (value_in bytes �
 
 -- the error of a file that is no value, or one that differs from the form of a model
 abbrev pub IsUnshaped : List ℕ → FileError → Type 0
+IsUnshaped bytes (errors.Text fault) = ⊥
 IsUnshaped bytes (errors.Json faults.Syntax) = value_in bytes ≡ None
 IsUnshaped bytes (errors.Json (faults.Shape path)) = (d : Data) × (value_in bytes ≡ Some d) × (first_amiss d ≡ Some path)
 IsUnshaped bytes (errors.Json (faults.Content fault)) = ⊥
+IsUnshaped bytes (errors.Content fault) = ⊥
 IsUnshaped bytes (errors.Meta fault) = ⊥
 IsUnshaped bytes (errors.NoPackage n) = ⊥
 IsUnshaped bytes errors.NoMemory = Unit {0}
 
 -- the error of a file by this metamodel
 abbrev pub IsJsonError : MetaDesc → List ℕ → FileError → Type 0
+IsJsonError meta bytes (errors.Text fault) = ⊥
 IsJsonError meta bytes (errors.Json fault) = IsJsonFault meta bytes fault
+IsJsonError meta bytes (errors.Content fault) = ⊥
 IsJsonError meta bytes (errors.Meta fault) = ⊥
 IsJsonError meta bytes (errors.NoPackage n) = ⊥
 IsJsonError meta bytes errors.NoMemory = Unit {0}

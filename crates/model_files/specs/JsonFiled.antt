@@ -12,7 +12,7 @@ use Rattle.mof_metamodel.specs.Characters.{same_name}
 use Rattle.mof_metamodel.specs.Metamodels.{prop_number, type_of, literal_number}
 use Rattle.object_tables.specs.declared.value.Value.{Value}
 use Rattle.object_tables.specs.declared.value.Value.TheVariants as values
-use Rattle.object_tables.specs.Models.{is_class_type, is_value_of}
+use Rattle.object_tables.specs.Models.{is_class_type}
 use Rattle.xmi_profile.specs.declared.filed.Filed.{Filed}
 use Rattle.xmi_profile.specs.declared.filed.WrittenValue.{WrittenValue}
 use Rattle.xmi_profile.specs.declared.filed.WrittenReference.{WrittenReference}
@@ -103,7 +103,3 @@ AreClassed meta objects = AllByRecursion (λ w. is_some (concrete_class meta w.c
 abbrev pub AreNew : List (List ℕ) → List (List ℕ) → Type 0
 AreNew met [] = Unit {0}
 AreNew met (id ∷ ids) = (list_any (same_name id) met ≡ false) × AreNew (met ++ id ∷ []) ids
-
--- a value is of the type of its attribute
-abbrev pub IsTyped : MetaDesc → WrittenValue → Type 0
-IsTyped meta v = is_value_of meta (type_of meta v.property.0) v.value ≡ true

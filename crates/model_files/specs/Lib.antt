@@ -3,7 +3,10 @@ pub mod Bounds
 pub mod CanonJson
 pub mod Described
 pub mod Emof
+pub mod FaultTexts
+pub mod FileErrors
 pub mod FileForm
+pub mod Files
 pub mod JsonContent
 pub mod JsonFaults
 pub mod JsonFiled

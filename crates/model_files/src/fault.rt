@@ -1,7 +1,8 @@
 ghost use Rattle.std.specs.Prelude.{◌≡◌};
 
 use mof_metamodel::{MetaFault, NoMemory, Text};
-use xmi_profile::ModelFault;
+use xmi_profile::{ModelFault, XmiError};
+use xmi_text::TextFault;
 
 /// Why a file of JSON is no model.
 #[derive(Drop)]
@@ -17,8 +18,12 @@ pub enum JsonFault {
 /// Why a file is no model or no metamodel.
 #[derive(Drop)]
 pub enum FileError {
+    /// A file of XMI is no markup.
+    Text(TextFault),
     /// A file of JSON is no model.
     Json(JsonFault),
+    /// A file of XMI is markup whose content is no model.
+    Content(ModelFault),
     /// The description of the Package has a fault.
     Meta(MetaFault),
     /// Not one object, but this many, are a top Package.
@@ -34,5 +39,19 @@ impl From<NoMemory> for FileError {
 
     fn from(_error: NoMemory) -> FileError {
         FileError::NoMemory
+    }
+}
+
+impl From<XmiError> for FileError {
+    ghost use Rattle.model_files.specs.FileErrors.{error_of};
+
+    ghost from_gives = { λ given e. e ≡ error_of given };
+
+    fn from(error: XmiError) -> FileError {
+        match error {
+            XmiError::Text(fault) => FileError::Text(fault),
+            XmiError::Content(fault) => FileError::Content(fault),
+            XmiError::NoMemory => FileError::NoMemory,
+        }
     }
 }

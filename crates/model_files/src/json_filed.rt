@@ -8,6 +8,7 @@ ghost use Rattle.xmi_profile.specs.Elements.{concrete_class};
 ghost use Rattle.model_files.specs.JsonContent as content;
 ghost use Rattle.model_files.specs.JsonFiled as filing;
 ghost use Rattle.xmi_profile.specs.Filed.{IsFiled};
+ghost use Rattle.xmi_profile.specs.SoundFiled.{IsSoundFiled};
 ghost use Rattle.model_files.specs.JsonFaults.{HasObjects};
 ghost use Rattle.model_files.specs.JsonSteps.{met_ids};
 
@@ -387,7 +388,7 @@ fn classes_of(alloc: Global, meta: &MetaModel, values: &[Value]) -> Result<Seq<C
 pub(crate) fn filed_of(alloc: Global, meta: &MetaModel, value: &Value) -> Result<Filed, NoMemory>
     requires { (bytes : List ℕ) × HasObjects meta.now bytes (view value.now) }
     ensures filed { IfOk result (IsFiled (content.source_of meta.now (view value.now))) }
-    ensures typed { IfOk result (λ f. All (filing.IsTyped meta.now) f.values) }
+    ensures sound { IfOk result (IsSoundFiled meta.now) }
 {
     // What every metamodel keeps is known here.
     let _ = meta.class_count();

@@ -9,6 +9,8 @@ mod description;
 mod emof;
 mod fault;
 mod file_form;
+mod file_laws;
+mod files;
 mod json_faults;
 mod json_filed;
 mod json_laws;
@@ -17,11 +19,17 @@ mod json_values;
 mod json_writing;
 mod metamodels;
 mod names;
+mod printing;
 mod reflection;
 mod shape;
 
 pub use emof::emof_metamodel;
 pub use fault::{FileError, JsonFault};
 pub use file_form::{Form, form_of};
+pub use file_laws::{
+    errors_agree_on_limits, files_are_one_model, models_have_no_faults, one_error_is_told,
+};
+pub use files::{Read, read_any, read_metamodel};
 pub use json_writing::write_json;
 pub use metamodels::metamodel_of;
+pub use printing::{fault_text, metamodel_fault_text};

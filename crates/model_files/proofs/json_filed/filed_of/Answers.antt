@@ -3,7 +3,7 @@ use Rattle.serde_json.specs.View.{view}
 use Rattle.model_files.specs.JsonContent.{written_of}
 use Rattle.model_files.specs.JsonSteps.{met_ids}
 use Rattle.model_files.proofs.JsonLinkLaws.{sound_from, new_ids, all_classed, few_ids, filed_from}
-use Rattle.model_files.proofs.JsonTypedLaws.{all_typed}
+use Rattle.model_files.proofs.JsonTypedLaws.{all_typed, sound_filed}
 use Rattle.model_files.proofs.json_filed.filed_of.Goals as goal
 
 pub table_of-requires : goal.table_of-requires
@@ -37,8 +37,14 @@ returns-clause-filed c =
     c.add_objects.new.filed (sound_from c.args.meta.now c.class_count.ensures.well bytes (view c.args.value.now) h) c.objects_of-values.ensures c.in_ok-ids.ensures
     c.in_ok-ids_of.ensures c.in_ok-classes_of.ensures c.new.ensures c.new-2.ensures c.new-3.ensures c.in_ok-add_objects.ensures.filed c.in_ok-add_objects.ensures.apart
 
-pub returns-clause-typed : goal.returns-clause-typed
-returns-clause-typed c =
-    all_typed c.args.meta.now (met_ids c.in_ok-ids.ids) (map (λ v. written_of (view v)) c.objects_of-values.result.now)
+pub returns-clause-sound : goal.returns-clause-sound
+returns-clause-sound c =
+    let (bytes, h) = c.requires in
+    sound_filed c.args.meta.now (view c.args.value.now) _ (sound_from c.args.meta.now c.class_count.ensures.well bytes (view c.args.value.now) h)
+    (filed_from c.args.meta.now (view c.args.value.now) c.objects_of-values.result.now c.in_ok-ids.ids
     (record { ids = c.in_ok-ids_of.field-0; classes = c.in_ok-classes_of.field-0; values = c.new.result; references = c.new-2.result; mentions = c.new-3.result })
-    c.add_objects.new.filed c.new.ensures c.in_ok-add_objects.ensures.filed
+    c.add_objects.new.filed (sound_from c.args.meta.now c.class_count.ensures.well bytes (view c.args.value.now) h) c.objects_of-values.ensures c.in_ok-ids.ensures
+    c.in_ok-ids_of.ensures c.in_ok-classes_of.ensures c.new.ensures c.new-2.ensures c.new-3.ensures c.in_ok-add_objects.ensures.filed c.in_ok-add_objects.ensures.apart)
+    (all_typed c.args.meta.now (met_ids c.in_ok-ids.ids) (map (λ v. written_of (view v)) c.objects_of-values.result.now)
+    (record { ids = c.in_ok-ids_of.field-0; classes = c.in_ok-classes_of.field-0; values = c.new.result; references = c.new-2.result; mentions = c.new-3.result })
+    c.add_objects.new.filed c.new.ensures c.in_ok-add_objects.ensures.filed)
