@@ -5,6 +5,7 @@
 //! |---|---|
 //! | `file NAME TEXT` | adds a file to those that the next vaults begin with; of two of one name the later counts |
 //! | `+ TEXT` | adds a line to the file before |
+//! | `* N TEXT` | adds the text to the file before, N times |
 //! | `failing N..` | the numbers of the calls that fail in the next vaults and sinks |
 //! | `pace N` | the most bytes that a call of a vault or a sink takes from now on |
 //! | `vault`, `sink` | begins a new one |

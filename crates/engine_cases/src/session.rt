@@ -58,6 +58,7 @@ impl Session {
         match verb {
             "file" => self.add_file(rest),
             "+" => self.add_line(rest),
+            "*" => self.add_often(rest),
             "failing" => self.set_failing(rest),
             "pace" => {
                 self.vault.most = number(rest) as usize;
@@ -85,6 +86,18 @@ impl Session {
             let mut bytes = Vec::from_slice(self.alloc, file.bytes.as_slice())?;
             bytes.extend_from_slice(line.as_bytes())?;
             bytes.push(b'\n')?;
+            file.bytes = Seq::from_vec(bytes);
+        }
+        Ok(())
+    }
+
+    fn add_often(&mut self, rest: &str) -> Result<(), NoMemory> {
+        let (count, text) = split_word(rest);
+        if let Some(file) = self.files.last_mut() {
+            let mut bytes = Vec::from_slice(self.alloc, file.bytes.as_slice())?;
+            for _ in 0..number(count) {
+                bytes.extend_from_slice(text.as_bytes())?;
+            }
             file.bytes = Seq::from_vec(bytes);
         }
         Ok(())

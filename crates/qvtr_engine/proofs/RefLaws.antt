@@ -6,7 +6,7 @@ use Rattle.std.specs.declared.alloc.Global.{Global}
 use Rattle.std.specs.Cmp.{both_ways}
 use Rattle.std.proofs.lemmas.List.{append_cancel_left}
 use Rattle.std.proofs.lemmas.Bool.{false_from_ne_true}
-use Rattle.qvtr_engine.specs.Command.{is_new_of}
+use Rattle.qvtr_engine.specs.Paths.{is_new_of}
 use Rattle.qvtr_engine.proofs.ReadingLaws.{behind_found, behind_again, same_is, same_holds}
 use Rattle.std.specs.Prelude.{◌||◌}
 use Rattle.std.specs.List.{list_any}

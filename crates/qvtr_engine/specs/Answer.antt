@@ -1,84 +1,35 @@
--- What `run` answers for words over the files of a vault.
-use Rattle.std.specs.Prelude.{◌≡◌, ℕ, Bool, true, false, cond, List, [], ◌∷◌, ◌++◌}
-use Rattle.std.specs.Prelude.{Some, None}
-use Rattle.std.specs.List.{AllByRecursion}
-use Rattle.std.specs.FinMap.{FinMap, get}
-use Rattle.std.specs.Ordering.{nat_cmp}
-use Rattle.std.specs.Cmp.Lexicographic.{slice_cmp}
-use Rattle.qvtr_engine.specs.declared.outcome.Refusal.TheVariants.{Thin}
-use Rattle.mof_metamodel.specs.Metamodels.{same_name}
-use Rattle.qvtr_engine.specs.Command.{Bound, Words, IsCommand, IsUsage}
-use Rattle.qvtr_engine.specs.ThinScript.{Names, IsThinScript, FitsWords}
-use Rattle.qvtr_engine.specs.ThinModel.{ThinObject, IsThinModel}
-use Rattle.qvtr_engine.specs.Verdict.{failing, IsLeast, counterexample}
-use Rattle.qvtr_engine.specs.Reply.{Reply, misused, unread, refused, holds, fails}
+-- What `run` answers for words over the files of a vault: one reply, which says what is printed, with which status, and what the files are
+-- then.
+use Rattle.std.specs.Prelude.{◌≡◌, ℕ, List}
+use Rattle.std.specs.FinMap.{insert}
+use Rattle.vault_io.specs.Files.{Files}
+use Rattle.qvtr_engine.specs.CheckAnswer.{CheckAnswer}
+use Rattle.qvtr_engine.specs.Command.{Command, checks, converts, IsCommand, IsUsage}
+use Rattle.qvtr_engine.specs.ConvertAnswer.{ConvertAnswer}
+use Rattle.qvtr_engine.specs.Reply.{Reply, misused, unread, refused, faulty, too_long, holds, fails, converted}
 
--- the bytes of each file, by the bytes of its name
-abbrev pub Files : Type 0
-Files = FinMap (slice_cmp nat_cmp) (List ℕ)
+-- the reply to a command
+abbrev pub IsReply : Files → Command → Reply → Type 0
+IsReply files (checks w) reply = CheckAnswer files w reply
+IsReply files (converts c) reply = ConvertAnswer files c reply
 
--- the path that the words give a name
-abbrev pub path_of : List Bound → List ℕ → List ℕ
-path_of [] name = []
-path_of (b ∷ bs) name = cond (same_name b.name name) b.path (path_of bs name)
-
--- the words give the first name a path before they give one to the second
-abbrev pub comes_first : List Bound → List ℕ → List ℕ → Bool
-comes_first [] first second = true
-comes_first (b ∷ bs) first second = cond (same_name b.name first) true (cond (same_name b.name second) false (comes_first bs first second))
-
--- a model file, and the class and the property that its objects have
-pub record ModelFile : Type 0 where
-  pub path : List ℕ
-  pub class : List ℕ
-  pub property : List ℕ
-
-abbrev pub source_file : Words → Names → ModelFile
-source_file w n = record { path = path_of w.files n.source_model; class = n.source_class; property = n.source_property }
-
-abbrev pub target_file : Words → Names → ModelFile
-target_file w n = record { path = path_of w.files n.target_model; class = n.target_class; property = n.target_property }
-
--- the two model files in the order of the words
-abbrev pub model_files : Words → Names → List ModelFile
-model_files w n = cond (comes_first w.files n.source_model n.target_model)
-    (source_file w n ∷ target_file w n ∷ [])
-    (target_file w n ∷ source_file w n ∷ [])
-
--- the file at a path has these bytes
-abbrev pub HasFile : Files → List ℕ → List ℕ → Type 0
-HasFile files path bytes = get files path ≡ Some bytes
-
--- the script's file is the thin script of these names, and the words fit it
-abbrev pub ReadsScript : Files → Words → Names → Type 0
-ReadsScript files w n = (bytes : List ℕ) × HasFile files w.script bytes × IsThinScript bytes n × FitsWords w n
-
--- a model file is the thin file of these objects
-abbrev pub ReadsModel : Files → ModelFile → List ThinObject → Type 0
-ReadsModel files f objects = (bytes : List ℕ) × HasFile files f.path bytes × IsThinModel f.class f.property bytes objects
-
--- a model file is a thin file
-abbrev pub IsRead : Files → ModelFile → Type 0
-IsRead files f = (objects : List ThinObject) × ReadsModel files f objects
-
--- The reply to these words over these files: the first of the steps that has something against them, or else the verdict.
 pub data Answer (words : List (List ℕ)) (files : Files) : Reply → Type 0 where
   usage : IsUsage words → Answer words files misused
-  script_missing : (w : Words) → IsCommand words w
-      → get files w.script ≡ None → Answer words files (unread w.script)
-  script_refused : (w : Words) → IsCommand words w
-      → (bytes : List ℕ) → HasFile files w.script bytes → ((n : Names) → IsThinScript bytes n × FitsWords w n → ⊥)
-      → Answer words files (refused w.script Thin)
-  model_missing : (w : Words) → IsCommand words w → (n : Names) → ReadsScript files w n
-      → (before behind : List ModelFile) (f : ModelFile) → model_files w n ≡ before ++ f ∷ behind → AllByRecursion (IsRead files) before
-      → get files f.path ≡ None → Answer words files (unread f.path)
-  model_refused : (w : Words) → IsCommand words w → (n : Names) → ReadsScript files w n
-      → (before behind : List ModelFile) (f : ModelFile) → model_files w n ≡ before ++ f ∷ behind → AllByRecursion (IsRead files) before
-      → (bytes : List ℕ) → HasFile files f.path bytes → ((objects : List ThinObject) → IsThinModel f.class f.property bytes objects → ⊥)
-      → Answer words files (refused f.path Thin)
-  yes : (w : Words) → IsCommand words w → (n : Names) → ReadsScript files w n
-      → (sources targets : List ThinObject) → ReadsModel files (source_file w n) sources → ReadsModel files (target_file w n) targets
-      → failing sources targets ≡ [] → Answer words files holds
-  no : (w : Words) → IsCommand words w → (n : Names) → ReadsScript files w n
-      → (sources targets : List ThinObject) → ReadsModel files (source_file w n) sources → ReadsModel files (target_file w n) targets
-      → (o : ThinObject) → IsLeast (failing sources targets) o → Answer words files (fails (counterexample n o))
+  replied : (command : Command) → IsCommand words command → (reply : Reply) → IsReply files command reply → Answer words files reply
+
+-- the files after a reply: one is put by a conversion alone
+abbrev pub files_after : Reply → Files → Files
+files_after misused files = files
+files_after (unread path) files = files
+files_after (refused path refusal) files = files
+files_after (faulty is_limit line) files = files
+files_after (too_long path) files = files
+files_after holds files = files
+files_after (fails c) files = files
+files_after (converted path bytes) files = insert files path bytes
+
+-- one reply, and no other, is the answer
+pub record HasOneAnswer (words : List (List ℕ)) (files : Files) : Type 0 where
+  pub reply : Reply
+  pub is : Answer words files reply
+  pub only : (other : Reply) → Answer words files other → other ≡ reply

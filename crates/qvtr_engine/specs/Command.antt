@@ -1,59 +1,35 @@
--- The words of the command line.
-use Rattle.std.specs.Prelude.{◌≡◌, ℕ, Bool, true, false, ◌&&◌, ◌==◌, not, List, [], ◌∷◌, ◌++◌, length, map, codes}
-use Rattle.std.specs.List.{list_all, list_any}
-use Rattle.mof_metamodel.specs.Metamodels.{same_name}
-use Rattle.qvtr_engine.specs.Names.{are_distinct}
+-- The words of the command line: what they ask for.
+use Rattle.std.specs.Prelude.{ℕ, List, Option, Some, None}
+use Rattle.qvtr_engine.specs.CheckWords.{CheckWords, IsCheck, check_paths}
+use Rattle.qvtr_engine.specs.ConvertWords.{ConvertWords, IsConvert, convert_paths, convert_of}
+use Rattle.qvtr_engine.specs.Reading.{check_of}
 
--- a word `NAME=PATH`
-pub record Bound : Type 0 where
-  pub name : List ℕ
-  pub path : List ℕ
+pub data Command : Type 0 where
+  checks : CheckWords → Command
+  converts : ConvertWords → Command
 
-pub record Words : Type 0 where
-  pub script : List ℕ
-  pub target : List ℕ
-  pub files : List Bound
-
-abbrev pub equals_sign : ℕ
-equals_sign = 61
-
-abbrev pub is_equals_sign : ℕ → Bool
-is_equals_sign c = c == equals_sign
-
--- the word that binds a name to a path
-abbrev pub bound_word : Bound → List ℕ
-bound_word b = b.name ++ equals_sign ∷ b.path
-
--- neither empty nor begun with `-`
-abbrev pub is_plain : List ℕ → Bool
-is_plain [] = false
-is_plain (c ∷ cs) = not (c == 45)
-
--- a name and a path that aren't empty, the name without `=`
-abbrev pub is_bound : Bound → Bool
-is_bound b = not (length b.name == 0) && not (list_any is_equals_sign b.name) && not (length b.path == 0)
-
--- a path is the other one followed by `.new`
-abbrev pub is_new_of : List ℕ → List ℕ → Bool
-is_new_of p q = same_name p (q ++ codes ".new")
-
--- two paths that name no common file: neither is the other, or the other followed by `.new`
-abbrev pub are_apart : List ℕ → List ℕ → Bool
-are_apart p q = not (same_name p q) && not (is_new_of p q) && not (is_new_of q p)
-
-abbrev pub are_all_apart : List (List ℕ) → Bool
-are_all_apart [] = true
-are_all_apart (p ∷ ps) = list_all (are_apart p) ps && are_all_apart ps
-
--- The words are `check SCRIPT TARGET` and four words `NAME=PATH`, with distinct names and paths that are apart.
-pub record IsCommand (words : List (List ℕ)) (w : Words) : Type 0 where
-  pub spelled : words ≡ codes "check" ∷ w.script ∷ w.target ∷ map bound_word w.files
-  pub four : length w.files ≡ 4
-  pub plain : list_all is_plain (w.script ∷ w.target ∷ map bound_word w.files) ≡ true
-  pub bound : list_all is_bound w.files ≡ true
-  pub names : are_distinct (map (λ b. b.name) w.files) ≡ true
-  pub paths : are_all_apart (w.script ∷ map (λ b. b.path) w.files) ≡ true
+abbrev pub IsCommand : List (List ℕ) → Command → Type 0
+IsCommand words (checks w) = IsCheck words w
+IsCommand words (converts c) = IsConvert words c
 
 -- no command stands in the words
 abbrev pub IsUsage : List (List ℕ) → Type 0
-IsUsage words = (w : Words) → IsCommand words w → ⊥
+IsUsage words = (command : Command) → IsCommand words command → ⊥
+
+-- the paths of the words
+abbrev pub paths_of : Command → List (List ℕ)
+paths_of (checks w) = check_paths w
+paths_of (converts c) = convert_paths c
+
+-- They are read as one command after the other.
+
+abbrev pub convert_after : Option ConvertWords → Option Command
+convert_after None = None
+convert_after (Some c) = Some (converts c)
+
+abbrev pub command_after : Option CheckWords → Option ConvertWords → Option Command
+command_after None c = convert_after c
+command_after (Some w) c = Some (checks w)
+
+abbrev pub command_of : List (List ℕ) → Option Command
+command_of words = command_after (check_of words) (convert_of words)

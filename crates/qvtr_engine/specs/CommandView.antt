@@ -1,11 +1,10 @@
--- The words of the command line in memory.
-use Rattle.std.specs.Prelude.{[], ◌∷◌}
-use Rattle.qvtr_engine.specs.declared.command.Bound.{Bound as BoundWord}
-use Rattle.qvtr_engine.specs.declared.command.Command.{Command}
-use Rattle.qvtr_engine.specs.Command.{Bound, Words}
+-- A command in memory.
+use Rattle.qvtr_engine.specs.declared.command.Command.{Command as Request}
+use Rattle.qvtr_engine.specs.declared.command.Command.TheVariants.{Check, Convert}
+use Rattle.qvtr_engine.specs.CheckView.{check_view}
+use Rattle.qvtr_engine.specs.ConvertView.{convert_view}
+use Rattle.qvtr_engine.specs.Command.{Command, checks, converts}
 
-abbrev pub bound_view : BoundWord → Bound
-bound_view b = record { name = b.name.now; path = b.path.now }
-
-abbrev pub command_view : Command → Words
-command_view c = record { script = c.script.now; target = c.target.now; files = bound_view c.first ∷ bound_view c.second ∷ bound_view c.third ∷ bound_view c.fourth ∷ [] }
+abbrev pub command_view : Request → Command
+command_view (Check r) = checks (check_view r)
+command_view (Convert r) = converts (convert_view r)

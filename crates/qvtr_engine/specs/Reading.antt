@@ -3,7 +3,8 @@ use Rattle.std.specs.Prelude.{ℕ, suc, zero, Bool, true, false, not, ◌&&◌, 
 use Rattle.std.specs.List.{list_all, starts_with, prefix_len}
 use Rattle.mof_metamodel.specs.Metamodels.{same_name}
 use Rattle.qvtr_engine.specs.Names.{is_letter_or_digit, are_distinct}
-use Rattle.qvtr_engine.specs.Command.{Bound, Words, is_plain, are_all_apart, is_equals_sign}
+use Rattle.qvtr_engine.specs.CheckWords.{Bound, CheckWords, is_plain, is_equals_sign}
+use Rattle.qvtr_engine.specs.Paths.{are_all_apart}
 
 infixl 10 ◌>>=◌
 abbrev pub ◌>>=◌ : {A B : Type 0} → Option A → (A → Option B) → Option B
@@ -37,27 +38,27 @@ nth (x ∷ xs) zero = x
 nth (x ∷ xs) (suc k) = nth xs k
 
 -- the command of seven words, of which the last four bind names to paths
-abbrev pub command_from : List (List ℕ) → Bound → Bound → Bound → Bound → Words
-command_from words first second third fourth =
+abbrev pub check_from : List (List ℕ) → Bound → Bound → Bound → Bound → CheckWords
+check_from words first second third fourth =
     record { script = nth words 1; target = nth words 2; files = first ∷ second ∷ third ∷ fourth ∷ [] }
 
 -- nothing speaks against the words and the command in them
-abbrev pub is_accepted : List (List ℕ) → Words → Bool
+abbrev pub is_accepted : List (List ℕ) → CheckWords → Bool
 is_accepted words w =
     same_name (nth words 0) (codes "check") && list_all is_plain (drop 1 words)
     && are_distinct (map (λ b. b.name) w.files)
     && are_all_apart (w.script ∷ map (λ b. b.path) w.files)
 
-abbrev pub accepted : List (List ℕ) → Words → Option Words
+abbrev pub accepted : List (List ℕ) → CheckWords → Option CheckWords
 accepted words w = when_true (is_accepted words w) w
 
-unfoldable pub command_of : List (List ℕ) → Option Words
-command_of words = if length words == 7 then (do
+unfoldable pub check_of : List (List ℕ) → Option CheckWords
+check_of words = if length words == 7 then (do
   first ← bound_of (nth words 3)
   second ← bound_of (nth words 4)
   third ← bound_of (nth words 5)
   fourth ← bound_of (nth words 6)
-  accepted words (command_from words first second third fourth))
+  accepted words (check_from words first second third fourth))
     else None
 
 -- what stands behind a text

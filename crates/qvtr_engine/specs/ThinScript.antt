@@ -2,7 +2,7 @@
 use Rattle.std.specs.Prelude.{◌≡◌, ◌≤◌, ℕ, true, List, [], ◌∷◌, length, map, codes}
 use Rattle.std.specs.List.{list_all, concat}
 use Rattle.qvtr_engine.specs.Names.{is_thin_name, are_distinct, is_among}
-use Rattle.qvtr_engine.specs.Command.{Words}
+use Rattle.qvtr_engine.specs.CheckWords.{CheckWords}
 use Rattle.qvtr_engine.specs.declared.TheConstants.{MAX_THIN}
 
 -- the names that stand in a thin script
@@ -55,6 +55,6 @@ pub record IsThinScript (bytes : List ℕ) (n : Names) : Type 0 where
   pub variables : are_distinct (n.value ∷ n.source ∷ n.target ∷ []) ≡ true
 
 -- the words name the script's target, and a file for each of its models and metamodels
-pub record FitsWords (w : Words) (n : Names) : Type 0 where
+pub record FitsWords (w : CheckWords) (n : Names) : Type 0 where
   pub target : w.target ≡ n.target_model
   pub files : list_all (is_among (map (λ b. b.name) w.files)) (file_names_of n) ≡ true

@@ -1,7 +1,7 @@
 ghost use Rattle.std.specs.Prelude.{◌≡◌, ◌≤◌, ◌∷◌, [], map, true, None, Some, IfOk, IfErr, IfSome};
 ghost use Rattle.std.specs.FinMap.{get};
 ghost use Rattle.vault_io.specs.Counts.{Rose};
-ghost use Rattle.qvtr_engine.specs.Answer.{source_file, target_file};
+ghost use Rattle.qvtr_engine.specs.CheckAnswer.{source_file, target_file};
 ghost use Rattle.qvtr_engine.specs.Verdict.{counterexample};
 ghost use Rattle.std.specs.List.{list_all};
 ghost use Rattle.qvtr_engine.specs.Names.{is_among};
@@ -11,12 +11,12 @@ ghost use Rattle.qvtr_engine.specs.ReadModel.{model_of};
 ghost use Rattle.qvtr_engine.specs.ScriptView.{names_view};
 ghost use Rattle.qvtr_engine.specs.ModelView.{object_view, objects_view};
 ghost use Rattle.qvtr_engine.specs.FileView.{file_view};
-ghost use Rattle.qvtr_engine.specs.CommandView.{command_view};
-ghost use Rattle.qvtr_engine.specs.Run.{paths_of};
+ghost use Rattle.qvtr_engine.specs.CheckView.{check_view};
+ghost use Rattle.qvtr_engine.specs.CheckWords.{check_paths};
 ghost use Rattle.qvtr_engine.specs.Stops.{reply_of_verdict, Gives, Stopped, NotLoaded, NotRead};
 
 use crate::MAX_THIN;
-use crate::command::{Command, comes_first, path_of};
+use crate::check_words::{CheckRequest, comes_first, path_of};
 use crate::names::is_among;
 use crate::outcome::{Counterexample, Refusal, Stop, Verdict};
 use crate::thin_error::ThinError;
@@ -127,31 +127,31 @@ fn check_in_order<'w, F: Vault>(
 /// The script in these bytes, if the words fit it.
 fn fitting_script<'a, 'w>(
     alloc: Global,
-    command: &Command<'w>,
+    request: &CheckRequest<'w>,
     bytes: &'a [u8],
 ) -> Result<ThinScript<'a>, Stop<'w>>
-    ensures ok { IfOk result (λ s. fitting (command_view command.now) bytes.now ≡ Some (names_view s)) }
-    ensures fits { IfOk result (λ s. fits (command_view command.now) (names_view s) ≡ true) }
-    ensures err { IfErr result (λ stop. NotRead stop (fitting (command_view command.now) bytes.now ≡ None) command.now.script.now) }
+    ensures ok { IfOk result (λ s. fitting (check_view request.now) bytes.now ≡ Some (names_view s)) }
+    ensures fits { IfOk result (λ s. fits (check_view request.now) (names_view s) ≡ true) }
+    ensures err { IfErr result (λ stop. NotRead stop (fitting (check_view request.now) bytes.now ≡ None) request.now.script.now) }
 {
     match ThinScript::read(alloc, bytes) {
-        Ok(script) if command.fits(&script) => Ok(script),
-        Ok(_) => Err(Stop::Refused(command.script, Refusal::Thin)),
-        Err(ThinError::NotThin) => Err(Stop::Refused(command.script, Refusal::Thin)),
+        Ok(script) if request.fits(&script) => Ok(script),
+        Ok(_) => Err(Stop::Refused(request.script, Refusal::Thin)),
+        Err(ThinError::NotThin) => Err(Stop::Refused(request.script, Refusal::Thin)),
         Err(ThinError::NoMemory) => Err(Stop::NoMemory),
     }
 }
 
-impl<'w> Command<'w> {
+impl<'w> CheckRequest<'w> {
     /// Whether the words name the script's target, and a file for each of its models and metamodels.
     fn fits(&self, script: &ThinScript<'_>) -> bool
-        ensures { result ≡ fits (command_view self.now) (names_view script.now) }
+        ensures { result ≡ fits (check_view self.now) (names_view script.now) }
     {
         self.target.as_bytes() == script.target_model && self.has_files_of(script)
     }
 
     fn has_files_of(&self, script: &ThinScript<'_>) -> bool
-        ensures { result ≡ list_all (is_among (map (λ b. b.name) (command_view self.now).files)) (file_names_of (names_view script.now)) }
+        ensures { result ≡ list_all (is_among (map (λ b. b.name) (check_view self.now).files)) (file_names_of (names_view script.now)) }
     {
         let names: [&[u8]; 4] = [
             self.first.name.as_bytes(),
@@ -166,7 +166,7 @@ impl<'w> Command<'w> {
     }
 
     fn source_file<'a>(&self, script: &ThinScript<'a>) -> ThinFile<'w, 'a>
-        ensures { file_view result ≡ source_file (command_view self.now) (names_view script.now) }
+        ensures { file_view result ≡ source_file (check_view self.now) (names_view script.now) }
     {
         ThinFile {
             path: path_of(&self.files(), script.source_model),
@@ -178,7 +178,7 @@ impl<'w> Command<'w> {
     }
 
     fn target_file<'a>(&self, script: &ThinScript<'a>) -> ThinFile<'w, 'a>
-        ensures { file_view result ≡ target_file (command_view self.now) (names_view script.now) }
+        ensures { file_view result ≡ target_file (check_view self.now) (names_view script.now) }
     {
         ThinFile {
             path: path_of(&self.files(), script.target_model),
@@ -194,38 +194,38 @@ impl<'w> Command<'w> {
 fn check_models<'w, F: Vault>(
     alloc: Global,
     vault: &mut F,
-    command: &Command<'w>,
+    request: &CheckRequest<'w>,
     script: &ThinScript<'_>,
 ) -> Result<Verdict, Stop<'w>>
-    requires { fits (command_view command.now) (names_view script.now) ≡ true }
-    ensures ok { IfOk result (λ v. Gives v (F.files vault.old) (λ files. after_script files (command_view command.now) (names_view script.now))) }
-    ensures err { IfErr result (λ stop. Stopped stop (F.files vault.old) (λ files. after_script files (command_view command.now) (names_view script.now))
-        (Rose (F.faults vault.old) (F.faults vault.new)) (paths_of (command_view command.now))) }
+    requires { fits (check_view request.now) (names_view script.now) ≡ true }
+    ensures ok { IfOk result (λ v. Gives v (F.files vault.old) (λ files. after_script files (check_view request.now) (names_view script.now))) }
+    ensures err { IfErr result (λ stop. Stopped stop (F.files vault.old) (λ files. after_script files (check_view request.now) (names_view script.now))
+        (Rose (F.faults vault.old) (F.faults vault.new)) (check_paths (check_view request.now))) }
     ensures files { F.files vault.new ≡ F.files vault.old }
     ensures faults { F.faults vault.old ≤ F.faults vault.new }
 {
-    let source = command.source_file(script);
-    let target = command.target_file(script);
-    if comes_first(&command.files(), script.source_model, script.target_model) {
+    let source = request.source_file(script);
+    let target = request.target_file(script);
+    if comes_first(&request.files(), script.source_model, script.target_model) {
         check_in_order(alloc, vault, script, &source, &target, true)
     } else {
         check_in_order(alloc, vault, script, &target, &source, false)
     }
 }
 
-/// Checks what a command asks for.
+/// Checks what a request asks for.
 pub(crate) fn check<'w, F: Vault>(
     alloc: Global,
     vault: &mut F,
-    command: &Command<'w>,
+    request: &CheckRequest<'w>,
 ) -> Result<Verdict, Stop<'w>>
-    ensures ok { IfOk result (λ v. Gives v (F.files vault.old) (λ files. judged files (command_view command.now))) }
-    ensures err { IfErr result (λ stop. Stopped stop (F.files vault.old) (λ files. judged files (command_view command.now))
-        (Rose (F.faults vault.old) (F.faults vault.new)) (paths_of (command_view command.now))) }
+    ensures ok { IfOk result (λ v. Gives v (F.files vault.old) (λ files. judged files (check_view request.now))) }
+    ensures err { IfErr result (λ stop. Stopped stop (F.files vault.old) (λ files. judged files (check_view request.now))
+        (Rose (F.faults vault.old) (F.faults vault.new)) (check_paths (check_view request.now))) }
     ensures files { F.files vault.new ≡ F.files vault.old }
     ensures faults { F.faults vault.old ≤ F.faults vault.new }
 {
-    let bytes = load_thin(alloc, vault, command.script)?;
-    let script = fitting_script(alloc, command, bytes.as_slice())?;
-    check_models(alloc, vault, command, &script)
+    let bytes = load_thin(alloc, vault, request.script)?;
+    let script = fitting_script(alloc, request, bytes.as_slice())?;
+    check_models(alloc, vault, request, &script)
 }

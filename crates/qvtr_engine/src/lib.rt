@@ -1,11 +1,17 @@
 //! The top call of the engine.
 #![tactic(auto)]
 
+mod arguments;
+mod check_words;
 mod checking;
 mod command;
+mod convert_words;
+mod converting;
 mod names;
 mod outcome;
+mod paths;
 mod rendering;
+mod reporting;
 mod status;
 mod template;
 mod thin_error;

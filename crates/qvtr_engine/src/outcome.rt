@@ -30,13 +30,17 @@ pub(crate) enum Refusal {
     Thin,
 }
 
-/// What stops a check.
+/// What stops the work on a command.
 #[derive(Drop)]
 pub(crate) enum Stop<'w> {
     /// The file at the path couldn't be read.
     Fault(&'w str),
     /// The file at the path is refused.
     Refused(&'w str, Refusal),
+    /// The file at the path is too long.
+    TooLong(&'w str),
+    /// A file has a fault, for a limit that is passed or not. The line tells it.
+    Faulty { is_limit: bool, line: Seq<u8> },
     /// Memory could not be had.
     NoMemory,
 }

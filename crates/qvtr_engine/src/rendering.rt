@@ -2,7 +2,7 @@ ghost use Rattle.std.specs.Prelude.{◌≡◌, map, IfOk, IsSomeAnd};
 ghost use Rattle.std.specs.List.{concat};
 ghost use Rattle.qvtr_engine.specs.Reply as spec;
 ghost use Rattle.qvtr_engine.specs.Stops.{reply_of_verdict};
-ghost use Rattle.qvtr_engine.specs.Outcome.{reply_of_outcome};
+ghost use Rattle.qvtr_engine.specs.Outcome.{reply_of_stop, reply_of_outcome};
 
 use crate::outcome::{Counterexample, Refusal, Stop, Verdict};
 use crate::status::Status;
@@ -11,6 +11,9 @@ use std::alloc::Global;
 
 /// What is printed where the words are no command.
 pub(crate) const USAGE: &[u8] = b"usage\n";
+
+/// What is printed where a file was put.
+pub(crate) const DONE: &[u8] = b"done\n";
 
 /// What is printed where memory could not be had.
 pub(crate) const NO_MEMORY: &[u8] = b"no memory\n";
@@ -44,7 +47,7 @@ impl Refusal {
     }
 }
 
-fn fault_text(alloc: Global, path: &str) -> Result<Seq<u8>, NoMemory>
+pub(crate) fn fault_text(alloc: Global, path: &str) -> Result<Seq<u8>, NoMemory>
     ensures { IfOk result (λ text. text ≡ spec.fault_text path.now) }
 {
     concatenate(alloc, &[b"fault ", path.as_bytes(), b"\n"])
@@ -57,6 +60,12 @@ fn refused_text(alloc: Global, path: &str, word: &str) -> Result<Seq<u8>, NoMemo
         alloc,
         &[b"refused ", path.as_bytes(), b" ", word.as_bytes(), b"\n"],
     )
+}
+
+fn too_long_text(alloc: Global, path: &str) -> Result<Seq<u8>, NoMemory>
+    ensures { IfOk result (λ text. text ≡ spec.too_long_text path.now) }
+{
+    concatenate(alloc, &[b"limit bytes ", path.as_bytes(), b"\n"])
 }
 
 fn no_text(alloc: Global, counterexample: &Counterexample) -> Result<Seq<u8>, NoMemory>
@@ -102,6 +111,43 @@ fn render_verdict(alloc: Global, verdict: &Verdict) -> Result<Page, NoMemory>
     }
 }
 
+/// The status of a fault of a file.
+fn status_of_fault(is_limit: bool) -> Status
+    ensures { result ≡ spec.status_of_fault is_limit }
+{
+    if is_limit {
+        Status::Limit
+    } else {
+        Status::Refused
+    }
+}
+
+/// What is printed of what stops the work. Where that is want of memory, so is the answer.
+pub(crate) fn render_stop(alloc: Global, stop: &Stop<'_>) -> Result<Page, NoMemory>
+    ensures { IfOk result (λ page. IsSomeAnd (reply_of_stop stop.now)
+        (λ reply. (page.status ≡ spec.status_of reply) × (page.text ≡ spec.text_of reply))) }
+{
+    match stop {
+        Stop::Fault(path) => Ok(Page {
+            status: Status::Fault,
+            text: fault_text(alloc, path)?,
+        }),
+        Stop::Refused(path, refusal) => Ok(Page {
+            status: Status::Refused,
+            text: refused_text(alloc, path, refusal.word())?,
+        }),
+        Stop::TooLong(path) => Ok(Page {
+            status: Status::Limit,
+            text: too_long_text(alloc, path)?,
+        }),
+        Stop::Faulty { is_limit, line } => Ok(Page {
+            status: status_of_fault(*is_limit),
+            text: Seq::from_slice(alloc, line.as_slice())?,
+        }),
+        Stop::NoMemory => Err(NoMemory),
+    }
+}
+
 /// What is printed of an outcome. Where an outcome is want of memory, so is the answer.
 pub(crate) fn render(alloc: Global, outcome: &Result<Verdict, Stop<'_>>) -> Result<Page, NoMemory>
     ensures { IfOk result (λ page. IsSomeAnd (reply_of_outcome outcome.now)
@@ -109,14 +155,6 @@ pub(crate) fn render(alloc: Global, outcome: &Result<Verdict, Stop<'_>>) -> Resu
 {
     match outcome {
         Ok(verdict) => render_verdict(alloc, verdict),
-        Err(Stop::Fault(path)) => Ok(Page {
-            status: Status::Fault,
-            text: fault_text(alloc, path)?,
-        }),
-        Err(Stop::Refused(path, refusal)) => Ok(Page {
-            status: Status::Refused,
-            text: refused_text(alloc, path, refusal.word())?,
-        }),
-        Err(Stop::NoMemory) => Err(NoMemory),
+        Err(stop) => render_stop(alloc, stop),
     }
 }

@@ -10,7 +10,7 @@ pub enum Status {
     No,
     /// The words are no command.
     Usage,
-    /// A file couldn't be read, or the text not printed.
+    /// A file couldn't be read or put, or the text not printed.
     Fault,
     /// A file isn't of its form.
     Refused,

@@ -1,77 +1,97 @@
-ghost use Rattle.std.specs.Prelude.{◌≡◌, ◌≤◌, ◌⊎◌, List, ℕ, map, string_bytes, IfSome, IsSomeAnd};
+ghost use Rattle.std.specs.Prelude.{◌≡◌, ◌≤◌, ◌⊎◌, List, ℕ, length, map, string_bytes, IfSome, IsSomeAnd};
 ghost use Rattle.vault_io.specs.Counts.{Rose};
+ghost use Rattle.mof_metamodel.specs.declared.limits.TheConstants.{MAX_FILE};
+ghost use Rattle.object_tables.specs.Models.{ModelData};
+ghost use Rattle.qvtr_engine.specs.Alike.{AreAlike};
+ghost use Rattle.qvtr_engine.specs.Answer.{Answer, HasOneAnswer};
+ghost use Rattle.qvtr_engine.specs.CheckWords.{CheckWords, IsCheck};
 ghost use Rattle.qvtr_engine.specs.Command.{IsUsage};
-ghost use Rattle.qvtr_engine.specs.Reply.{Reply, status_of, unread};
-ghost use Rattle.qvtr_engine.specs.Answer.{Answer};
-ghost use Rattle.qvtr_engine.specs.Run.{Ends};
-ghost use Rattle.qvtr_engine.specs.Outcome.{Finishes, Reports, reply_of_outcome};
+ghost use Rattle.qvtr_engine.specs.CommandEnds.{CommandEnds};
+ghost use Rattle.qvtr_engine.specs.CommandView.{command_view};
+ghost use Rattle.qvtr_engine.specs.ConvertAnswer.{IsConverted, text_in};
+ghost use Rattle.qvtr_engine.specs.ConvertWords.{ConvertWords, IsConvert};
+ghost use Rattle.qvtr_engine.specs.Reply.{Reply, misused, status_of, unread};
+ghost use Rattle.qvtr_engine.specs.Run.{Ends, HasCause, HasConverted, IsOwed, KeepsFiles};
 
 use crate::checking::check;
 use crate::command::Command;
-use crate::outcome::{Stop, Verdict};
-use crate::rendering::{NO_MEMORY, USAGE, render};
+use crate::converting::convert;
+use crate::rendering::USAGE;
+use crate::reporting::{finish, report};
 use crate::status::Status;
-use mof_metamodel::NoMemory;
 use std::alloc::Global;
-use vault_io::{Failed, Sink, Vault, print_all};
+use vault_io::{Sink, Vault};
 
-/// Prints a text, and answers the status of the run.
-fn finish<K: Sink>(out: &mut K, status: Status, text: &[u8]) -> Status
-    ensures ends { Finishes status text.now (K.told out.old) (K.told out.new) (Rose (K.faults out.old) (K.faults out.new)) result }
-    ensures faults { K.faults out.old ≤ K.faults out.new }
-{
-    match print_all(out, text) {
-        Ok(()) => status,
-        Err(Failed) => Status::Fault,
-    }
-}
-
-/// Prints what a check came to.
-fn report<K: Sink>(alloc: Global, out: &mut K, outcome: &Result<Verdict, Stop<'_>>) -> Status
-    ensures ends { Reports (reply_of_outcome outcome.now) (K.told out.old) (K.told out.new) (Rose (K.faults out.old) (K.faults out.new)) result }
-    ensures faults { K.faults out.old ≤ K.faults out.new }
-{
-    match render(alloc, outcome) {
-        Ok(page) => finish(out, page.status, page.text.as_slice()),
-        Err(NoMemory) => finish(out, Status::NoMemory, NO_MEMORY),
-    }
-}
-
-/// Over files that are told, words have exactly one answer. It does nothing: its contract is this law.
+/// Over files that are told, words have one answer at most, up to which fault of a file is told; those that are no command have the answer
+/// that says so, and those of `check` have exactly one. It does nothing: its contract is this law.
 pub fn one_answer<F: Vault>(words: &[String], vault: &F)
-    ensures some { IfSome (F.files vault.now) (λ files. (reply : Reply) × Answer (map string_bytes words.now) files reply) }
+    ensures usage { IfSome (F.files vault.now) (λ files. IsUsage (map string_bytes words.now) → Answer (map string_bytes words.now) files misused) }
+    ensures checks { IfSome (F.files vault.now) (λ files. (w : CheckWords) → IsCheck (map string_bytes words.now) w →
+        HasOneAnswer (map string_bytes words.now) files) }
     ensures single { IfSome (F.files vault.now) (λ files. (reply other : Reply)
-        → Answer (map string_bytes words.now) files reply → Answer (map string_bytes words.now) files other → reply ≡ other) }
+        → Answer (map string_bytes words.now) files reply → Answer (map string_bytes words.now) files other → AreAlike reply other) }
 {
     let _ = words;
     let _ = vault;
 }
 
+/// Does what a command asks for, and prints what came of it.
+fn obey<F: Vault, K: Sink>(
+    alloc: Global,
+    vault: &mut F,
+    out: &mut K,
+    command: &Command<'_>,
+) -> Status
+    ensures ends { CommandEnds (F.files vault.old) (command_view command.now) (Rose (F.faults vault.old) (F.faults vault.new))
+        (Rose (K.faults out.old) (K.faults out.new)) (K.told out.old) (K.told out.new) (F.files vault.new) result }
+    ensures vault_faults { F.faults vault.old ≤ F.faults vault.new }
+    ensures sink_faults { K.faults out.old ≤ K.faults out.new }
+{
+    match command {
+        Command::Check(request) => report(alloc, out, &check(alloc, vault, request)),
+        Command::Convert(request) => convert(alloc, vault, out, request),
+    }
+}
+
 /// Runs the program: `words` are those after the program's name, `vault` has the files, and all that is printed goes to
-/// `out`. The files stay as they are.
+/// `out`.
 ///
 /// `check SCRIPT TARGET NAME=PATH NAME=PATH NAME=PATH NAME=PATH` checks a relation between two models in its direction
 /// towards the model TARGET (QVT 1.3, 7.2 and 7.3), and prints `yes`, or `no` with the least object of the source that has
-/// no partner. The other statuses say what stands in the way; each has its text.
+/// no partner. The files stay as they are.
+///
+/// `convert FORM META IN OUT` reads the model in the file IN by the metamodel in the file META, each in the form that it has, puts it as OUT
+/// in the form `xmi` (XMI 2.5.1) or `json` (RFC 8259), and prints `done`. Only OUT changes, and only where the status is `Done`,
+/// or `Fault` since the put or the print failed.
+///
+/// The other statuses say what stands in the way; each has its text.
 pub fn run<F: Vault, K: Sink>(alloc: Global, words: &[String], vault: &mut F, out: &mut K) -> Status
-    // What is printed is the one answer to the words over the files, unless memory or the outside fails.
+    // What is printed, and what the files are then, is the answer to the words over the files, unless memory or the outside fails.
     ensures ends { IfSome (F.files vault.old) (λ files. Ends (map string_bytes words.now) files (Rose (F.faults vault.old) (F.faults vault.new))
-        (Rose (K.faults out.old) (K.faults out.new)) (K.told out.old) (K.told out.new) result) }
+        (Rose (K.faults out.old) (K.faults out.new)) (K.told out.old) (K.told out.new) (F.files vault.new) result) }
+    ensures cause { IfSome (F.files vault.old) (λ files. HasCause (map string_bytes words.now) files
+        (Rose (F.faults vault.old) (F.faults vault.new) ⊎ Rose (K.faults out.old) (K.faults out.new)) result) }
     ensures only { IfSome (F.files vault.old) (λ files. (reply : Reply) → Answer (map string_bytes words.now) files reply →
-        (result ≡ status_of reply) ⊎ (result ≡ Status.NoMemory) ⊎ ((result ≡ Status.Fault) × (Rose (F.faults vault.old) (F.faults vault.new) ⊎ Rose (K.faults out.old) (K.faults out.new)))) }
+        IsOwed (status_of reply) (Rose (F.faults vault.old) (F.faults vault.new) ⊎ Rose (K.faults out.old) (K.faults out.new)) result) }
 
-    // These two hold of files that aren't told, too.
+    // A conversion that is done has put the text of the model that the words name; and where they name one, it is done.
+    ensures converted { IfSome (F.files vault.old) (λ files. (c : ConvertWords) → IsConvert (map string_bytes words.now) c → result ≡ Status.Done →
+        HasConverted files c (F.files vault.new)) }
+    ensures converts { IfSome (F.files vault.old) (λ files. (c : ConvertWords) (m : ModelData) → IsConvert (map string_bytes words.now) c →
+        IsConverted files c m → length (text_in c.form m) ≤ MAX_FILE →
+        IsOwed Status.Done (Rose (F.faults vault.old) (F.faults vault.new) ⊎ Rose (K.faults out.old) (K.faults out.new)) result) }
+
+    // These hold of files that aren't told, too.
     ensures usage { (result ≡ Status.Usage → IsUsage (map string_bytes words.now))
         × (IsUsage (map string_bytes words.now) → (result ≡ Status.Usage) ⊎ ((result ≡ Status.Fault) × Rose (K.faults out.old) (K.faults out.new))) }
     ensures fault { result ≡ Status.Fault → Rose (F.faults vault.old) (F.faults vault.new) ⊎ Rose (K.faults out.old) (K.faults out.new)
         ⊎ IsSomeAnd (F.files vault.old) (λ files. (path : List ℕ) × Answer (map string_bytes words.now) files (unread path)) }
-
-    ensures files { F.files vault.new ≡ F.files vault.old }
+    ensures files { KeepsFiles (map string_bytes words.now) (F.files vault.old) (F.files vault.new) result }
     ensures vault_faults { F.faults vault.old ≤ F.faults vault.new }
     ensures sink_faults { K.faults out.old ≤ K.faults out.new }
 {
     match Command::read(words) {
         None => finish(out, Status::Usage, USAGE),
-        Some(command) => report(alloc, out, &check(alloc, vault, &command)),
+        Some(command) => obey(alloc, vault, out, &command),
     }
 }

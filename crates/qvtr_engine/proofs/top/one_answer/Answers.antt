@@ -1,19 +1,24 @@
 use Rattle.std.proofs.Common.{map}
 use Rattle.std.specs.Prelude.{string_bytes}
-use Rattle.qvtr_engine.specs.Reply.{Reply}
-use Rattle.qvtr_engine.specs.Answer.{Files, Answer}
-use Rattle.qvtr_engine.specs.Judging.{expected}
-use Rattle.qvtr_engine.proofs.AnswerLaws.{answer_found, answer_single}
+use Rattle.vault_io.specs.Files.{Files}
+use Rattle.qvtr_engine.specs.Alike.{AreAlike}
+use Rattle.qvtr_engine.specs.Answer as answers
+use Rattle.qvtr_engine.specs.Answer.{Answer, HasOneAnswer}
+use Rattle.qvtr_engine.specs.CheckWords.{CheckWords, IsCheck}
+use Rattle.qvtr_engine.specs.Command.{IsUsage}
+use Rattle.qvtr_engine.specs.Reply.{Reply, misused}
+use Rattle.qvtr_engine.proofs.AnswerLaws.{answer_single, check_has_one}
 use Rattle.qvtr_engine.proofs.RunLaws.{if_some_all}
 use Rattle.qvtr_engine.proofs.top.one_answer.Goals as goal
 
-pub returns-clause-some : goal.returns-clause-some
-returns-clause-some g c =
+pub returns : goal.returns
+returns g c =
     let words = map string_bytes c.args.words.now in
-    let P : Files → Type 0 = λ files. (reply : Reply) × Answer words files reply in
-    if_some_all (g.F.Vault.files c.args.vault.now) P (λ files. (expected words files, answer_found words files))
-
-pub returns-clause-single : goal.returns-clause-single
-returns-clause-single g c =
-    let words = map string_bytes c.args.words.now in
-    if_some_all _ _ (λ files. answer_single words files)
+    let P : Files → Type 0 = λ files. (reply other : Reply) → Answer words files reply → Answer words files other → AreAlike reply other in
+    let U : Files → Type 0 = λ files. IsUsage words → Answer words files misused in
+    let C : Files → Type 0 = λ files. (w : CheckWords) → IsCheck words w → HasOneAnswer words files in
+    record {
+      usage = if_some_all (g.F.Vault.files c.args.vault.now) U (λ files u. answers.usage u);
+      checks = if_some_all (g.F.Vault.files c.args.vault.now) C (λ files w is. check_has_one words files w is);
+      single = if_some_all (g.F.Vault.files c.args.vault.now) P (λ files. answer_single words files);
+    }

@@ -1,0 +1,4 @@
+use Rattle.qvtr_engine.proofs.top.obey.Goals as goal
+
+pub returns-in-Convert-clause-ends : goal.returns-in-Convert-clause-ends
+returns-in-Convert-clause-ends g c = rw c.in-Convert.is c.convert.ensures.ends

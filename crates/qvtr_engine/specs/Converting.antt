@@ -1,0 +1,98 @@
+-- The steps of a conversion, and how it ends.
+use Rattle.std.specs.Prelude.{◌≡◌, ◌<◌, ◌≤◌, ◌⊎◌, ℕ, Bool, true, false, List, length, Option, IfSome}
+use Rattle.vault_io.specs.Files.{Files, bound}
+use Rattle.mof_metamodel.specs.declared.desc.MetaDesc.{MetaDesc}
+use Rattle.mof_metamodel.specs.declared.limits.TheConstants.{MAX_FILE}
+use Rattle.object_tables.specs.Models.{ModelData}
+use Rattle.xmi_profile.specs.declared.fault.Externs.TheVariants as externs
+use Rattle.model_files.specs.declared.fault.FileError.{FileError}
+use Rattle.model_files.specs.declared.fault.FileError.TheVariants as errors
+use Rattle.model_files.specs.declared.file_form.Form.{Form}
+use Rattle.model_files.specs.FaultTexts.{is_limit, error_text}
+use Rattle.model_files.specs.Files.{FileSpells, IsTold}
+use Rattle.qvtr_engine.specs.declared.converting.Conversion.{Conversion}
+use Rattle.qvtr_engine.specs.declared.outcome.Stop.{Stop}
+use Rattle.qvtr_engine.specs.declared.outcome.Stop.TheVariants as stop
+use Rattle.qvtr_engine.specs.declared.status.Status.{Status}
+use Rattle.qvtr_engine.specs.declared.status.Status.TheVariants.{Done, Fault}
+use Rattle.qvtr_engine.specs.ConvertAnswer.{ConvertAnswer, IsModelAt, text_in}
+use Rattle.qvtr_engine.specs.ConvertWords.{ConvertWords, convert_paths}
+use Rattle.qvtr_engine.specs.Outcome.{reply_of_stop, Finishes, Reports}
+use Rattle.qvtr_engine.specs.Reply.{converted, done_text, fault_text}
+use Rattle.qvtr_engine.specs.Stops.{StoppedBy}
+
+-- the line tells the error of the file at the path, which passes a limit or doesn't
+abbrev pub IsLineOf : Bool → List ℕ → MetaDesc → List ℕ → FileError → Type 0
+IsLineOf limit line meta path error = (limit ≡ is_limit error) × (line ≡ error_text meta path error)
+
+-- the work stops at this error of the file at the path, or memory could not be had
+abbrev pub IsMisread : Stop → MetaDesc → List ℕ → FileError → Type 0
+IsMisread (stop.Fault at) meta path error = ⊥
+IsMisread (stop.Refused at refusal) meta path error = ⊥
+IsMisread (stop.TooLong at) meta path error = ⊥
+IsMisread (stop.Faulty limit line) meta path error = IsLineOf limit line meta path error
+IsMisread stop.NoMemory meta path error = Unit {0}
+
+-- memory could not be had: nothing is told of the file
+abbrev pub is_starved : FileError → Bool
+is_starved (errors.Text fault) = false
+is_starved (errors.Json fault) = false
+is_starved (errors.Content fault) = false
+is_starved (errors.Meta fault) = false
+is_starved (errors.NoPackage n) = false
+is_starved errors.NoMemory = true
+
+-- the work stops for want of memory, or else at this error
+abbrev pub IsStopBy : Bool → Stop → MetaDesc → List ℕ → FileError → Type 0
+IsStopBy true s meta path error = s ≡ stop.NoMemory
+IsStopBy false s meta path error = IsMisread s meta path error
+
+-- at an error that is told
+abbrev pub IsUnread : Stop → MetaDesc → List ℕ → (FileError → Type 0) → Type 0
+IsUnread (stop.Fault at) meta path IsError = ⊥
+IsUnread (stop.Refused at refusal) meta path IsError = ⊥
+IsUnread (stop.TooLong at) meta path IsError = ⊥
+IsUnread (stop.Faulty limit line) meta path IsError = (error : FileError) × IsTold error × IsError error × IsLineOf limit line meta path error
+IsUnread stop.NoMemory meta path IsError = Unit {0}
+
+-- the text is that of the model that the bytes are
+abbrev pub IsWritten : MetaDesc → List ℕ → Form → List ℕ → Type 0
+IsWritten meta bytes form text = (m : ModelData) × FileSpells meta externs.None bytes m × (text ≡ text_in form m)
+
+-- and of the model that the file at the path is
+abbrev pub IsTextAt : Files → List ℕ → MetaDesc → Form → List ℕ → Type 0
+IsTextAt files path meta form text = (m : ModelData) × IsModelAt files path meta m × (text ≡ text_in form m)
+
+-- the text is to be put at the path
+pub record IsShort (path text : List ℕ) (c : Conversion) : Type 0 where
+  pub text_is : c.text ≡ text
+  pub failure_is : c.failure ≡ fault_text path
+  pub short : length text ≤ MAX_FILE
+
+-- it is too long to be put, or memory could not be had
+abbrev pub IsTooLong : Stop → List ℕ → List ℕ → Type 0
+IsTooLong (stop.Fault at) path text = ⊥
+IsTooLong (stop.Refused at refusal) path text = ⊥
+IsTooLong (stop.TooLong at) path text = (at.now ≡ path) × (MAX_FILE < length text)
+IsTooLong (stop.Faulty limit line) path text = ⊥
+IsTooLong stop.NoMemory path text = Unit {0}
+
+-- what is put is the answer, where the files are told
+pub record IsDuePut (told : Option Files) (c : ConvertWords) (text : List ℕ) : Type 0 where
+  pub answer : IfSome told (λ files. ConvertAnswer files c (converted c.output text))
+
+-- The end of a put: the file was put; or the vault faulted.
+pub data PutEnds (told : Option Files) (path : List ℕ) (c : Conversion) (vault_faulted sink_faulted : Type 0) (before after : Option (List ℕ)) (told_after : Option Files) (result : Status) : Type 0 where
+  put_well : told_after ≡ bound told path c.text → Finishes Done done_text before after sink_faulted result
+      → PutEnds told path c vault_faulted sink_faulted before after told_after result
+  put_badly : vault_faulted → (told_after ≡ told) ⊎ (told_after ≡ bound told path c.text) → Finishes Fault c.failure before after sink_faulted result
+      → PutEnds told path c vault_faulted sink_faulted before after told_after result
+
+-- The end of a conversion: the work was stopped; or the file was put; or the vault faulted at the put.
+pub data ConvertEnds (told : Option Files) (c : ConvertWords) (vault_faulted sink_faulted : Type 0) (before after : Option (List ℕ)) (told_after : Option Files) (result : Status) : Type 0 where
+  stopped : (s : Stop) → StoppedBy s told (λ files. ConvertAnswer files c) vault_faulted (convert_paths c) → told_after ≡ told
+      → Reports (reply_of_stop s) before after sink_faulted result → ConvertEnds told c vault_faulted sink_faulted before after told_after result
+  put_done : (text : List ℕ) → IsDuePut told c text → told_after ≡ bound told c.output text
+      → Finishes Done done_text before after sink_faulted result → ConvertEnds told c vault_faulted sink_faulted before after told_after result
+  put_failed : (text : List ℕ) → IsDuePut told c text → vault_faulted → (told_after ≡ told) ⊎ (told_after ≡ bound told c.output text)
+      → Finishes Fault (fault_text c.output) before after sink_faulted result → ConvertEnds told c vault_faulted sink_faulted before after told_after result

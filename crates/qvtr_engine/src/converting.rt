@@ -1,0 +1,254 @@
+//! The conversion of a model to a file of another form.
+ghost use Rattle.std.specs.Prelude.{◌≡◌, ◌≤◌, ◌∷◌, [], ℕ, length, IfOk, IfErr, IfSome};
+ghost use Rattle.vault_io.specs.Counts.{Rose};
+ghost use Rattle.object_tables.specs.Containment.{IsDepth};
+ghost use Rattle.object_tables.specs.Models.{ModelData, IsLive};
+ghost use Rattle.object_tables.specs.Validity.{Valid};
+ghost use Rattle.mof_metamodel.specs.declared.limits.TheConstants.{MAX_DEPTH};
+ghost use Rattle.xmi_profile.specs.declared.fault.Externs.TheVariants as externs;
+ghost use Rattle.model_files.specs.Emof.{emof};
+ghost use Rattle.model_files.specs.FaultTexts.{IsKnownError};
+ghost use Rattle.model_files.specs.Files.{FileSpells, IsFileError, MetaSpells, IsMetaFileError};
+ghost use Rattle.qvtr_engine.specs.ConvertAnswer.{ConvertAnswer, IsMetamodelAt, IsModelAt, text_in};
+ghost use Rattle.qvtr_engine.specs.ConvertView.{convert_view};
+ghost use Rattle.qvtr_engine.specs.ConvertWords.{convert_paths};
+ghost use Rattle.qvtr_engine.specs.FileStops.{HasShortFile, Unloaded, Stops};
+ghost use Rattle.qvtr_engine.specs.Converting.{ConvertEnds, IsDuePut, IsMisread, IsShort, IsTextAt, IsTooLong, IsUnread, IsWritten, is_starved, IsStopBy, PutEnds};
+ghost use Rattle.qvtr_engine.specs.Reply as spec;
+ghost use Rattle.qvtr_engine.specs.Stops.{StoppedBy};
+
+use crate::convert_words::ConvertRequest;
+use crate::outcome::Stop;
+use crate::rendering::{DONE, fault_text};
+use crate::reporting::{finish, report_stop};
+use crate::status::Status;
+use model_files::{
+    FileError, Form, fault_text as error_text, metamodel_fault_text, read_any, read_metamodel,
+    write_json,
+};
+use mof_metamodel::{MAX_FILE, MetaModel, NoMemory, Seq};
+use object_tables::Model;
+use std::alloc::Global;
+use vault_io::{Failed, LoadError, Sink, Vault, load};
+use xmi_profile::write_model;
+
+/// What a conversion puts, and what is printed where the put fails: both are made before it, so that it needs no memory.
+#[derive(Drop)]
+pub(crate) struct Conversion {
+    pub text: Seq<u8>,
+    pub failure: Seq<u8>,
+}
+
+/// The bytes of a file that is no longer than a file may be.
+fn load_file<'w, F: Vault>(alloc: Global, vault: &mut F, path: &'w str) -> Result<Seq<u8>, Stop<'w>>
+    ensures ok { IfOk result (λ bytes. IfSome (F.files vault.old) (λ files. HasShortFile files path.now bytes)) }
+    ensures err { IfErr result (λ stop. StoppedBy stop (F.files vault.old) (λ files. Unloaded files path.now)
+        (Rose (F.faults vault.old) (F.faults vault.new)) (path.now ∷ [])) }
+    ensures files { F.files vault.new ≡ F.files vault.old }
+    ensures faults { F.faults vault.old ≤ F.faults vault.new }
+{
+    match load(alloc, vault, path, MAX_FILE) {
+        Ok(bytes) => Ok(bytes),
+        Err(LoadError::Failed) => Err(Stop::Fault(path)),
+        Err(LoadError::TooLong) => Err(Stop::TooLong(path)),
+        Err(LoadError::NoMemory) => Err(Stop::NoMemory),
+    }
+}
+
+/// What stops the work at an error that is told of a metamodel's file.
+fn metamodel_stop<'w>(alloc: Global, path: &'w str, error: &FileError) -> Stop<'w>
+    requires { IsKnownError emof error.now }
+    ensures { IsMisread result emof path.now error.now }
+{
+    let is_limit = error.is_limit();
+    match metamodel_fault_text(alloc, path, error) {
+        Ok(line) => Stop::Faulty { is_limit, line },
+        Err(NoMemory) => Stop::NoMemory,
+    }
+}
+
+/// What stops the work at an error that is told of a model's file.
+fn model_stop<'w>(alloc: Global, meta: &MetaModel, path: &'w str, error: &FileError) -> Stop<'w>
+    requires { IsKnownError meta.now error.now }
+    ensures { IsMisread result meta.now path.now error.now }
+{
+    let is_limit = error.is_limit();
+    match error_text(alloc, meta, path, error) {
+        Ok(line) => Stop::Faulty { is_limit, line },
+        Err(NoMemory) => Stop::NoMemory,
+    }
+}
+
+/// Whether memory could not be had, which isn't told of a file.
+fn is_starved(error: &FileError) -> bool
+    ensures { result ≡ is_starved error.now }
+{
+    match error {
+        FileError::NoMemory => true,
+        _ => false,
+    }
+}
+
+/// What stops the work at an error of a metamodel's file, or for want of memory.
+fn metamodel_unread<'w>(alloc: Global, path: &'w str, error: &FileError) -> Stop<'w>
+    requires { IsKnownError emof error.now }
+    ensures { IsStopBy (is_starved error.now) result emof path.now error.now }
+{
+    if is_starved(error) {
+        Stop::NoMemory
+    } else {
+        metamodel_stop(alloc, path, error)
+    }
+}
+
+/// What stops the work at an error of a model's file, or for want of memory.
+fn model_unread<'w>(alloc: Global, meta: &MetaModel, path: &'w str, error: &FileError) -> Stop<'w>
+    requires { IsKnownError meta.now error.now }
+    ensures { IsStopBy (is_starved error.now) result meta.now path.now error.now }
+{
+    if is_starved(error) {
+        Stop::NoMemory
+    } else {
+        model_stop(alloc, meta, path, error)
+    }
+}
+
+/// The metamodel that the bytes of a file are.
+fn metamodel_in<'w>(alloc: Global, path: &'w str, bytes: &[u8]) -> Result<MetaModel, Stop<'w>>
+    ensures ok { IfOk result (MetaSpells bytes.now) }
+    ensures err { IfErr result (λ stop. IsUnread stop emof path.now (IsMetaFileError bytes.now)) }
+{
+    match read_metamodel(alloc, bytes) {
+        Ok(meta) => Ok(meta),
+        Err(error) => Err(metamodel_unread(alloc, path, &error)),
+    }
+}
+
+/// The metamodel that a file is.
+fn metamodel_at<'w, F: Vault>(
+    alloc: Global,
+    vault: &mut F,
+    path: &'w str,
+) -> Result<MetaModel, Stop<'w>>
+    ensures ok { IfOk result (λ meta. IfSome (F.files vault.old) (λ files. IsMetamodelAt files path.now meta)) }
+    ensures err { IfErr result (λ stop. StoppedBy stop (F.files vault.old) (λ files. Stops files path.now emof IsMetaFileError)
+        (Rose (F.faults vault.old) (F.faults vault.new)) (path.now ∷ [])) }
+    ensures files { F.files vault.new ≡ F.files vault.old }
+    ensures faults { F.faults vault.old ≤ F.faults vault.new }
+{
+    let bytes = load_file(alloc, vault, path)?;
+    metamodel_in(alloc, path, bytes.as_slice())
+}
+
+/// The bytes of a model as a file of this form.
+fn written(alloc: Global, model: &Model<'_>, form: Form) -> Result<Seq<u8>, NoMemory>
+    requires valid { Valid model.now }
+    requires depth { (o depth : ℕ) → IsLive model.now o → IsDepth model.now o depth → depth ≤ MAX_DEPTH }
+    ensures { IfOk result (λ text. text ≡ text_in form model.now) }
+{
+    match form {
+        Form::Xmi => write_model(alloc, model),
+        Form::Json => write_json(alloc, model),
+    }
+}
+
+/// The text in this form of the model that the bytes of a file are.
+fn text_of<'w>(
+    alloc: Global,
+    meta: &MetaModel,
+    path: &'w str,
+    bytes: &[u8],
+    form: Form,
+) -> Result<Seq<u8>, Stop<'w>>
+    ensures ok { IfOk result (IsWritten meta.now bytes.now form) }
+    ensures err { IfErr result (λ stop. IsUnread stop meta.now path.now (IsFileError meta.now externs.None bytes.now)) }
+{
+    match read_any(alloc, meta, bytes) {
+        Ok(read) => match written(alloc, &read.model, form) {
+            Ok(text) => Ok(text),
+            Err(NoMemory) => Err(Stop::NoMemory),
+        },
+        Err(error) => Err(model_unread(alloc, meta, path, &error)),
+    }
+}
+
+/// The text in this form of the model that a file is.
+fn text_at<'w, F: Vault>(
+    alloc: Global,
+    vault: &mut F,
+    meta: &MetaModel,
+    path: &'w str,
+    form: Form,
+) -> Result<Seq<u8>, Stop<'w>>
+    ensures ok { IfOk result (λ text. IfSome (F.files vault.old) (λ files. IsTextAt files path.now meta.now form text)) }
+    ensures err { IfErr result (λ stop. StoppedBy stop (F.files vault.old) (λ files. Stops files path.now meta.now (IsFileError meta.now externs.None))
+        (Rose (F.faults vault.old) (F.faults vault.new)) (path.now ∷ [])) }
+    ensures files { F.files vault.new ≡ F.files vault.old }
+    ensures faults { F.faults vault.old ≤ F.faults vault.new }
+{
+    let bytes = load_file(alloc, vault, path)?;
+    text_of(alloc, meta, path, bytes.as_slice(), form)
+}
+
+/// The conversion that puts a text, unless it is longer than a file may be.
+fn conversion_of<'w>(alloc: Global, path: &'w str, text: Seq<u8>) -> Result<Conversion, Stop<'w>>
+    ensures ok { IfOk result (IsShort path.now text) }
+    ensures err { IfErr result (λ stop. IsTooLong stop path.now text) }
+{
+    if text.len() > MAX_FILE {
+        return Err(Stop::TooLong(path));
+    }
+    match fault_text(alloc, path) {
+        Ok(failure) => Ok(Conversion { text, failure }),
+        Err(NoMemory) => Err(Stop::NoMemory),
+    }
+}
+
+/// Reads what a conversion asks for, and makes what it puts.
+fn prepare<'w, F: Vault>(
+    alloc: Global,
+    vault: &mut F,
+    request: &ConvertRequest<'w>,
+) -> Result<Conversion, Stop<'w>>
+    ensures ok { IfOk result (λ c. IsDuePut (F.files vault.old) (convert_view request.now) c.text) }
+    ensures failure { IfOk result (λ c. c.failure ≡ spec.fault_text request.now.output.now) }
+    ensures err { IfErr result (λ stop. StoppedBy stop (F.files vault.old) (λ files. ConvertAnswer files (convert_view request.now))
+        (Rose (F.faults vault.old) (F.faults vault.new)) (convert_paths (convert_view request.now))) }
+    ensures files { F.files vault.new ≡ F.files vault.old }
+    ensures faults { F.faults vault.old ≤ F.faults vault.new }
+{
+    let meta = metamodel_at(alloc, vault, request.metamodel)?;
+    let text = text_at(alloc, vault, &meta, request.model, request.form)?;
+    conversion_of(alloc, request.output, text)
+}
+
+/// Puts the text, and prints that it is done or that the put failed.
+fn put<F: Vault, K: Sink>(vault: &mut F, out: &mut K, path: &str, conversion: &Conversion) -> Status
+    ensures ends { PutEnds (F.files vault.old) path.now conversion.now (Rose (F.faults vault.old) (F.faults vault.new))
+        (Rose (K.faults out.old) (K.faults out.new)) (K.told out.old) (K.told out.new) (F.files vault.new) result }
+    ensures vault_faults { F.faults vault.old ≤ F.faults vault.new }
+    ensures sink_faults { K.faults out.old ≤ K.faults out.new }
+{
+    match vault.put(path, conversion.text.as_slice()) {
+        Ok(()) => finish(out, Status::Done, DONE),
+        Err(Failed) => finish(out, Status::Fault, conversion.failure.as_slice()),
+    }
+}
+
+/// Converts the model that the words name, and prints what came of it.
+pub(crate) fn convert<F: Vault, K: Sink>(
+    alloc: Global,
+    vault: &mut F,
+    out: &mut K,
+    request: &ConvertRequest<'_>,
+) -> Status
+    ensures ends { ConvertEnds (F.files vault.old) (convert_view request.now) (Rose (F.faults vault.old) (F.faults vault.new))
+        (Rose (K.faults out.old) (K.faults out.new)) (K.told out.old) (K.told out.new) (F.files vault.new) result }
+    ensures vault_faults { F.faults vault.old ≤ F.faults vault.new }
+    ensures sink_faults { K.faults out.old ≤ K.faults out.new }
+{
+    match prepare(alloc, vault, request) {
+        Ok(conversion) => put(vault, out, request.output, &conversion),
+        Err(stop) => report_stop(alloc, out, &stop),
+    }
+}

@@ -1,0 +1,48 @@
+//! What a run prints, and the status with which it ends.
+ghost use Rattle.std.specs.Prelude.{◌≡◌, ◌≤◌};
+ghost use Rattle.vault_io.specs.Counts.{Rose};
+ghost use Rattle.qvtr_engine.specs.Outcome.{Finishes, Reports, reply_of_outcome, reply_of_stop};
+
+use crate::outcome::{Stop, Verdict};
+use crate::rendering::{NO_MEMORY, render, render_stop};
+use crate::status::Status;
+use mof_metamodel::NoMemory;
+use std::alloc::Global;
+use vault_io::{Failed, Sink, print_all};
+
+/// Prints a text, and answers the status of the run.
+pub(crate) fn finish<K: Sink>(out: &mut K, status: Status, text: &[u8]) -> Status
+    ensures ends { Finishes status text.now (K.told out.old) (K.told out.new) (Rose (K.faults out.old) (K.faults out.new)) result }
+    ensures faults { K.faults out.old ≤ K.faults out.new }
+{
+    match print_all(out, text) {
+        Ok(()) => status,
+        Err(Failed) => Status::Fault,
+    }
+}
+
+/// Prints what a check came to.
+pub(crate) fn report<K: Sink>(
+    alloc: Global,
+    out: &mut K,
+    outcome: &Result<Verdict, Stop<'_>>,
+) -> Status
+    ensures ends { Reports (reply_of_outcome outcome.now) (K.told out.old) (K.told out.new) (Rose (K.faults out.old) (K.faults out.new)) result }
+    ensures faults { K.faults out.old ≤ K.faults out.new }
+{
+    match render(alloc, outcome) {
+        Ok(page) => finish(out, page.status, page.text.as_slice()),
+        Err(NoMemory) => finish(out, Status::NoMemory, NO_MEMORY),
+    }
+}
+
+/// Prints what stopped the work.
+pub(crate) fn report_stop<K: Sink>(alloc: Global, out: &mut K, stop: &Stop<'_>) -> Status
+    ensures ends { Reports (reply_of_stop stop.now) (K.told out.old) (K.told out.new) (Rose (K.faults out.old) (K.faults out.new)) result }
+    ensures faults { K.faults out.old ≤ K.faults out.new }
+{
+    match render_stop(alloc, stop) {
+        Ok(page) => finish(out, page.status, page.text.as_slice()),
+        Err(NoMemory) => finish(out, Status::NoMemory, NO_MEMORY),
+    }
+}
