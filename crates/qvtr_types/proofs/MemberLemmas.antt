@@ -1,5 +1,5 @@
 -- What is among the items that a partial function gives, and among names each once.
-use Rattle.std.proofs.Common.{◌≡◌, ℕ, zero, suc, List, [], ◌∷◌, sym, ◌∙◌, ap, subst, arith, refl}
+use Rattle.std.proofs.Common.{◌≡◌, ℕ, zero, suc, List, [], ◌∷◌, map, sym, ◌∙◌, ap, subst, arith, refl}
 use Rattle.std.specs.Prelude.{Option, Some, None, Contains}
 use Rattle.std.specs.List.{filter_map, cons_option}
 use Rattle.qvtr_types.specs.ScriptNames.{each_once}
@@ -34,3 +34,14 @@ module _ {X Y : Type 0} (h : X → Option Y) where
       by : Contains (filter_map h xs) y → (o : Option Y) → Contains (cons_option o (filter_map h xs)) y
       by rest None = rest
       by (j, m, is) (Some z) = (suc j, omega arith, is)
+
+module _ {X Y : Type 0} (f : X → Y) where
+  pub from_map : (xs : List X) (y : Y) → Contains (map f xs) y → (x : X) × Contains xs x × (f x ≡ y)
+  from_map [] y (k, l, at) = absurd (omega arith)
+  from_map (x ∷ xs) y (zero, l, at) = (x, (0, omega arith, refl), at)
+  from_map (x ∷ xs) y (suc k, l, at) = let (z, (j, m, e), is) = from_map xs y (k, omega arith, at) in (z, (suc j, omega arith, e), is)
+
+  pub to_map : (xs : List X) (x : X) → Contains xs x → Contains (map f xs) (f x)
+  to_map [] x (k, l, at) = absurd (omega arith)
+  to_map (w ∷ xs) x (zero, l, at) = (0, omega arith, ap f at)
+  to_map (w ∷ xs) x (suc k, l, at) = let (j, m, e) = to_map xs x (k, omega arith, at) in (suc j, omega arith, e)

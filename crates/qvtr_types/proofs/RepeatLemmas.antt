@@ -30,7 +30,7 @@ module _ (names : List (List ℕ)) (i : ℕ) (name : List ℕ) (l : i < length n
 
 -- ---- what the first repeat says
 
-at_left : (xs ys : List (List ℕ)) (k : ℕ) (x : List ℕ) → k < length xs → get_or xs k x ≡ x → slice_get (xs ++ ys) k ≡ Some x
+pub at_left : (xs ys : List (List ℕ)) (k : ℕ) (x : List ℕ) → k < length xs → get_or xs k x ≡ x → slice_get (xs ++ ys) k ≡ Some x
 at_left xs ys k x l e = slice_get-get_or (xs ++ ys) k x (omega (arith, length-append xs ys)) ∙ ap Some (get_or_append_left xs ys x k l ∙ e)
 
 repeated_behind : (met names : List (List ℕ)) (name : List ℕ) → first_repeat met names ≡ Some name → IsRepeated (met ++ names) name

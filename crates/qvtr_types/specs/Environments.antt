@@ -11,7 +11,9 @@ use Rattle.qv_syntax.specs.declared.program.Var.{Var}
 use Rattle.qv_syntax.specs.declared.script.Script.{Script}
 use Rattle.qv_syntax.specs.declared.script.ModelTree.{ModelTree}
 use Rattle.qv_syntax.specs.declared.script.RelationTree.{RelationTree}
-use Rattle.ocl_types.specs.Environments.{Environment}
+use Rattle.ocl_types.specs.declared.variable.Variable.{Variable}
+use Rattle.ocl_types.specs.Environments.{Environment, NamesWith}
+use Rattle.ocl_types.specs.QueryTyping.{signed}
 use Rattle.qvtr_types.specs.ScriptNames.{meta_names, each_once}
 use Rattle.qvtr_types.specs.Occurrences.{variables_of}
 
@@ -44,9 +46,13 @@ in_script s = record {
   names = metamodel_names s.script;
   models = slots_of s.script;
   variables = [];
-  queries = map (λ q. (q.name, record { params = q.params; result = q.result })) s.queries;
+  queries = map signed s.queries;
 }
+
+-- variables by their names, with their types and models
+abbrev pub named_variables : List (List ℕ) → List Var → NamesWith Variable
+named_variables names vars = map (λ v. (v.0, record { ty = v.1.ty; model = v.1.model })) (zip names vars)
 
 -- the variables of a relation are in reach, in the order of their numbers
 abbrev pub in_relation : Setting → RelationTree → List Var → Environment
-in_relation s r vars = record (in_script s) { variables = map (λ v. (v.0, record { ty = v.1.ty; model = v.1.model })) (zip (variables_of r) vars) }
+in_relation s r vars = record (in_script s) { variables = named_variables (variables_of r) vars }

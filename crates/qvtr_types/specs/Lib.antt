@@ -1,6 +1,7 @@
 pub mod ScriptNames
 pub mod NameSearches
 pub mod Usages
+pub mod CallRows
 pub mod Conjuncts
 pub mod Occurrences
 pub mod BorrowedPieces
@@ -15,3 +16,13 @@ pub mod Refusals
 pub mod UniversalNames
 pub mod PrintedNames
 pub mod CallNames
+pub mod TypedUsages
+pub mod LocatedPieces
+pub mod VariableTypes
+pub mod FirstEntries
+pub mod ModelLists
+pub mod Bindings
+pub mod Derivations
+pub mod Variables
+pub mod ScriptSettings
+pub mod Expressions

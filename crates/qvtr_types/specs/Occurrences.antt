@@ -1,6 +1,6 @@
 -- Where the variables of a relation occur, in the order of its text (QVT 1.3, sections 7.11.1 and 7.11.2). A variable is known by its
 -- name; that of a template without a name by a text that no script can write.
-use Rattle.std.specs.Prelude.{ℕ, zero, suc, ◌+◌, List, [], ◌∷◌, ◌++◌, Option, None, Some, map}
+use Rattle.std.specs.Prelude.{ℕ, cond, zero, suc, ◌+◌, List, [], ◌∷◌, ◌++◌, Option, None, Some, map}
 use Rattle.std.specs.List.{flat_map, filter_map}
 use Rattle.std.specs.Fmt.{decimal}
 use Rattle.qv_syntax.specs.declared.expr.Expr.{Expr}
@@ -20,6 +20,7 @@ use Rattle.qv_syntax.specs.declared.script.ItemValueTree.{ItemValueTree, fold-It
 use Rattle.qv_syntax.specs.declared.script.ItemValueTree.TheOpen as of
 use Rattle.qvtr_types.specs.ScriptNames.{each_once}
 use Rattle.qvtr_types.specs.Usages.{variables_in}
+use Rattle.qvtr_types.specs.Conjuncts.{is_null}
 
 -- ---- what a script declares
 
@@ -141,9 +142,13 @@ template_variables r = templates_from 1 r.domains
 
 -- ---- occurrences
 
+-- what an item names that asks for the value of an expression; one that asks for an empty slot names nothing
+abbrev pub item_variables : Expr → List (List ℕ)
+item_variables e = cond (is_null e) [] (variables_in e)
+
 abbrev pub piece_variables : Piece → List (List ℕ)
 piece_variables (begins at variable class) = variable ∷ []
-piece_variables (asks at e) = variables_in e
+piece_variables (asks at e) = item_variables e
 
 -- the root of a domain
 abbrev pub root_of : DomainTree → List ℕ

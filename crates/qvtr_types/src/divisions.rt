@@ -85,7 +85,11 @@ fn add_all_outside(
 }
 
 /// The universal variables of a relation in the direction towards the target.
-fn universal_names(alloc: Global, target: &str, r: &RelationTree) -> Result<Seq<Text>, NoMemory>
+pub(crate) fn universal_names(
+    alloc: Global,
+    target: &str,
+    r: &RelationTree,
+) -> Result<Seq<Text>, NoMemory>
     ensures { IfOk result (λ names. names ≡ universals (chars target.now) r.now) }
 {
     let mut out = Seq::new(alloc);
@@ -95,7 +99,7 @@ fn universal_names(alloc: Global, target: &str, r: &RelationTree) -> Result<Seq<
 }
 
 /// Whether a name is among others, or else whether it isn't.
-fn is_sought(names: &NameTable<u32>, wanted: bool, name: &Text) -> bool
+pub(crate) fn is_sought(names: &NameTable<u32>, wanted: bool, name: &Text) -> bool
     ensures { result ≡ is_among (map (λ e. e.0) names.now) wanted name.now }
 {
     if wanted {

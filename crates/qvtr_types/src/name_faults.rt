@@ -45,7 +45,7 @@ fn push_printed(c: char, out: &mut Text) -> Result<(), NoMemory>
 
 /// A variable's name as it is printed.
 #[tactic(auto, using(crate::proofs::PrintedLemmas::no_characters))]
-fn printed(alloc: Global, name: &Text) -> Result<Text, NoMemory>
+pub(crate) fn printed(alloc: Global, name: &Text) -> Result<Text, NoMemory>
     ensures { IfOk result (λ text. text ≡ printed_name name.now) }
 {
     let mut out = Text::new(alloc, "")?;

@@ -1,9 +1,10 @@
 ghost use Rattle.std.specs.Prelude.{◌≡◌, ◌+◌, ◌++◌, ◌∷◌, [], map, IfOk, OnOk};
 ghost use Rattle.std.specs.List.{flat_map, filter_map};
 ghost use Rattle.qvtr_types.specs.Usages.{variable_in, variables_in};
-ghost use Rattle.qvtr_types.specs.Occurrences.{nameless, piece_variables, root_of, template_count, domain_variables, domains_variables, clause_variables, declared_names, occurrences as all_occurrences, variables_of as variables};
+ghost use Rattle.qvtr_types.specs.Occurrences.{nameless, item_variables, piece_variables, root_of, template_count, domain_variables, domains_variables, clause_variables, declared_names, occurrences as all_occurrences, variables_of as variables};
 ghost use Rattle.qvtr_types.specs.BorrowedPieces.{shown_variable, shown_piece};
 
+use crate::conjuncts::is_null;
 use crate::distinct::{each_once, each_once_listed};
 use crate::piece::{BorrowedPiece, VariableName};
 use crate::pieces::add_pieces;
@@ -52,7 +53,7 @@ fn append_variables(usages: Seq<Usage>, out: &mut Seq<Text>) -> Result<(), NoMem
 }
 
 /// The variables that an expression names.
-fn add_variables(alloc: Global, e: &Expr, out: &mut Seq<Text>) -> Result<(), NoMemory>
+pub(crate) fn add_variables(alloc: Global, e: &Expr, out: &mut Seq<Text>) -> Result<(), NoMemory>
     ensures { OnOk result (out.new ≡ out.old ++ variables_in e.now) }
 {
     let mut used = Seq::new(alloc);
@@ -70,13 +71,24 @@ fn add_exprs(alloc: Global, exprs: &[Expr], out: &mut Seq<Text>) -> Result<(), N
     Ok(())
 }
 
+/// The variables of the value of an item; `null` asks for an empty slot, and names nothing.
+fn add_item(alloc: Global, value: &Expr, out: &mut Seq<Text>) -> Result<(), NoMemory>
+    ensures { OnOk result (out.new ≡ out.old ++ item_variables value.now) }
+{
+    if is_null(value) {
+        Ok(())
+    } else {
+        add_variables(alloc, value, out)
+    }
+}
+
 /// The variables of a piece of a template.
 fn add_piece(alloc: Global, piece: &BorrowedPiece<'_>, out: &mut Seq<Text>) -> Result<(), NoMemory>
     ensures { OnOk result (out.new ≡ out.old ++ piece_variables (shown_piece piece.now)) }
 {
     match piece {
         BorrowedPiece::Begins { variable, .. } => out.push(variable_text(alloc, variable)?),
-        BorrowedPiece::Asks { value, .. } => add_variables(alloc, value, out),
+        BorrowedPiece::Asks { value, .. } => add_item(alloc, value, out),
     }
 }
 

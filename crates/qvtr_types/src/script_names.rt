@@ -121,7 +121,7 @@ fn global_names(alloc: Global, script: &Script) -> Result<Seq<Text>, NoMemory>
 }
 
 /// A place as a number of 32 bits.
-fn numbered(place: usize) -> Result<u32, NoMemory>
+pub(crate) fn numbered(place: usize) -> Result<u32, NoMemory>
     ensures { IfOk result (λ number. number ≡ place) }
 {
     if place > MAX_NUMBERED {

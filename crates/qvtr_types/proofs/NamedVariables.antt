@@ -1,0 +1,128 @@
+-- The variables in reach that an expression names are those that its typed tree names. By induction on the expression.
+use Rattle.std.proofs.Common.{◌≡◌, ◌<◌, ℕ, zero, suc, ◌+◌, Bool, true, false, ◌&&◌, not, if◌then◌else◌, List, [], ◌∷◌, ◌++◌, Option, None, Some, map, filter, length, refl, sym, ◌∙◌, ap, subst, arith, inl, inr, append_assoc, append-nil, length-append}
+use Rattle.std.specs.Prelude.{◌≢◌, ◌⊎◌, Contains, is_some, slice_get, encode_utf8_all}
+use Rattle.std.specs.List.{flat_map, filter_map}
+use Rattle.std.proofs.lemmas.Bool.{false≢true}
+use Rattle.std.proofs.lemmas.Option.{none-some}
+use Rattle.std.proofs.lemmas.Grind.{flat_map-append}
+use Rattle.std.proofs.lemmas.List.{map-append}
+use Rattle.std.proofs.lemmas.List.Elements.{Contains-append_left, Contains-append_right, Contains-append_cases}
+use Rattle.mof_metamodel.specs.declared.desc.MetaDesc.{MetaDesc}
+use Rattle.qv_syntax.specs.declared.ty.Ty.{Ty}
+use Rattle.qv_syntax.specs.declared.ty.Ty.TheVariants as types
+use Rattle.qv_syntax.specs.declared.name.Path.{Path}
+use Rattle.qv_syntax.specs.declared.operator.Operator.{Operator}
+use Rattle.qv_syntax.specs.declared.operation.CollectionOperation.{CollectionOperation}
+use Rattle.qv_syntax.specs.declared.operation.CollectionOperation.TheVariants as collections
+use Rattle.qv_syntax.specs.declared.type_tree.Kind.{Kind}
+use Rattle.qv_syntax.specs.declared.expr.Expr.{Expr, roll-Expr, map-Expr, ind-Expr, fold-roll-Expr}
+use Rattle.qv_syntax.specs.declared.expr.Infix.{Infix, roll-Infix, map-Infix, fold-roll-Infix}
+use Rattle.qv_syntax.specs.declared.expr.Postfix.{Postfix, roll-Postfix, map-Postfix, fold-roll-Postfix}
+use Rattle.qv_syntax.specs.declared.expr.Args.{Args, roll-Args, map-Args, fold-roll-Args}
+use Rattle.qv_syntax.specs.declared.expr.Args.TheOpen as of
+use Rattle.qv_syntax.specs.declared.typed.Typed.{Typed}
+use Rattle.qv_syntax.specs.declared.typed.Node.{Node, out-Node, roll-Node, out-roll-Node}
+use Rattle.qv_syntax.specs.declared.typed.Node.TheVariants as nodes
+use Rattle.qv_syntax.specs.declared.typed.Call.{Call, out-Call, roll-Call, out-roll-Call}
+use Rattle.qv_syntax.specs.declared.typed.Call.TheVariants as calls
+use Rattle.qv_syntax.specs.declared.typed.Call.TheOpen as layers
+use Rattle.qv_syntax.specs.declared.typed.TypedInfix.{TypedInfix}
+use Rattle.qv_syntax.specs.declared.typed.TypedPostfix.{TypedPostfix}
+use Rattle.qv_syntax.specs.Parts.{IsWithin, Names, parts_of, node_parts, call_parts, parts_of_call}
+use Rattle.ocl_types.specs.declared.part.TypedPart.{TypedPart}
+use Rattle.ocl_types.specs.declared.part.CallsSoFar.{CallsSoFar}
+use Rattle.ocl_types.specs.declared.part.Chained.{Chained}
+use Rattle.ocl_types.specs.declared.variable.Variable.{Variable}
+use Rattle.ocl_types.specs.Environments.{Environment, is_bound, with_variable}
+use Rattle.ocl_types.specs.Parts.{tree_of, trees_of, plain_part, and_called, uncalled}
+use Rattle.ocl_types.specs.TypeRules.{IsFirstNamed, variable_judged}
+use Rattle.qvtr_types.specs.declared.usage.Usage.{Usage}
+use Rattle.qvtr_types.specs.declared.usage.Usage.TheVariants as usages_of
+use Rattle.qvtr_types.specs.Usages.{is_of, without, variable_in}
+use Rattle.qvtr_types.specs.TypedUsages.{HasNumber, NamesThose}
+
+-- ---- lists
+
+pub none_in : {X : Type 0} (x : X) → Contains [] x → ⊥
+none_in x (k, l, at) = omega arith
+
+pub only_in : {X : Type 0} (x y : X) → Contains (x ∷ []) y → x ≡ y
+only_in x y (zero, l, at) = at
+only_in x y (suc k, l, at) = absurd (omega arith)
+
+pub alone : {X : Type 0} (x : X) → Contains (x ∷ []) x
+alone x = (0, omega arith, refl)
+
+pub first_or : {X : Type 0} (x y : X) (xs : List X) → Contains (x ∷ xs) y → (x ≡ y) ⊎ Contains xs y
+first_or x y xs (zero, l, at) = inl at
+first_or x y xs (suc k, l, at) = inr (k, omega arith, at)
+
+pub further : {X : Type 0} (x y : X) (xs : List X) → Contains xs y → Contains (x ∷ xs) y
+further x y xs (k, l, at) = (suc k, omega arith, at)
+
+-- ---- usages and trees
+
+-- one of these trees names the variable
+abbrev pub NamedIn : List Typed → ℕ → Type 0
+NamedIn trees number = (t : Typed) × Contains trees t × Names t number
+
+-- the variables in reach that the trees name are those that are used
+pub record AreSame (env : Environment) (us : List Usage) (trees : List Typed) : Type 0 where
+  pub listed : (name : List ℕ) → Contains us (usages_of.Variable name) → (number : ℕ) × HasNumber env name number × NamedIn trees number
+  pub named : (number : ℕ) → number < length env.variables → NamedIn trees number → (name : List ℕ) × HasNumber env name number × Contains us (usages_of.Variable name)
+
+pub no_names : (env : Environment) → AreSame env [] []
+no_names env = record {
+  listed = λ name c. absurd (none_in (usages_of.Variable name) c);
+  named = λ number within h. absurd (none_in h.0 h.1);
+}
+
+pub beside : (env : Environment) (us ws : List Usage) (ts rs : List Typed) → AreSame env us ts → AreSame env ws rs → AreSame env (us ++ ws) (ts ++ rs)
+beside env us ws ts rs one other = record {
+  listed = λ name c. elim (Contains-append_cases us ws (usages_of.Variable name) c) [
+    | inl left ↦ let h = one.listed name left in (h.0, h.1, (h.2.0, Contains-append_left ts rs h.2.0 h.2.1, h.2.2))
+    | inr right ↦ let h = other.listed name right in (h.0, h.1, (h.2.0, Contains-append_right ts rs h.2.0 h.2.1, h.2.2))
+  ];
+  named = λ number within h. elim (Contains-append_cases ts rs h.0 h.1) [
+    | inl left ↦ let n = one.named number within (h.0, left, h.2) in (n.0, n.1, Contains-append_left us ws (usages_of.Variable n.0) n.2)
+    | inr right ↦ let n = other.named number within (h.0, right, h.2) in (n.0, n.1, Contains-append_right us ws (usages_of.Variable n.0) n.2)
+  ];
+}
+
+-- ---- a tree by its parts
+
+abbrev pub Layer : Type 0
+Layer = layers.Node-F Call Node Typed TypedInfix TypedPostfix
+
+abbrev pub is_variable : Layer → Bool
+is_variable (layers.Variable number) = true
+is_variable d = false
+
+within_parts : (e x : Typed) (number : ℕ) → ((v : ℕ) → e.node ≢ nodes.Variable v) → x.node ≡ nodes.Variable number → IsWithin e x
+    → (part : Typed) × Contains (parts_of e) part × IsWithin part x
+within_parts e x number apart is (IsWithin.whole y) = absurd (apart number is)
+within_parts e x number apart is (IsWithin.inside y part inner c w) = (part, c, w)
+
+pub out_variable : (number : ℕ) → out-Node (nodes.Variable number) ≡ layers.Variable number
+out_variable number = ap out-Node (sym (nodes.rolls-Variable number)) ∙ out-roll-Node (layers.Variable number)
+
+-- a node that is no variable names what its parts name
+pub by_parts : (env : Environment) (us : List Usage) (ty : Ty) (node : Node) (d : Layer) → out-Node node ≡ d → is_variable d ≡ false
+    → AreSame env us (node_parts d) → AreSame env us (record { ty = ty; node = node } ∷ [])
+by_parts env us ty node d is other same = record {
+  listed = λ name c.
+      let h = same.listed name c in
+      let names : Names e h.0 = (h.2.2.0, IsWithin.inside e h.2.0 _ (subst (λ (x : Layer). Contains (node_parts x) h.2.0) (sym is) h.2.1) h.2.2.1) in
+      (h.0, h.1, (e, alone e, names));
+  named = λ number within h.
+      let x : Typed = record { ty = h.2.0; node = nodes.Variable number } in
+      let w : IsWithin e x = subst (λ (t : Typed). IsWithin t x) (sym (only_in e h.0 h.1)) h.2.1 in
+      let p = within_parts e x number apart refl w in
+      same.named number within (p.0, subst (λ (x : Layer). Contains (node_parts x) p.0) is p.1, (h.2.0, p.2));
+}
+  where
+    e : Typed
+    e = record { ty = ty; node = node }
+
+    apart : (v : ℕ) → node ≢ nodes.Variable v
+    apart v same = false≢true (sym other ∙ ap is_variable (sym is ∙ ap out-Node same ∙ out_variable v))
