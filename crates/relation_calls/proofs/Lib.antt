@@ -1,0 +1,4 @@
+pub mod ListLaws
+pub mod ChainLaws
+pub mod CallLaws
+pub mod HeightLaws
