@@ -23,10 +23,14 @@ pub mod OrderedLaws
 pub mod SourceOrders
 pub mod ObjectLaws
 pub mod EntryLaws
+pub mod StableSorts
 pub mod FirstLaws
 pub mod CheckLaws
+pub mod DecidedLaws
 pub mod NamedPlaces
 pub mod SourceLinks
 pub mod WholeLaws
 pub mod ContentLaws
 pub mod AnswerLaws
+pub mod FoundLaws
+pub mod AnsweredLaws

@@ -7,11 +7,14 @@ pub mod Documents
 pub mod Ordering
 pub mod Items
 pub mod Rows
+pub mod Reordered
 pub mod Renumbering
 pub mod Known
 pub mod Sources
 pub mod Texts
 pub mod Linking
+pub mod Named
+pub mod Spotless
 pub mod Faultless
 pub mod OneModel
 pub mod Reading

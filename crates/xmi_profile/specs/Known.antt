@@ -1,5 +1,5 @@
 -- The elements and objects of a file of which no object, by itself, has a fault.
-use Rattle.std.specs.Prelude.{◌≡◌, ℕ, ◌≤◌, nat_lt, List, length, map, position, Option, None, Some, Result, Ok, Err, if◌then◌else◌}
+use Rattle.std.specs.Prelude.{◌≡◌, ℕ, ◌≤◌, nat_lt, List, length, map, position, Option, None, Some, Result, Ok, Err, if◌then◌else◌, All}
 use Rattle.mof_metamodel.specs.declared.desc.MetaDesc.{MetaDesc}
 use Rattle.mof_metamodel.specs.declared.limits.TheConstants.{MAX_OBJECTS}
 use Rattle.mof_metamodel.specs.Characters.{same_name}
@@ -19,9 +19,10 @@ use Rattle.xmi_profile.specs.declared.filed.Filed.{Filed}
 use Rattle.xmi_profile.specs.Faults.{StandsAt}
 use Rattle.xmi_profile.specs.Filed.{IsFiled}
 use Rattle.xmi_profile.specs.Judging.{Found, first_of, first_fault}
-use Rattle.xmi_profile.specs.Listing.{Listing, AreKnown, element_of}
+use Rattle.xmi_profile.specs.Listing.{Listing, element_of}
 use Rattle.xmi_profile.specs.Numbering.{Numbers, no_numbers, numbered, all_numbered}
 use Rattle.xmi_profile.specs.Reads.{source_of, IsRefused}
+use Rattle.xmi_profile.specs.Scanning.{IsWithin}
 use Rattle.xmi_profile.specs.SoundFiled.{IsSoundFiled}
 use Rattle.xmi_profile.specs.Source.{all_items, all_ids, object_count}
 
@@ -65,7 +66,7 @@ pub record AreObjects (meta : MetaDesc) (outside : Externs) (bytes : List ℕ) (
   pub ids : objects.numbers.ids ≡ all_ids (source_of meta outside tree)
   pub names : (id : List ℕ) → value_of objects.numbers.names id ≡ position (same_name id) (all_ids (source_of meta outside tree))
   pub fewer : object_count (source_of meta outside tree) ≤ MAX_OBJECTS
-  pub known : AreKnown meta objects.listing.elements
+  pub within : All (λ (e : Element). IsWithin meta e.role) objects.listing.elements
   pub none_at : (fault : ModelFault) (place : ℕ) → ¬ StandsAt (source_of meta outside tree) fault place
 
 -- the answer on these bytes, as far as the faults that stand at places

@@ -31,7 +31,7 @@ mod words;
 mod writing;
 mod writing_laws;
 
-pub use answer_laws::one_fault;
+pub use answer_laws::{files_are_answered, one_fault};
 pub use assembly::{AssemblyError, assemble};
 pub use fault::{Externs, ModelFault, XmiError};
 pub use filed::{Filed, Mention, WrittenReference, WrittenValue};

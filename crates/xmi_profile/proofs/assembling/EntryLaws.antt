@@ -9,7 +9,7 @@ use Rattle.std.proofs.lemmas.List.Sorted.{IsPermutation-trans, IsNonDecreasingBy
 use Rattle.xmi_profile.specs.declared.assembly.entry.Entry.{Entry}
 use Rattle.xmi_profile.specs.AssemblyEntries.{is_entry_at, no_entry, IsInOrder}
 
-less_is : (a b : ℕ) → is_lt (nat_cmp a b) ≡ Rattle.std.specs.Prelude.nat_lt a b
+pub less_is : (a b : ℕ) → is_lt (nat_cmp a b) ≡ Rattle.std.specs.Prelude.nat_lt a b
 less_is a b = by (Rattle.std.specs.Prelude.nat_lt a b) (a == b)
   where
     by : (l e : Bool) → is_lt (cond l Rattle.std.specs.declared.cmp.Ordering.TheVariants.Less (cond e Rattle.std.specs.declared.cmp.Ordering.TheVariants.Equal Rattle.std.specs.declared.cmp.Ordering.TheVariants.Greater)) ≡ l
@@ -18,7 +18,7 @@ less_is a b = by (Rattle.std.specs.Prelude.nat_lt a b) (a == b)
     by false false = refl
 
 -- two numbers tie where they are equal
-tie_is : (a b : ℕ) → (not (is_lt (nat_cmp a b)) && not (is_lt (nat_cmp b a))) ≡ (b == a)
+pub tie_is : (a b : ℕ) → (not (is_lt (nat_cmp a b)) && not (is_lt (nat_cmp b a))) ≡ (b == a)
 tie_is a b = elim (cases_order a b) [
   | inl e ↦ (
       let n : b ≤ a = omega (arith, e) in

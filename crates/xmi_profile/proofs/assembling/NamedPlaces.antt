@@ -1,6 +1,6 @@
 -- An object names others, and speaks, only at properties of its class.
-use Rattle.std.proofs.Common.{◌≡◌, ◌⊎◌, ℕ, zero, suc, ◌+◌, ◌<◌, Bool, true, false, List, [], ◌∷◌, ◌++◌, map, length, refl, sym, ◌∙◌, ap, arith, subst, inl, inr, Option, None, Some, true≢false}
-use Rattle.std.specs.Prelude.{◌==◌, ◌&&◌, ◌||◌, is_some, filter_map, nat_eq, slice_get, All, Contains, IfSome, option_map, if◌then◌else◌}
+use Rattle.std.proofs.Common.{◌≡◌, ◌⊎◌, ℕ, zero, suc, ◌+◌, ◌<◌, Bool, true, false, List, [], ◌∷◌, ◌++◌, map, length, refl, sym, ap, arith, subst, inl, inr, Option, None, Some, true≢false}
+use Rattle.std.specs.Prelude.{◌==◌, ◌||◌, is_some, filter_map, nat_eq, slice_get, All, Contains, IfSome, option_map, if◌then◌else◌}
 use Rattle.std.specs.List.{list_any, cons_option}
 use Rattle.std.specs.Option.{unwrap_or}
 use Rattle.std.proofs.lemmas.Bool.{eqb-true, and_parts, or_cases}
@@ -19,7 +19,7 @@ use Rattle.xmi_profile.specs.Links.{is_some_target, speaks}
 use Rattle.xmi_profile.specs.Profile.{props_or_none}
 use Rattle.xmi_profile.specs.References.{Target, Contained}
 use Rattle.xmi_profile.specs.Source.{Source, all_items, item_at, item_class, ids_from, file_ids, added_names, primitive_class, object_count, class_of, is_number, attr_in, attr_of, attr_text, is_at, target_if, part_target, element_target_at, element_targets, targets_of, targets_at, target_number, names}
-use Rattle.xmi_profile.proofs.assembling.ListLaws.{none_some, some_same, map_get}
+use Rattle.xmi_profile.proofs.assembling.ListLaws.{none_some, map_get}
 use Rattle.xmi_profile.proofs.filed_laws.PlaceLaws.{IsOwned, IsPlaced, IsParent, placed_tree}
 
 abbrev own_classes : Source → List (Option ℕ)

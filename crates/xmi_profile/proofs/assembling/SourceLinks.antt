@@ -1,6 +1,6 @@
 -- The links of a model that was made of what a file names are the pairs of each source that writes it.
 use Rattle.std.proofs.Common.{◌≡◌, ◌⊎◌, ℕ, ◌<◌, Bool, true, List, length, refl, sym, ◌∙◌, ap, arith, subst, Option, None, Some, inl, inr, true≢false}
-use Rattle.std.specs.Prelude.{◌==◌, ◌||◌, Contains}
+use Rattle.std.specs.Prelude.{◌==◌, Contains}
 use Rattle.std.specs.List.{list_any}
 use Rattle.std.specs.Cmp.{both_ways}
 use Rattle.std.proofs.lemmas.Bool.{eqb-true, and_parts, or_cases, or_left, or_right}

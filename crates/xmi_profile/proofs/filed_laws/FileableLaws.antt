@@ -204,7 +204,7 @@ module _ (meta : MetaDesc) (outside : Externs) (bytes : List ℕ) (objects : Obj
       subst (λ (es : List Element). AreFileable meta objects.numbers es) (sym are.elements)
       (record {
         few = few;
-        within = subst (λ (es : List Element). All (λ (e : Element). IsWithin meta e.role) es) are.elements are.known.within;
+        within = subst (λ (es : List Element). All (λ (e : Element). IsWithin meta e.role) es) are.elements are.within;
         small = small_items meta (map item_class (object_items (all_items source))) own_few (all_items source) (placed_tree meta outside are.tree).0;
         count = fewer_classes;
       })
@@ -263,7 +263,7 @@ module _ (meta : MetaDesc) (outside : Externs) (bytes : List ℕ) (objects : Obj
   known_classes =
       each_all (HasInstances meta) (primitive_class meta) (with_classes [] elements) (more_ids source objects.numbers are.ids are.names known)
       (classes_all (HasInstances meta) (all_items source) [] (All-nil (HasInstances meta))
-      (items_have (all_items source) (placed_tree meta outside are.tree).0 (subst (λ (es : List Element). All (λ (e : Element). IsWithin meta e.role) es) are.elements are.known.within)))
+      (items_have (all_items source) (placed_tree meta outside are.tree).0 (subst (λ (es : List Element). All (λ (e : Element). IsWithin meta e.role) es) are.elements are.within)))
       (class_has_instances meta (class_number meta (codes "PrimitiveType")) (number_within meta (codes "PrimitiveType")))
 
   classes_count : length (all_classes source) ≡ length (all_ids source)

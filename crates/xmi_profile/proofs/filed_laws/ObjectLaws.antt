@@ -116,6 +116,10 @@ is_first s (faults.Mismatch id prop other other_prop) place x f = absurd x
 is_first s (faults.Invalid breach id) place x f = absurd x
 is_first s (faults.Limit kind) place x f = absurd x
 
+-- classes and properties of elements are those of the metamodel
+abbrev pub AreWithin : MetaDesc → List Element → Type 0
+AreWithin meta es = All (λ (e : Element). IsWithin meta e.role) es
+
 -- what is told of a source, or is not
 abbrev Tells : Source → Option ModelFault → Type 0
 Tells s None = (object_count s ≤ MAX_OBJECTS) × ((fault : ModelFault) (place : ℕ) → ¬ StandsAt s fault place)
@@ -132,16 +136,16 @@ tells s n found e f = by (nat_lt MAX_OBJECTS (length n.ids)) refl
     by true h = subst (λ (ids : List (List ℕ)). MAX_OBJECTS < length ids) e (ltb-true MAX_OBJECTS (length n.ids) h)
     by false h = tells_found s found (subst (λ (ids : List (List ℕ)). length ids ≤ MAX_OBJECTS) e (ltb-false MAX_OBJECTS (length n.ids) h)) f
 
-tells_of : (s : Source) → AreKnown s.meta (map element_of (all_items s)) → Tells s (fault_of s.meta (map element_of (all_items s)))
+tells_of : (s : Source) → AreWithin s.meta (map element_of (all_items s)) → Tells s (fault_of s.meta (map element_of (all_items s)))
 tells_of s k =
     let es : List Element = map element_of (all_items s) in
     let n = numbers_of_all s in
     let f = numbers_of s in
     tells s (all_numbered s.meta es) (first_of (all_numbered s.meta es).repeated (first_fault s.meta (numbered no_numbers es).ids None es)) n.ids
     (subst (λ (ids : List (List ℕ)). FirstIn (StandsAt s) (first_of (all_numbered s.meta es).repeated (first_fault s.meta ids None es))) (sym f.ids)
-    (all_first s (all_numbered s.meta es).repeated n.repeated (items_within s (all_items s) k.within)))
+    (all_first s (all_numbered s.meta es).repeated n.repeated (items_within s (all_items s) k)))
 
-pub refused_of : (meta : MetaDesc) (outside : Externs) (bytes : List ℕ) (l : Listing) (fault : ModelFault) → listing_of meta outside bytes ≡ Ok l → AreKnown meta l.elements
+pub refused_of : (meta : MetaDesc) (outside : Externs) (bytes : List ℕ) (l : Listing) (fault : ModelFault) → listing_of meta outside bytes ≡ Ok l → AreWithin meta l.elements
     → fault_of meta l.elements ≡ Some fault → IsRefused meta outside bytes fault
 refused_of meta outside bytes l fault h k t =
     let d = listed_bytes meta outside bytes l h in
@@ -150,10 +154,10 @@ refused_of meta outside bytes l fault h k t =
     record {
       tree = d.tree;
       markup = d.markup;
-      first = subst (λ (o : Option ModelFault). Tells s o) (sym (ap (fault_of meta) e) ∙ t) (tells_of s (subst (λ (es : List Element). AreKnown meta es) e k));
+      first = subst (λ (o : Option ModelFault). Tells s o) (sym (ap (fault_of meta) e) ∙ t) (tells_of s (subst (AreWithin meta) e k));
     }
 
-pub objects_of : (meta : MetaDesc) (outside : Externs) (bytes : List ℕ) (l : Listing) (objects : Objects) → listing_of meta outside bytes ≡ Ok l → AreKnown meta l.elements
+pub objects_of : (meta : MetaDesc) (outside : Externs) (bytes : List ℕ) (l : Listing) (objects : Objects) → listing_of meta outside bytes ≡ Ok l → AreWithin meta l.elements
     → fault_of meta l.elements ≡ None → objects.listing ≡ l → objects.numbers.ids ≡ (all_numbered meta l.elements).ids → objects.numbers.names ≡ (all_numbered meta l.elements).names
     → AreObjects meta outside bytes objects
 objects_of meta outside bytes l objects h k t il ii inn =
@@ -161,7 +165,7 @@ objects_of meta outside bytes l objects h k t il ii inn =
     let s : Source = source_of meta outside d.tree in
     let e = d.elements_are in
     let n = numbers_of_all s in
-    let r = subst (λ (o : Option ModelFault). Tells s o) (sym (ap (fault_of meta) e) ∙ t) (tells_of s (subst (λ (es : List Element). AreKnown meta es) e k)) in
+    let r = subst (λ (o : Option ModelFault). Tells s o) (sym (ap (fault_of meta) e) ∙ t) (tells_of s (subst (AreWithin meta) e k)) in
     record {
       tree = d.tree;
       markup = d.markup;
@@ -169,7 +173,7 @@ objects_of meta outside bytes l objects h k t il ii inn =
       ids = ii ∙ ap (λ (es : List Element). (all_numbered meta es).ids) e ∙ n.ids;
       names = λ id. ap (λ (ns : NamesWith ℕ). value_of ns id) (inn ∙ ap (λ (es : List Element). (all_numbered meta es).names) e) ∙ n.names id;
       fewer = r.0;
-      known = subst (λ (x : Listing). AreKnown meta x.elements) (sym il) k;
+      within = subst (λ (x : Listing). AreWithin meta x.elements) (sym il) k;
       none_at = r.1;
     }
 
@@ -187,10 +191,10 @@ with_answer l (Err (errors.Text fault)) meaning e = ap (with_listing l) e
 with_answer l (Err (errors.Content fault)) meaning e = ap (with_listing l) e
 with_answer l (Err errors.NoMemory) meaning e = tt
 
-abbrev judged_objects : MetaDesc → Listing → Result Objects XmiError
+abbrev pub judged_objects : MetaDesc → Listing → Result Objects XmiError
 judged_objects meta l = with_listing l (judged meta l.elements)
 
-judged_reads : (meta : MetaDesc) (outside : Externs) (bytes : List ℕ) (l : Listing) → listing_of meta outside bytes ≡ Ok l → AreKnown meta l.elements
+pub judged_reads : (meta : MetaDesc) (outside : Externs) (bytes : List ℕ) (l : Listing) → listing_of meta outside bytes ≡ Ok l → AreWithin meta l.elements
     → ReadsObjects meta outside bytes (judged_objects meta l)
 judged_reads meta outside bytes l h k = by (fault_of meta l.elements) refl
   where
@@ -201,9 +205,9 @@ judged_reads meta outside bytes l h k = by (fault_of meta l.elements) refl
 
 pub reads_judged : (meta : MetaDesc) (outside : Externs) (bytes : List ℕ) (l : Listing) → listing_of meta outside bytes ≡ Ok l → AreKnown meta l.elements
     → (r : Result Objects XmiError) → Answers r (with_listing l (judged meta l.elements)) → ReadsObjects meta outside bytes r
-reads_judged meta outside bytes l h k (Ok objects) a = subst (λ (r : Result Objects XmiError). ReadsObjects meta outside bytes r) (sym a) (judged_reads meta outside bytes l h k)
-reads_judged meta outside bytes l h k (Err (errors.Text fault)) a = subst (λ (r : Result Objects XmiError). ReadsObjects meta outside bytes r) (sym a) (judged_reads meta outside bytes l h k)
-reads_judged meta outside bytes l h k (Err (errors.Content fault)) a = subst (λ (r : Result Objects XmiError). ReadsObjects meta outside bytes r) (sym a) (judged_reads meta outside bytes l h k)
+reads_judged meta outside bytes l h k (Ok objects) a = subst (λ (r : Result Objects XmiError). ReadsObjects meta outside bytes r) (sym a) (judged_reads meta outside bytes l h k.within)
+reads_judged meta outside bytes l h k (Err (errors.Text fault)) a = subst (λ (r : Result Objects XmiError). ReadsObjects meta outside bytes r) (sym a) (judged_reads meta outside bytes l h k.within)
+reads_judged meta outside bytes l h k (Err (errors.Content fault)) a = subst (λ (r : Result Objects XmiError). ReadsObjects meta outside bytes r) (sym a) (judged_reads meta outside bytes l h k.within)
 reads_judged meta outside bytes l h k (Err errors.NoMemory) a = tt
 
 pub reads_text : (meta : MetaDesc) (outside : Externs) (bytes : List ℕ) (e : TextError) → Gives text_fault (λ (l : Listing). l) (Err e) (listing_of meta outside bytes)

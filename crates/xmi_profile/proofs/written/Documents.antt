@@ -82,7 +82,7 @@ module _ (m : ModelData) (held : IsHeldModel m) where
   value_held (values.Bool false) h = refl
   value_held (values.Lit e n) h = held.names.literals e.0 n
 
-  id_held : (o : ℕ) → IsHeldText (id_text m o)
+  pub id_held : (o : ℕ) → IsHeldText (id_text m o)
   id_held o = by (id_at m o) refl
     where
       by : (x : Option (List ℕ)) → id_at m o ≡ x → IsHeldText (id_or_none x)
@@ -93,7 +93,7 @@ module _ (m : ModelData) (held : IsHeldModel m) where
   spaced_held b [] = id_held b
   spaced_held b (c ∷ bs) = scalars-append (id_text m b) (32 ∷ spaced_behind (id_text m c) (map (id_text m) bs)) (id_held b) (spaced_held c bs)
 
-  class_held : (o : ℕ) → IsHeldText (class_text m o)
+  pub class_held : (o : ℕ) → IsHeldText (class_text m o)
   class_held o = by (class_at m o)
     where
       by : (c : Option ℕ) → IsHeldText (name_or_none m.meta c)

@@ -2,9 +2,9 @@
 use Rattle.std.proofs.Common.{◌≡◌, ℕ, zero, suc, ◌<◌, ◌≤◌, true, false, List, [], ◌∷◌, ◌++◌, length, map, refl, sym, ◌∙◌, ap, ap₂, subst, arith, Option, None, Some, inl, inr, append-nil}
 use Rattle.std.specs.Prelude.{◌*◌, ◌||◌, not, nat_eq, replicate, Contains, is_some, slice_get}
 use Rattle.std.specs.List.{flat_map, list_any}
-use Rattle.std.specs.Option.{unwrap_or}
+use Rattle.std.specs.Option.{option_map, unwrap_or}
 use Rattle.std.proofs.lemmas.Bool.{and_parts, cases_lt, cond-false, true≢false}
-use Rattle.std.proofs.lemmas.List.{length-map}
+use Rattle.std.proofs.lemmas.List.{length-map, get_or_past}
 use Rattle.std.proofs.lemmas.Option.{slice_get_within}
 use Rattle.mof_metamodel.specs.declared.limits.TheConstants.{MAX_DEPTH}
 use Rattle.mof_metamodel.specs.Characters.{is_identifier_text}
@@ -13,11 +13,10 @@ use Rattle.mof_metamodel.specs.WellMeta.{is_prop_name}
 use Rattle.object_tables.specs.declared.value.Value.{Value}
 use Rattle.object_tables.specs.Containment.{IsDepth}
 use Rattle.object_tables.specs.Kept.{Kept}
-use Rattle.object_tables.specs.Models.{ModelData, class_at, values_at, partners_at, is_class_type, ConformsTo, IsLive, IsLinked, IsAttributeOf, IsReferenceOf, IsPartnerFor, IsContainedIn}
+use Rattle.object_tables.specs.Models.{ModelData, object_at, class_at, values_at, partners_at, is_class_type, ConformsTo, IsLive, IsLinked, IsAttributeOf, IsReferenceOf, IsPartnerFor}
 use Rattle.object_tables.specs.Validity.{Valid, IsPropertyOf}
-use Rattle.object_tables.proofs.KeptLemmas.{sound_of, linked_reference}
 use Rattle.object_tables.proofs.ListLemmas.{Contains-from_map}
-use Rattle.object_tables.proofs.ModelLemmas.{live_class, same_class}
+use Rattle.object_tables.proofs.ModelLemmas.{live_class, live_from_class, same_class}
 use Rattle.xmi_text.specs.Trees.{Nodes, Ends, Run, Element}
 use Rattle.xmi_text.specs.Writing.{line_end}
 use Rattle.xmi_profile.specs.declared.fault.ModelFault.{ModelFault}
@@ -28,11 +27,11 @@ use Rattle.xmi_profile.specs.Attributes.{Attrs, value_where, is_id_name, is_type
 use Rattle.xmi_profile.specs.Canon.{value_text, typed_name, depth_over, top_numbers}
 use Rattle.xmi_profile.specs.Content.{IsFaultless}
 use Rattle.xmi_profile.specs.Elements.{Item, inner_place, behind_place}
-use Rattle.xmi_profile.specs.Faults.{Spot, IsWritten, IsDangling, IsPartWritten, IsContainedTwice, IsMismatch, IsDuplicate, StandsAt, StandsBy}
+use Rattle.xmi_profile.specs.Faults.{Spot, IsDuplicate, StandsAt, StandsBy}
 use Rattle.xmi_profile.specs.Forms.{form_of}
 use Rattle.xmi_profile.specs.Held.{IsHeldModel}
 use Rattle.xmi_profile.specs.Judged.{runs_in, IsTextAt, IsAlien, IsUnknownClass, is_unknown_of_object, is_unknown_of, IsStranger, IsUnknownAttr, IsWrong, IsWrongValue}
-use Rattle.xmi_profile.specs.Links.{speaks}
+use Rattle.xmi_profile.specs.Links.{HasLinks}
 use Rattle.xmi_profile.specs.Profile.{xmi_id, xmi_type, prop_name, id_text, object_props, props_or_none}
 use Rattle.xmi_profile.specs.References.{Target, Named, Contained}
 use Rattle.xmi_profile.specs.Source.{Source, all_items, file_ids, class_of, targets_of, targets_at, text_in, target_number, named_at}
@@ -45,8 +44,10 @@ use Rattle.xmi_profile.proofs.WritingForms.{class_typed}
 use Rattle.xmi_profile.proofs.WritingModels.{property_of}
 use Rattle.xmi_profile.proofs.written.Items.{bare, good_name, known_class, inner_nodes, value_row, object_row, root_row}
 use Rattle.xmi_profile.proofs.written.Known.{IsRow, Root, ValueRow, ObjectRow, IsPlaced, partner_live}
-use Rattle.xmi_profile.proofs.written.Linking.{to_any, id_proper, same_id, number_found, attribute_names, written_targets, targets_are, no_reference, reference_of, links_are}
-use Rattle.xmi_profile.proofs.written.Renumbering.{image, origin, renumbered, there, origin_live, linked_there, IsBack, linked_back, kept_there}
+use Rattle.xmi_profile.proofs.written.Linking.{id_proper, same_id, number_found, attribute_names, written_targets, targets_are, no_reference, reference_of, links_are}
+use Rattle.xmi_profile.proofs.written.Renumbering.{image, origin, renumbered, there, origin_live, class_there, image_origin, reference_back, linked_there, kept_there}
+use Rattle.xmi_profile.proofs.written.Reordered.{moved}
+use Rattle.xmi_profile.proofs.written.Spotless.{IsTold, WritesLinks, get_contained, none_by}
 use Rattle.xmi_profile.proofs.written.Naming.{prop_read, prop_not_id, prop_not_type, prop_not_idref, prop_not_nil}
 use Rattle.xmi_profile.proofs.written.Sources.{source, first_text, item_known, file_ids_are, class_of_is, class_of_past, no_property, slice_get-map}
 use Rattle.xmi_profile.proofs.written.Texts.{text_in_nodes, told_value}
@@ -69,11 +70,6 @@ attr_at : (P : List ℕ × List ℕ → Type 0) (attrs : Attrs) (n : ℕ) (a : L
 attr_at P [] n a h e = absurd cc
 attr_at P (x ∷ attrs) zero a h e = subst P (ap (λ o. unwrap_or o a) e) h.0
 attr_at P (x ∷ attrs) (suc n) a h e = attr_at P attrs n a h.1 e
-
-get_contained : {X : Type 0} (xs : List X) (i : ℕ) (x : X) → slice_get xs i ≡ Some x → Contains xs x
-get_contained [] i x e = absurd cc
-get_contained (y ∷ ys) zero x e = subst (Contains (y ∷ ys)) (ap (λ o. unwrap_or o x) e) (contains_head y ys)
-get_contained (y ∷ ys) (suc i) x e = contains_tail y x ys (get_contained ys i x e)
 
 -- ---- lines are blank
 
@@ -239,43 +235,12 @@ module _ (m : ModelData) (v : Valid m) (shallow : (o d : ℕ) → IsLive m o →
   abbrev n : ModelData
   n = renumbered m
 
-  record IsWriter (spot : Spot) (p : ℕ) (target : Target) : Type 0 where
-    object : ℕ
-    live : IsLive m object
-    number_is : number object ≡ spot.object
-    reference : IsReferenceOf m object p
-    target_is : Contains (written_targets m v shallow object p (form_of m.meta p)) target
-
-  writer : (spot : Spot) (p : ℕ) (target : Target) → IsWritten s spot p target → IsWriter spot p target
-  writer spot p target w = elim (cases_lt spot.object (length (written_order m))) [
-    | inl l ↦ (
-        let o : ℕ = origin m spot.object in
-        let live : IsLive m o = origin_live m v shallow spot.object l in
-        let at : number o ≡ spot.object = there m v shallow spot.object l in
-        let class : class_of s spot.object ≡ class_at m o = ap (class_of s) (sym at) ∙ class_of_is m v shallow o live in
-        let has : Contains (object_props m o) p = get_contained (object_props m o) spot.property p (ap (λ c. slice_get (props_or_none m.meta c) spot.property) (sym class) ∙ w.property) in
-        let r : IsReferenceOf m o p = reference_of m v shallow o p has w.reference in
-        let written : targets_at s spot.object p ≡ written_targets m v shallow o p (form_of m.meta p) = ap (λ k. targets_at s k p) (sym at) ∙ targets_are m v shallow o p r in
-        record {
-          object = o;
-          live = live;
-          number_is = at;
-          reference = r;
-          target_is = get_contained (written_targets m v shallow o p (form_of m.meta p)) spot.target target (ap (λ ts. slice_get ts spot.target) (sym written) ∙ w.target_is);
-        }
-        )
-    | inr past ↦ (
-        let none : slice_get {X = ℕ} [] spot.property ≡ Some p = ap (λ c. slice_get (props_or_none m.meta c) spot.property) (sym (class_of_past m v shallow spot.object past)) ∙ w.property in
-        absurd cc
-        )
-  ]
-
-  record IsTold (a p : ℕ) (target : Target) : Type 0 where
+  record IsWrittenTarget (a p : ℕ) (target : Target) : Type 0 where
     object : ℕ
     partner : Contains (partners_at m a p) object
     number_is : target_number s target ≡ Some (number object)
 
-  told : (a p : ℕ) (target : Target) → is_class_type (type_of m.meta p) ≡ true → (f : Form) → form_of m.meta p ≡ f → Contains (written_targets m v shallow a p f) target → IsTold a p target
+  told : (a p : ℕ) (target : Target) → is_class_type (type_of m.meta p) ≡ true → (f : Form) → form_of m.meta p ≡ f → Contains (written_targets m v shallow a p f) target → IsWrittenTarget a p target
   told a p target t forms.Identifiers e c =
       let bs = partners_at m a p in
       let named = append-nil (targets_of (first_text (partners_pair m p bs))) ∙ attribute_names m v shallow p bs (λ b h. partner_live m v.kept a p b h) in
@@ -289,62 +254,35 @@ module _ (m : ModelData) (v : Valid m) (shallow : (o d : ℕ) → IsLive m o →
   told a p target t forms.Attribute e c = absurd (no_reference m v shallow p forms.Attribute e t refl)
   told a p target t forms.Elements e c = absurd (no_reference m v shallow p forms.Elements e t refl)
 
-  told_of : (spot : Spot) (p : ℕ) (target : Target) (w : IsWriter spot p target) → IsTold w.object p target
-  told_of spot p target w = told w.object p target w.reference.reference (form_of m.meta p) refl w.target_is
+  told_there : (a p : ℕ) (target : Target) → IsReferenceOf n a p → Contains (targets_at s a p) target → IsTold s n.objects a p target
+  told_there a p target r c =
+      let at : number (origin m a) ≡ a = image_origin m v shallow a (live_from_class n a r.class r.class_is) in
+      let there_is : IsReferenceOf m (origin m a) p = reference_back m v shallow a p r in
+      let written : targets_at s a p ≡ written_targets m v shallow (origin m a) p (form_of m.meta p) = ap (λ k. targets_at s k p) (sym at) ∙ targets_are m v shallow (origin m a) p there_is in
+      let t : IsWrittenTarget (origin m a) p target = told (origin m a) p target r.reference (form_of m.meta p) refl (subst (λ (ts : List Target). Contains ts target) written c) in
+      record { object = number t.object; number_is = t.number_is; linked = subst (λ (x : ℕ). IsLinked n p x (number t.object)) at (linked_there m v shallow p (origin m a) t.object t.partner) }
 
-  no_dangling : (spot : Spot) (id prop reference : List ℕ) → IsDangling s spot id prop reference → ⊥
-  no_dangling spot id prop reference d =
-      let w : IsWriter spot d.p d.target = writer spot d.p d.target d.written in
-      let t : IsTold w.object d.p d.target = told_of spot d.p d.target w in
-      let partner : IsPartnerFor m d.p t.object = (v.kept.references w.object d.p w.reference).partners t.object t.partner in
-      d.nothing (number t.object) (record {
-        number = t.number_is;
-        class = partner.class;
-        class_is = class_of_is m v shallow t.object (partner_live m v.kept w.object d.p t.object t.partner) ∙ partner.class_is;
-        conforms = partner.conforms;
-      })
+  class_past : (q : ℕ) → length (written_order m) ≤ q → class_at n q ≡ None
+  class_past q l =
+      let same = length-map (written_order m) (λ o. moved m (written_order m) (object_at m o)) in
+      ap (option_map (λ ob. ob.class)) (get_or_past n.objects q None (omega (arith, l, same)))
 
-  -- what is written is linked
-  written_linked : (spot : Spot) (p : ℕ) (target : Target) (c : ℕ) → IsWritten s spot p target → target_number s target ≡ Some c → IsLinked n p spot.object c
-  written_linked spot p target c written e =
-      let w : IsWriter spot p target = writer spot p target written in
-      let t : IsTold w.object p target = told_of spot p target w in
-      let same : number t.object ≡ c = ap (λ o. unwrap_or o c) (sym t.number_is ∙ e) in
-      subst (λ (x : ℕ). IsLinked n p x c) w.number_is (subst (λ (x : ℕ). IsLinked n p (number w.object) x) same (linked_there m v shallow p w.object t.object t.partner))
+  classes_are : (q : ℕ) → class_of s q ≡ class_at n q
+  classes_are q = elim (cases_lt q (length (written_order m))) [
+    | inl l ↦ (
+        let live : IsLive m (origin m q) = origin_live m v shallow q l in
+        ap (class_of s) (sym (there m v shallow q l)) ∙ class_of_is m v shallow (origin m q) live ∙ sym (class_there m v shallow (origin m q) live) ∙ ap (class_at n) (there m v shallow q l)
+        )
+    | inr past ↦ class_of_past m v shallow q past ∙ sym (class_past q past)
+  ]
 
-  part_contained : (spot : Spot) (a b p : ℕ) → IsPartWritten s spot a b p → IsContainedIn n b a p
-  part_contained spot a b p w = record {
-    composite = w.composite;
-    linked = elim w.part [
-      | inl here ↦ (
-          let link : IsLinked n w.r spot.object w.c = written_linked spot w.r w.target w.c w.written w.named in
-          subst (λ (x : ℕ). IsLinked n x a b) here.0 (subst (λ (x : ℕ). IsLinked n w.r x b) here.1 (subst (λ (x : ℕ). IsLinked n w.r spot.object x) here.2 link))
-          )
-      | inr back ↦ (
-          let link : IsLinked n w.r spot.object w.c = written_linked spot w.r w.target w.c w.written w.named in
-          ((kept_there m v shallow).opposites p w.r a b back.0).1 (subst (λ (x : ℕ). IsLinked n w.r x a) back.1 (subst (λ (x : ℕ). IsLinked n w.r spot.object x) back.2 link))
-          )
-    ];
+  writes : WritesLinks s n.objects
+  writes = record {
+    classes = classes_are;
+    told = told_there;
+    links = λ a p r.
+        subst (λ (x : ℕ). HasLinks s n x p) (image_origin m v shallow a (live_from_class n a r.class r.class_is)) (links_are m v shallow (origin m a) p (reference_back m v shallow a p r));
   }
-
-  no_second_container : (spot : Spot) (id : List ℕ) → IsContainedTwice s spot id → ⊥
-  no_second_container spot id d =
-      let same = (kept_there m v shallow).containers d.object d.a d.b d.p d.q (part_contained spot d.a d.object d.p d.part) (part_contained d.earlier d.b d.object d.q d.other_part) in
-      elim d.differs [ inl other ↦ other same.0 | inr other ↦ other same.1 ]
-
-  no_mismatch : (spot : Spot) (id prop other other_prop : List ℕ) → IsMismatch s spot id prop other other_prop → ⊥
-  no_mismatch spot id prop other other_prop d =
-      let a : ℕ = spot.object in
-      let b : ℕ = d.b in
-      let q : ℕ = d.q in
-      let link : IsLinked n d.p a b = written_linked spot d.p d.target b d.written d.named in
-      let back_link : IsLinked n q b a = ((kept_there m v shallow).opposites d.p q a b d.disputed.opposite).0 link in
-      let w : IsBack m v shallow q b a = linked_back m v shallow q b a back_link in
-      let r : IsReferenceOf m (origin m b) q = linked_reference m q (origin m b) (origin m a) (sound_of m v.kept) w.linked in
-      let order = (links_are m v shallow (origin m b) q r).order in
-      let same : partners_at n b q ≡ named_at s b q =
-      subst (λ (x : ℕ). speaks s x q ≡ true → partners_at n x q ≡ named_at s x q) w.first order.0 d.disputed.speaking in
-      true≢false (sym (ap (list_any (nat_eq a)) (sym same) ∙ to_any a (partners_at n b q) back_link) ∙ d.disputed.unnamed)
 
   -- ---- wrong values
 
@@ -469,12 +407,4 @@ module _ (m : ModelData) (v : Valid m) (shallow : (o d : ℕ) → IsLive m o →
         at (faults.Limit kind) place x = x
 
         by : (fault : ModelFault) (spot : Spot) → StandsBy s fault spot → ⊥
-        by (faults.Dangling id prop reference) spot x = no_dangling spot id prop reference x
-        by (faults.TwoContainers id) spot x = no_second_container spot id x
-        by (faults.Mismatch id prop other other_prop) spot x = no_mismatch spot id prop other other_prop x
-        by (faults.UnknownClass name) spot x = x
-        by (faults.UnknownProperty id prop) spot x = x
-        by (faults.WrongValue id prop) spot x = x
-        by (faults.DuplicateId id) spot x = x
-        by (faults.Invalid breach id) spot x = x
-        by (faults.Limit kind) spot x = x
+        by = none_by s n.objects (kept_there m v shallow) writes

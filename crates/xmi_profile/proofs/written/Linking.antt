@@ -48,7 +48,7 @@ from_any x xs h = let (y, c, e) = one_of (nat_eq x) xs h in subst (Contains xs) 
 pub to_any : (x : ℕ) (xs : List ℕ) → Contains xs x → list_any (nat_eq x) xs ≡ true
 to_any x xs c = any_of (nat_eq x) xs x c (eq-eqb x x refl)
 
-apart_from : (xs : List ℕ) (y : ℕ) (ys : List ℕ) → IsOnce (xs ++ y ∷ ys) → Contains xs y → ⊥
+pub apart_from : (xs : List ℕ) (y : ℕ) (ys : List ℕ) → IsOnce (xs ++ y ∷ ys) → Contains xs y → ⊥
 apart_from [] y ys once (i, l, e) = omega (arith, l)
 apart_from (x ∷ xs) y ys once (zero, l, e) = once_first x y (xs ++ y ∷ ys) once (there_in xs y ys) e
   where
@@ -57,14 +57,14 @@ apart_from (x ∷ xs) y ys once (zero, l, e) = once_first x y (xs ++ y ∷ ys) o
     there_in (z ∷ zs) y ys = contains_tail z y (zs ++ y ∷ ys) (there_in zs y ys)
 apart_from (x ∷ xs) y ys once (suc i, l, e) = apart_from xs y ys (once_behind x (xs ++ y ∷ ys) once) (i, omega (arith, l), e)
 
-united_once : (xs ys : List ℕ) → IsOnce (xs ++ ys) → united xs ys ≡ xs ++ ys
+pub united_once : (xs ys : List ℕ) → IsOnce (xs ++ ys) → united xs ys ≡ xs ++ ys
 united_once xs [] once = sym (append-nil xs)
 united_once xs (y ∷ ys) once =
     let new : list_any (nat_eq y) xs ≡ false = none_any (nat_eq y) xs (λ x c. ne_eqb y x (λ same. apart_from xs y ys once (subst (Contains xs) (sym same) c))) in
     let seam : (xs ++ y ∷ []) ++ ys ≡ xs ++ y ∷ ys = append_assoc xs (y ∷ []) ys in
     ap (λ zs. united zs ys) (cond-false (list_any (nat_eq y) xs) xs (xs ++ y ∷ []) new) ∙ united_once (xs ++ y ∷ []) ys (subst IsOnce (sym seam) once) ∙ seam
 
-few_rise : (xs : List ℕ) → length xs ≤ 1 → AllPairs (λ b c. b < c) xs
+pub few_rise : (xs : List ℕ) → length xs ≤ 1 → AllPairs (λ b c. b < c) xs
 few_rise xs few i j d l lj = absurd (omega (arith, few, l, lj))
 
 module _ (m : ModelData) (v : Valid m) (shallow : (o d : ℕ) → IsLive m o → IsDepth m o d → d ≤ MAX_DEPTH) where
@@ -283,7 +283,7 @@ module _ (m : ModelData) (v : Valid m) (shallow : (o d : ℕ) → IsLive m o →
 
       written : (b : ℕ) → IsLinked (renumbered m) p (number a) b → named_by a p (form_of m.meta p) ≡ map number (partners_at m a p) → Names s p (number a) b
       written b link e =
-          let w : IsBack m v shallow p (number a) b = linked_back m v shallow p (number a) b link in
+          let w : IsBack m p (number a) b = linked_back m v shallow p (number a) b link in
           let here : IsLinked m p a (origin m b) = subst (λ (x : ℕ). IsLinked m p x (origin m b)) (back m v shallow a live) w.linked in
           subst (Names s p (number a)) w.second (linked_named p a (origin m b) r e here)
 
@@ -294,7 +294,7 @@ module _ (m : ModelData) (v : Valid m) (shallow : (o d : ℕ) → IsLive m o →
           let n : IsNested p = nested p e in
           let q : ℕ = n.opposite in
           let t : is_class_type (type_of m.meta q) ≡ true = class_typed_opposite p q (opposites_of a p q r n.opposite_is) in
-          let w : IsBack m v shallow p (number a) b = linked_back m v shallow p (number a) b link in
+          let w : IsBack m p (number a) b = linked_back m v shallow p (number a) b link in
           let here : IsLinked m p a (origin m b) = subst (λ (x : ℕ). IsLinked m p x (origin m b)) (back m v shallow a live) w.linked in
           let up : IsLinked m q (origin m b) a = (v.kept.opposites p q a (origin m b) n.opposite_is).0 here in
           let whole : IsReferenceOf m (origin m b) q = linked_reference m q (origin m b) a (sound_of m v.kept) up in

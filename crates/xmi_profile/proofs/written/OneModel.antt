@@ -22,7 +22,7 @@ use Rattle.xmi_profile.specs.Reads.{Spells, source_of}
 use Rattle.xmi_profile.specs.Source.{Source, object_count}
 use Rattle.xmi_profile.proofs.SeenLaws.{in_cons, in_none}
 use Rattle.xmi_profile.proofs.WritingCalls.{contains_head, contains_tail}
-use Rattle.xmi_profile.proofs.written.Renumbering.{Rising, rising_all}
+use Rattle.xmi_profile.proofs.written.Reordered.{Rising, rising_all}
 
 -- ---- lists that rise
 

@@ -250,12 +250,12 @@ module _ (m : ModelData) (k : Kept m) where
 
   -- the way up from an object ends at one that nothing contains
   pub record HasTop (x : ℕ) : Type 0 where
-    path : List ℕ
-    top : ℕ
-    up : IsContainerPath m x path top
-    is_top : IsTop m top
+    pub path : List ℕ
+    pub top : ℕ
+    pub up : IsContainerPath m x path top
+    pub is_top : IsTop m top
 
-  climb : IsAcyclic m → (room x at : ℕ) (path : List ℕ) → IsLive m x → IsContainerPath m x path at → length m.objects ≤ room + length path → HasTop x
+  pub climb : IsAcyclic m → (room x at : ℕ) (path : List ℕ) → IsLive m x → IsContainerPath m x path at → length m.objects ≤ room + length path → HasTop x
   climb acyclic zero x at path live up few =
       let l = path-few m x path at acyclic live up in absurd (omega (arith, l, few))
   climb acyclic (suc room) x at path live up few = by (climb acyclic room x) (is_part m at) refl

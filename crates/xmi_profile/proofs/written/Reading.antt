@@ -97,7 +97,7 @@ module _ (m : ModelData) (held : IsHeldModel m) (v : Valid m) (shallow : (o d : 
   below_count : (q : ℕ) → q < object_count s → q < length (written_order m)
   below_count q l = let same = count_is m v shallow in omega (arith, l, same)
 
-  live_count_is : length (live_numbers m) ≡ live_count m
+  pub live_count_is : length (live_numbers m) ≡ live_count m
   live_count_is = counted (λ o. is_some (object_at m o)) 0 m.objects (λ i l. let same : 0 + i ≡ i = omega arith in ap (λ o. is_some (object_at m o)) same)
 
   pub few : live_count m ≤ MAX_OBJECTS → object_count s ≤ MAX_OBJECTS

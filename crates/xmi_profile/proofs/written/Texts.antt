@@ -65,7 +65,7 @@ same_is (values.Lit e n) (values.Str t) h = absurd cc
 same_is (values.Lit e n) (values.Int j) h = absurd cc
 same_is (values.Lit e n) (values.Bool c) h = absurd cc
 
-unmet_all : (met vs : List Value) → ((w : Value) → Contains vs w → Contains met w → ⊥) → AllPairs (λ x y. x ≢ y) vs → unmet met vs ≡ vs
+pub unmet_all : (met vs : List Value) → ((w : Value) → Contains vs w → Contains met w → ⊥) → AllPairs (λ x y. x ≢ y) vs → unmet met vs ≡ vs
 unmet_all met [] fresh apart = refl
 unmet_all met (v ∷ vs) fresh apart =
     let new : list_any (same_value v) met ≡ false = none_any (same_value v) met (λ w c. by w c (same_value v w) refl) in

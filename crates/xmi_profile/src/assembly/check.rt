@@ -1,5 +1,5 @@
 ghost use Rattle.std.specs.Prelude.{◌≡◌, IfOk, IfErr, OnOk};
-ghost use Rattle.object_tables.specs.Validity.{IsFirstBreach};
+ghost use Rattle.object_tables.specs.Validity.{IsFirstBreach, Valid};
 ghost use Rattle.xmi_profile.specs.AssemblyChecks as checks;
 
 use crate::fault::ModelFault;
@@ -37,18 +37,26 @@ fn invalid(alloc: Global, model: &Model<'_>, breach: Breach) -> Result<ModelFaul
     Ok(ModelFault::Invalid(breach, id))
 }
 
-/// The fault of a model, if it breaks a rule or nests too deeply.
-fn model_fault(alloc: Global, model: &Model<'_>) -> Result<Option<ModelFault>, NoMemory>
+/// The fault of a valid model that nests too deeply.
+fn depth_fault(alloc: Global, model: &Model<'_>) -> Result<Option<ModelFault>, NoMemory>
+    requires { Valid model.now }
     ensures { IfOk result (checks.IsModelFault model.now) }
 {
-    if let Some(breach) = model.validity() {
-        return Ok(Some(invalid(alloc, model, breach)?));
-    }
     let is_too_deep = model.greatest_depth(alloc)? > MAX_DEPTH;
     if is_too_deep {
         Ok(Some(ModelFault::Limit(LimitKind::Depth)))
     } else {
         Ok(None)
+    }
+}
+
+/// The fault of a model, if it breaks a rule or nests too deeply. In time linear in the objects and their properties.
+fn model_fault(alloc: Global, model: &Model<'_>) -> Result<Option<ModelFault>, NoMemory>
+    ensures { IfOk result (checks.IsModelFault model.now) }
+{
+    match model.first_breach(alloc)? {
+        Some(breach) => Ok(Some(invalid(alloc, model, breach)?)),
+        None => depth_fault(alloc, model),
     }
 }
 
