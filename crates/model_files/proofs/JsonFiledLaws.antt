@@ -39,12 +39,12 @@ use Rattle.model_files.proofs.JsonFiledReferences.{named_in, named_by, objects_n
 
 -- ---- lists
 
-get_mapped : {X Y : Type 0} (f : X → Y) (xs : List X) (i : ℕ) → slice_get (map f xs) i ≡ option_map f (slice_get xs i)
+pub get_mapped : {X Y : Type 0} (f : X → Y) (xs : List X) (i : ℕ) → slice_get (map f xs) i ≡ option_map f (slice_get xs i)
 get_mapped f [] i = refl
 get_mapped f (x ∷ xs) zero = refl
 get_mapped f (x ∷ xs) (suc i) = get_mapped f xs i
 
-get_within : {X : Type 0} (xs : List X) (i : ℕ) (x : X) → slice_get xs i ≡ Some x → i < length xs
+pub get_within : {X : Type 0} (xs : List X) (i : ℕ) (x : X) → slice_get xs i ≡ Some x → i < length xs
 get_within [] i x e = absurd cc
 get_within (y ∷ ys) zero x e = omega arith
 get_within (y ∷ ys) (suc i) x e = let l = get_within ys i x e in omega (arith, l)
@@ -80,7 +80,7 @@ attr_by_head : (meta : MetaDesc) (p : ℕ) (o : Option Item) → attr_of meta p 
 attr_by_head meta p None = refl
 attr_by_head meta p (Some item) = refl
 
-abbrev slot_text : Option (List Data) → Option (List ℕ)
+abbrev pub slot_text : Option (List Data) → Option (List ℕ)
 slot_text o = option_map (λ ds. with_blanks (map item_text ds)) o
 
 unnumbered : (meta : MetaDesc) (d : Data) → IsSound meta d → (c p : ℕ) (name : List ℕ) → list_all is_name_character name ≡ false → is_number (prop_number meta c name) p ≡ false
@@ -102,7 +102,7 @@ object_attr meta d sound p written known =
     ∙ attr_is meta c p written.slots known.slots
 
 -- the attribute of a property is its slot
-attr_text_is : (meta : MetaDesc) (d : Data) → IsSound meta d → (o p : ℕ) → attr_text (source_of meta d) o p ≡ slot_text (of_object meta p (slice_get (objects_of d) o))
+pub attr_text_is : (meta : MetaDesc) (d : Data) → IsSound meta d → (o p : ℕ) → attr_text (source_of meta d) o p ≡ slot_text (of_object meta p (slice_get (objects_of d) o))
 attr_text_is meta d sound o p =
     attr_by_head meta p (item_at (source_of meta d) o)
     ∙ ap (attr_by meta p) (sym (get_mapped head_of (object_items (all_items (source_of meta d))) o))
@@ -120,7 +120,7 @@ none_kept : {X Y : Type 0} (h : X → Option Y) (xs : List X) → AllByRecursion
 none_kept h [] all = refl
 none_kept {Y = Y} h (x ∷ xs) all = ap₂ (λ (o : Option Y) (ys : List Y). cons_option o ys) all.0 (none_kept h xs all.1)
 
-no_element_targets : (meta : MetaDesc) (d : Data) → IsSound meta d → (o p : ℕ) → element_targets (source_of meta d) o p ≡ []
+pub no_element_targets : (meta : MetaDesc) (d : Data) → IsSound meta d → (o p : ℕ) → element_targets (source_of meta d) o p ≡ []
 no_element_targets meta d sound o p =
     none_kept (λ item. element_target_at o p item.role) (all_items (source_of meta d))
     (all_have meta d (λ item. element_target_at o p item.role ≡ None) sound refl (λ written known place number. refl) (λ object property name text place value. refl))
@@ -303,7 +303,7 @@ objects_kept meta ids object (written ∷ rest) f =
     then_kept f _ _ (object_kept meta ids object written.slots (concrete_class meta written.class) f)
     (objects_kept meta ids (suc object) rest (with_object meta ids object written.slots (concrete_class meta written.class) f))
 
-classes_known : (meta : MetaDesc) (objects : List Written) → AllByRecursion (IsKnownObject meta) objects → map (λ w. concrete_class meta w.class) objects ≡ map (λ w. Some (class_in meta w)) objects
+pub classes_known : (meta : MetaDesc) (objects : List Written) → AllByRecursion (IsKnownObject meta) objects → map (λ w. concrete_class meta w.class) objects ≡ map (λ w. Some (class_in meta w)) objects
 classes_known meta [] known = refl
 classes_known meta (written ∷ rest) known = ap₂ (λ (c : Option ℕ) (cs : List (Option ℕ)). c ∷ cs) known.0.class (classes_known meta rest known.1)
 
@@ -325,7 +325,7 @@ none_any test (y ∷ ys) f = by (test y) refl f (none_any test ys)
     by true g h more = absurd (true≢false h)
     by false g h more = (g, more h)
 
-there_any : {X : Type 0} (test : X → Bool) (xs : List X) (x : X) → Contains xs x → test x ≡ true → list_any test xs ≡ true
+pub there_any : {X : Type 0} (test : X → Bool) (xs : List X) (x : X) → Contains xs x → test x ≡ true → list_any test xs ≡ true
 there_any test xs x c e = by (list_any test xs) refl
   where
     by : (b : Bool) → list_any test xs ≡ b → b ≡ true
@@ -347,6 +347,24 @@ is_said : (o p : ℕ) (f : Filed) → IsSaid f o p → said o p f ≡ true
 is_said o p f (by_target r c t) = ap (λ (b : Bool). b || list_any (is_mention_at o p) f.mentions) (there_any (is_reference_at o p) f.references r c t)
 is_said o p f (by_mention m c t) =
     ap (λ (b : Bool). list_any (is_reference_at o p) f.references || b) (there_any (is_mention_at o p) f.mentions m c t) ∙ or_true (list_any (is_reference_at o p) f.references)
+
+-- the values that the tree writes at an attribute
+pub values_written : (meta : MetaDesc) (d : Data) → IsSound meta d → (o p : ℕ) → IsAttributeIn (source_of meta d) o p
+    → without_repeats (objects_values meta o p 0 (objects_of d)) ≡ written_values (source_of meta d) o p
+values_written meta d sound o p attribute =
+    let counted = objects_counted meta d sound in
+    let short : o < length (objects_of d) = (let l = attribute.object in omega (arith, l, counted)) in
+    let (written, at) = get_there (objects_of d) o short in
+    let id : slice_get (file_ids (source_of meta d)) o ≡ Some written.id =
+    ap (λ (xs : List (List ℕ)). slice_get xs o) (ids_are meta d sound.right.0) ∙ get_mapped (λ w. w.id) (objects_of d) o ∙ ap (option_map (λ w. w.id)) at in
+    let known = at_number (IsKnownObject meta) (objects_of d) o written sound.right.0 at in
+    let none : attr_text (source_of meta d) o p ≡ None =
+    attr_text_is meta d sound o p ∙ ap (λ (x : Option Written). slot_text (of_object meta p x)) at
+    ∙ ap slot_text (no_slot_of meta (class_in meta written) p written.slots known.slots attribute.data_type) in
+    ap without_repeats
+    (sym (elements_read meta d sound o p)
+    ∙ sym (ap (λ (x : Option (List ℕ)). filter_map (texts.value_of meta (type_of meta p)) (listed x ++ filter_map (element_text o p) (all_items (source_of meta d)))) none))
+    ∙ sym (ap (values_of (source_of meta d) o p) id)
 
 -- ---- all of it
 
@@ -389,20 +407,7 @@ module _ (meta : MetaDesc) (d : Data) (sound : IsSound meta d) (apart : HasApart
       by (Some ds) = refl
 
   file_values_are : (o p : ℕ) → IsAttributeIn (source_of meta d) o p → without_repeats (filed_values found.values o p) ≡ written_values (source_of meta d) o p
-  file_values_are o p attribute =
-      let counted = objects_counted meta d sound in
-      let short : o < length (objects_of d) = (let l = attribute.object in omega (arith, l, counted)) in
-      let (written, at) = get_there (objects_of d) o short in
-      let id : slice_get (file_ids (source_of meta d)) o ≡ Some written.id =
-      ap (λ (xs : List (List ℕ)). slice_get xs o) (ids_are meta d sound.right.0) ∙ get_mapped (λ w. w.id) (objects_of d) o ∙ ap (option_map (λ w. w.id)) at in
-      let known = at_number (IsKnownObject meta) (objects_of d) o written sound.right.0 at in
-      let none : attr_text (source_of meta d) o p ≡ None =
-      attr_text_is meta d sound o p ∙ ap (λ (x : Option Written). slot_text (of_object meta p x)) at
-      ∙ ap slot_text (no_slot_of meta (class_in meta written) p written.slots known.slots attribute.data_type) in
-      ap without_repeats
-      (values_are o p ∙ sym (elements_read meta d sound o p)
-      ∙ sym (ap (λ (x : Option (List ℕ)). filter_map (texts.value_of meta (type_of meta p)) (listed x ++ filter_map (element_text o p) (all_items (source_of meta d)))) none))
-      ∙ sym (ap (values_of (source_of meta d) o p) id)
+  file_values_are o p attribute = ap without_repeats (values_are o p) ∙ values_written meta d sound o p attribute
 
   targets_are_named : (o p : ℕ) → filed_references found.references o p ≡ map (reference_of (source_of meta d)) (targets_at (source_of meta d) o p)
   targets_are_named o p =

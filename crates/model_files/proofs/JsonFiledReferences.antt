@@ -255,14 +255,14 @@ attr_is meta c p (slot ∷ slots) known = by (is_class_type (type_in meta c slot
 
 -- ---- slots of other objects
 
-not_same : (x y : ℕ) → (x ≡ y → ⊥) → (x == y) ≡ false
+pub not_same : (x y : ℕ) → (x ≡ y → ⊥) → (x == y) ≡ false
 not_same x y f = by (x == y) refl
   where
     by : (b : Bool) → (x == y) ≡ b → b ≡ false
     by true e = absurd (f (eqb-true x y e))
     by false e = refl
 
-nothing_if : {X : Type 0} (b : Bool) → cond {A = List X} b [] [] ≡ []
+pub nothing_if : {X : Type 0} (b : Bool) → cond {A = List X} b [] [] ≡ []
 nothing_if true = refl
 nothing_if false = refl
 
@@ -273,7 +273,7 @@ other_named meta ids o p object c (slot ∷ slots) e =
     (ap (λ (b : Bool). cond (is_class_type (type_in meta c slot.0)) (cond (b && (prop_in meta c slot.0 == p)) (map (named_in ids) slot.1) []) []) e ∙ nothing_if (is_class_type (type_in meta c slot.0)))
     (other_named meta ids o p object c slots e)
 
-and_false : (a : Bool) → (a && false) ≡ false
+pub and_false : (a : Bool) → (a && false) ≡ false
 and_false true = refl
 and_false false = refl
 
@@ -290,7 +290,7 @@ abbrev pub named_by : List (List ℕ) → Option (List Data) → List Named
 named_by ids None = []
 named_by ids (Some ds) = map (named_in ids) ds
 
-both_names : (meta : MetaDesc) (c p : ℕ) (slot other : List ℕ × List Data) → IsKnownSlot meta c slot → IsKnownSlot meta c other
+pub both_names : (meta : MetaDesc) (c p : ℕ) (slot other : List ℕ × List Data) → IsKnownSlot meta c slot → IsKnownSlot meta c other
     → prop_in meta c slot.0 ≡ p → prop_in meta c other.0 ≡ p → other.0 ≡ slot.0
 both_names meta c p slot other known also e f =
     sym (named_prop meta c other.0 p (also.property ∙ ap (λ (q : ℕ). Some q) f)).named ∙ (named_prop meta c slot.0 p (known.property ∙ ap (λ (q : ℕ). Some q) e)).named

@@ -1,11 +1,12 @@
+pub mod AnsweredLaws
 pub mod AsciiLaws
 pub mod BoundLaws
 pub mod DepthLaws
 pub mod DescriptionExamples
+pub mod DescribedLaws
 pub mod DescriptionLaws
 pub mod EmofLaws
 pub mod Examples
-pub mod FaultTextLaws
 pub mod FaultlessLaws
 pub mod FileLaws
 pub mod JsonFaultLaws
@@ -14,12 +15,14 @@ pub mod JsonFiledReferences
 pub mod JsonFiledValues
 pub mod JsonFormLaws
 pub mod JsonItemLaws
+pub mod JsonKeyLaws
 pub mod JsonKnownLaws
 pub mod JsonLaws
 pub mod JsonLinkLaws
 pub mod JsonNumberLaws
 pub mod JsonReadingLaws
 pub mod JsonStepLaws
+pub mod JsonStringLaws
 pub mod JsonTree
 pub mod JsonTreeLaws
 pub mod JsonTypedLaws
@@ -29,4 +32,5 @@ pub mod OneErrorLaws
 pub mod OneFaultLaws
 pub mod OneModelLaws
 pub mod ReadingLaws
+pub mod read_back
 pub mod ShapeLaws

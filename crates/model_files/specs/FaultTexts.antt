@@ -1,8 +1,8 @@
--- What is printed of a fault of a file: one line with the path of the file, in words with one space between. An identifier, a name or a
--- reference that is empty leaves its space.
-use Rattle.std.specs.Prelude.{◌<◌, ℕ, Bool, true, false, List, [], ◌∷◌, ◌++◌, codes, encode_utf8_all, Option, None, Some, if◌then◌else◌}
+-- What is printed of a fault of a file: one line with the path of the file. An identifier, a name or a reference that is empty leaves its
+-- space.
+use Rattle.std.specs.Prelude.{◌<◌, ℕ, Bool, true, false, List, [], ◌∷◌, codes, Option, None, Some, if◌then◌else◌}
 use Rattle.std.specs.Fmt.{decimal}
-use Rattle.std.specs.List.{flat_map}
+use Rattle.fault_lines.specs.Lines.{Words, line, refused, limit, starved, shown}
 use Rattle.mof_metamodel.specs.declared.desc.MetaDesc.{MetaDesc}
 use Rattle.mof_metamodel.specs.declared.desc.PropId.{PropId}
 use Rattle.mof_metamodel.specs.declared.fault.MetaKind.{MetaKind}
@@ -18,23 +18,11 @@ use Rattle.xmi_text.specs.declared.error.TextKind.TheVariants as text_kinds
 use Rattle.xmi_text.specs.Words.{kind_word}
 use Rattle.xmi_profile.specs.declared.fault.ModelFault.{ModelFault}
 use Rattle.xmi_profile.specs.declared.fault.ModelFault.TheVariants as faults
-use Rattle.xmi_profile.specs.Canon.{spaced}
 use Rattle.xmi_profile.specs.Profile.{prop_name}
 use Rattle.model_files.specs.declared.fault.FileError.{FileError}
 use Rattle.model_files.specs.declared.fault.FileError.TheVariants as errors
 use Rattle.model_files.specs.declared.fault.JsonFault.{JsonFault}
 use Rattle.model_files.specs.declared.fault.JsonFault.TheVariants as json_faults
-
-abbrev pub Words : Type 0
-Words = List (List ℕ)
-
--- words, each behind a space
-abbrev pub behind : Words → List ℕ
-behind words = flat_map (λ word. 32 ∷ word) words
-
--- words with one space between, and a line feed behind them
-abbrev pub line : Words → List ℕ
-line words = spaced words ++ 10 ∷ []
 
 -- Limits are told apart from what is refused
 
@@ -64,17 +52,6 @@ is_limit (errors.NoPackage n) = false
 is_limit errors.NoMemory = false
 
 -- Words
-
--- the file at the path is refused, for a fault of this kind
-abbrev pub refused : List ℕ → List ℕ → Words → Words
-refused path kind details = codes "refused" ∷ path ∷ kind ∷ details
-
--- a limit is passed in the file at the path
-abbrev pub limit : List ℕ → List ℕ → Words → Words
-limit name path details = codes "limit" ∷ name ∷ path ∷ details
-
-abbrev pub shown : List ℕ → List ℕ
-shown text = encode_utf8_all text
 
 abbrev pub text_words : List ℕ → TextKind → List ℕ → Words
 text_words path kind place =
@@ -132,7 +109,7 @@ error_words meta path (errors.Json fault) = json_words meta path fault
 error_words meta path (errors.Content fault) = content_words meta path fault
 error_words meta path (errors.Meta fault) = meta_words path fault.kind fault.name
 error_words meta path (errors.NoPackage n) = package_words path (decimal n)
-error_words meta path errors.NoMemory = codes "no" ∷ codes "memory" ∷ []
+error_words meta path errors.NoMemory = starved
 
 abbrev pub error_text : MetaDesc → List ℕ → FileError → List ℕ
 error_text meta path e = line (error_words meta path e)

@@ -27,7 +27,8 @@ pub use emof::emof_metamodel;
 pub use fault::{FileError, JsonFault};
 pub use file_form::{Form, form_of};
 pub use file_laws::{
-    errors_agree_on_limits, files_are_one_model, models_have_no_faults, one_error_is_told,
+    errors_agree_on_limits, files_are_answered, files_are_one_model, json_is_read_back,
+    json_tells_models, models_have_no_faults, one_error_is_told, written_json_is_read,
 };
 pub use files::{Read, read_any, read_metamodel};
 pub use json_writing::write_json;

@@ -1,12 +1,14 @@
 //! What is printed of faults of files.
-ghost use Rattle.std.specs.Prelude.{◌≡◌, [], ◌∷◌, codes, ◌++◌, ◌<◌, map, string_bytes, IfOk, OnOk};
+ghost use Rattle.std.specs.Prelude.{◌≡◌, [], ◌∷◌, codes, ◌<◌, map, string_bytes, IfOk};
 ghost use Rattle.std.specs.Fmt.{decimal};
 ghost use Rattle.mof_metamodel.specs.Metamodels.{prop_count};
+ghost use Rattle.fault_lines.specs.Lines as lines;
 ghost use Rattle.model_files.specs.Emof.{emof};
 ghost use Rattle.model_files.specs.FaultTexts as texts;
 
 use crate::emof::emof_metamodel;
 use crate::fault::{FileError, JsonFault};
+use fault_lines::line;
 use mof_metamodel::{MetaFault, MetaKind, MetaModel, NoMemory, PropId, Seq, Text};
 use object_tables::{Breach, LimitKind};
 use std::alloc::Global;
@@ -55,38 +57,6 @@ impl FileError {
     }
 }
 
-/// Puts a word behind a text and a space.
-#[tactic(auto, using(crate::proofs::FaultTextLaws::joined))]
-fn push_word(text: &mut Vec<u8>, word: &[u8]) -> Result<(), NoMemory>
-    ensures { OnOk result (text.new.items ≡ text.old.items ++ 32 ∷ word.now) }
-{
-    text.push(b' ')?;
-    text.extend_from_slice(word)?;
-    Ok(())
-}
-
-/// Puts words behind a text, each behind a space.
-fn push_words(text: &mut Vec<u8>, words: &[&[u8]]) -> Result<(), NoMemory>
-    ensures { OnOk result (text.new.items ≡ text.old.items ++ texts.behind (map (λ w. w.now) words.now)) }
-{
-    for word in words {
-        push_word(text, word)?;
-    }
-    Ok(())
-}
-
-/// A line of words with one space between.
-#[tactic(auto, using(crate::proofs::FaultTextLaws::line_is))]
-fn line(alloc: Global, first: &[u8], words: &[&[u8]]) -> Result<Seq<u8>, NoMemory>
-    ensures { IfOk result (λ text. text ≡ texts.line (first.now ∷ map (λ w. w.now) words.now)) }
-{
-    let mut text = Vec::new(alloc);
-    text.extend_from_slice(first)?;
-    push_words(&mut text, words)?;
-    text.push(b'\n')?;
-    Ok(Seq::from_vec(text))
-}
-
 /// That the file is refused for a fault of a kind, with one detail.
 fn refused_line<'a>(
     alloc: Global,
@@ -94,7 +64,7 @@ fn refused_line<'a>(
     word: &'a [u8],
     detail: &'a [u8],
 ) -> Result<Seq<u8>, NoMemory>
-    ensures { IfOk result (λ text. text ≡ texts.line (texts.refused path.now word.now (detail.now ∷ []))) }
+    ensures { IfOk result (λ text. text ≡ lines.line (lines.refused path.now word.now (detail.now ∷ []))) }
 {
     line(alloc, b"refused", &[path, word, detail])
 }
@@ -107,7 +77,7 @@ fn refused_two<'a>(
     first: &'a [u8],
     second: &'a [u8],
 ) -> Result<Seq<u8>, NoMemory>
-    ensures { IfOk result (λ text. text ≡ texts.line (texts.refused path.now word.now (first.now ∷ second.now ∷ []))) }
+    ensures { IfOk result (λ text. text ≡ lines.line (lines.refused path.now word.now (first.now ∷ second.now ∷ []))) }
 {
     line(alloc, b"refused", &[path, word, first, second])
 }
@@ -121,7 +91,7 @@ fn refused_three<'a>(
     second: &'a [u8],
     third: &'a [u8],
 ) -> Result<Seq<u8>, NoMemory>
-    ensures { IfOk result (λ text. text ≡ texts.line (texts.refused path.now word.now (first.now ∷ second.now ∷ third.now ∷ []))) }
+    ensures { IfOk result (λ text. text ≡ lines.line (lines.refused path.now word.now (first.now ∷ second.now ∷ third.now ∷ []))) }
 {
     line(alloc, b"refused", &[path, word, first, second, third])
 }
@@ -135,7 +105,7 @@ fn mismatch_line<'a>(
     other: &'a [u8],
     other_prop: &'a [u8],
 ) -> Result<Seq<u8>, NoMemory>
-    ensures { IfOk result (λ text. text ≡ texts.line (texts.refused path.now (codes "Mismatch") (id.now ∷ prop.now ∷ other.now ∷ other_prop.now ∷ []))) }
+    ensures { IfOk result (λ text. text ≡ lines.line (lines.refused path.now (codes "Mismatch") (id.now ∷ prop.now ∷ other.now ∷ other_prop.now ∷ []))) }
 {
     line(
         alloc,
@@ -146,14 +116,14 @@ fn mismatch_line<'a>(
 
 /// That elements nest too deep.
 fn nesting_line<'a>(alloc: Global, path: &'a [u8], place: &'a [u8]) -> Result<Seq<u8>, NoMemory>
-    ensures { IfOk result (λ text. text ≡ texts.line (texts.limit (codes "nesting") path.now (place.now ∷ []))) }
+    ensures { IfOk result (λ text. text ≡ lines.line (lines.limit (codes "nesting") path.now (place.now ∷ []))) }
 {
     line(alloc, b"limit", &[b"nesting", path, place])
 }
 
 /// What is printed of a fault of markup of this kind at this place.
 fn text_line(alloc: Global, path: &[u8], kind: TextKind, place: &[u8]) -> Result<Seq<u8>, NoMemory>
-    ensures { IfOk result (λ text. text ≡ texts.line (texts.text_words path.now kind place.now)) }
+    ensures { IfOk result (λ text. text ≡ lines.line (texts.text_words path.now kind place.now)) }
 {
     if is_text_limit(kind) {
         nesting_line(alloc, path, place)
@@ -164,7 +134,7 @@ fn text_line(alloc: Global, path: &[u8], kind: TextKind, place: &[u8]) -> Result
 
 /// What is printed of a fault of markup.
 fn text_fault_text(alloc: Global, path: &[u8], fault: TextFault) -> Result<Seq<u8>, NoMemory>
-    ensures { IfOk result (λ text. text ≡ texts.line (texts.text_words path.now fault.kind (decimal fault.at))) }
+    ensures { IfOk result (λ text. text ≡ lines.line (texts.text_words path.now fault.kind (decimal fault.at))) }
 {
     let place = fault.at;
     let place = format!(in alloc; "{place}")?;
@@ -173,7 +143,7 @@ fn text_fault_text(alloc: Global, path: &[u8], fault: TextFault) -> Result<Seq<u
 
 /// What is printed of a fault of a description.
 fn meta_fault_text(alloc: Global, path: &[u8], fault: &MetaFault) -> Result<Seq<u8>, NoMemory>
-    ensures { IfOk result (λ text. text ≡ texts.line (texts.meta_words path.now fault.now.kind fault.now.name)) }
+    ensures { IfOk result (λ text. text ≡ lines.line (texts.meta_words path.now fault.now.kind fault.now.name)) }
 {
     if is_meta_limit(fault.kind) {
         line(alloc, b"limit", &[b"metamodel", path])
@@ -189,7 +159,7 @@ fn meta_fault_text(alloc: Global, path: &[u8], fault: &MetaFault) -> Result<Seq<
 
 /// The bytes of a text.
 fn shown(text: &Text) -> &[u8]
-    ensures { result.now ≡ texts.shown text.now }
+    ensures { result.now ≡ lines.shown text.now }
 {
     text.as_str().as_bytes()
 }
@@ -211,7 +181,7 @@ fn breach_text(
     id: &Text,
 ) -> Result<Seq<u8>, NoMemory>
     requires { texts.IsKnownProp meta.now breach.prop }
-    ensures { IfOk result (λ text. text ≡ texts.line (texts.breach_words meta.now path.now breach id.now)) }
+    ensures { IfOk result (λ text. text ≡ lines.line (texts.breach_words meta.now path.now breach id.now)) }
 {
     let word = breach.kind.word().as_bytes();
     match breach.prop {
@@ -222,7 +192,7 @@ fn breach_text(
 
 /// What is printed of a limit of models.
 fn limit_text(alloc: Global, path: &[u8], kind: LimitKind) -> Result<Seq<u8>, NoMemory>
-    ensures { IfOk result (λ text. text ≡ texts.line (texts.limit_words path.now kind)) }
+    ensures { IfOk result (λ text. text ≡ lines.line (texts.limit_words path.now kind)) }
 {
     match kind {
         LimitKind::Objects => line(alloc, b"limit", &[b"objects", path]),
@@ -237,7 +207,7 @@ fn wrong_value_text(
     id: &Text,
     prop: &Option<Text>,
 ) -> Result<Seq<u8>, NoMemory>
-    ensures { IfOk result (λ text. text ≡ texts.line (texts.wrong_value_words path.now id.now prop.now)) }
+    ensures { IfOk result (λ text. text ≡ lines.line (texts.wrong_value_words path.now id.now prop.now)) }
 {
     match prop {
         Some(prop) => refused_two(alloc, path, b"WrongValue", shown(id), shown(prop)),
@@ -253,7 +223,7 @@ fn content_text(
     fault: &ModelFault,
 ) -> Result<Seq<u8>, NoMemory>
     requires { texts.IsKnownFault meta.now fault.now }
-    ensures { IfOk result (λ text. text ≡ texts.line (texts.content_words meta.now path.now fault.now)) }
+    ensures { IfOk result (λ text. text ≡ lines.line (texts.content_words meta.now path.now fault.now)) }
 {
     match fault {
         ModelFault::UnknownClass { name } => {
@@ -303,7 +273,7 @@ fn json_fault_text<'a>(
     fault: &'a JsonFault,
 ) -> Result<Seq<u8>, NoMemory>
     requires { texts.IsKnownJsonFault meta.now fault.now }
-    ensures { IfOk result (λ text. text ≡ texts.line (texts.json_words meta.now path.now fault.now)) }
+    ensures { IfOk result (λ text. text ≡ lines.line (texts.json_words meta.now path.now fault.now)) }
 {
     match fault {
         JsonFault::Syntax => line(alloc, b"refused", &[path, b"Syntax"]),
@@ -314,7 +284,7 @@ fn json_fault_text<'a>(
 
 /// What is printed of a file in which so many objects, and not one, are top Packages.
 fn package_text(alloc: Global, path: &[u8], number: u32) -> Result<Seq<u8>, NoMemory>
-    ensures { IfOk result (λ text. text ≡ texts.line (texts.package_words path.now (decimal number))) }
+    ensures { IfOk result (λ text. text ≡ lines.line (texts.package_words path.now (decimal number))) }
 {
     let number = format!(in alloc; "{number}")?;
     refused_line(alloc, path, b"NoPackage", number.as_bytes())

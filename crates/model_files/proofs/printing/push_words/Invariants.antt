@@ -1,7 +1,0 @@
-use Rattle.std.proofs.Common.{◌≡◌, ◌++◌, drop, map}
-use Rattle.model_files.specs.FaultTexts.{behind}
-use Rattle.model_files.proofs.printing.push_words.Given as goal
-
--- the text, and the words that are left, are the text at first and all words
-abbrev pub invariant-loop-word : goal.invariant-loop-word
-invariant-loop-word l = l.text.items ++ behind (map (λ w. w.now) (drop l.word-index l.words)) ≡ l.initial.text.items ++ behind (map (λ w. w.now) l.words)
