@@ -1,4 +1,4 @@
--- A conversion has one reply, up to which of a file's faults is told.
+-- A conversion has at most one reply.
 use Rattle.std.proofs.Common.{◌≡◌, ℕ, ◌<◌, ◌≤◌, Bool, true, false, List, length, refl, sym, ◌∙◌, ap, subst, arith, Option, Some, None}
 use Rattle.std.specs.FinMap.{get}
 use Rattle.vault_io.specs.Files.{Files}
@@ -10,12 +10,11 @@ use Rattle.model_files.specs.declared.fault.FileError.{FileError}
 use Rattle.model_files.specs.FaultTexts.{is_limit, error_text}
 use Rattle.model_files.specs.Emof.{emof}
 use Rattle.model_files.specs.Files.{FileSpells, IsFileError, IsTold, MetaSpells, IsMetaFileError}
-use Rattle.qvtr_engine.specs.Alike.{AreAlike, same, faults}
 use Rattle.qvtr_engine.specs.ConvertAnswer.{ConvertAnswer, IsConverted, IsMetamodelAt, IsModelAt, text_in, metamodel_stops, model_stops, output_long, put}
 use Rattle.qvtr_engine.specs.ConvertWords.{ConvertWords}
 use Rattle.qvtr_engine.specs.FileStops.{HasFile, HasShortFile, Unloaded, missing, long, Stops, unloaded, misread}
 use Rattle.qvtr_engine.specs.Reply.{Reply, faulty, too_long, converted}
-use Rattle.qvtr_engine.proofs.FileLaws.{one_model, one_meta, no_error, no_error_of_meta, same_limits, same_limits_of_meta}
+use Rattle.qvtr_engine.proofs.FileLaws.{one_model, one_meta, no_error, no_error_of_meta, one_told, one_told_of_meta, described_well}
 
 -- ---- a path has one file
 
@@ -35,9 +34,9 @@ not_long files path a b x l y =
 
 -- ---- what stops at a file
 
--- two errors of the same bytes agree on limits
-abbrev Agree : (List ℕ → FileError → Type 0) → Type 0
-Agree IsError = (bytes : List ℕ) (e f : FileError) → IsTold e → IsTold f → IsError bytes e → IsError bytes f → is_limit e ≡ is_limit f
+-- one error is told of bytes
+abbrev HasOne : (List ℕ → FileError → Type 0) → Type 0
+HasOne IsError = (bytes : List ℕ) (e f : FileError) → IsTold e → IsTold f → IsError bytes e → IsError bytes f → e ≡ f
 
 unloaded_single : (files : Files) (path : List ℕ) (reply other : Reply) → Unloaded files path reply → Unloaded files path other → reply ≡ other
 unloaded_single files path reply other (missing e) (missing f) = refl
@@ -49,14 +48,14 @@ not_unloaded : (files : Files) (path bytes : List ℕ) (reply : Reply) → HasSh
 not_unloaded files path bytes reply h (missing e) = no_file bytes (sym e ∙ h.file)
 not_unloaded files path bytes reply h (long a x l) = not_long files path a bytes x l h
 
-stops_single : (files : Files) (path : List ℕ) (meta : MetaDesc) (IsError : List ℕ → FileError → Type 0) (reply other : Reply) → Agree IsError
-    → Stops files path meta IsError reply → Stops files path meta IsError other → AreAlike reply other
-stops_single files path meta IsError reply other agree (unloaded r x) (unloaded o y) = same (unloaded_single files path r o x y)
-stops_single files path meta IsError reply other agree (unloaded r x) (misread bytes h e t y) = absurd (not_unloaded files path bytes r h x)
-stops_single files path meta IsError reply other agree (misread bytes h e t y) (unloaded o x) = absurd (not_unloaded files path bytes o h x)
-stops_single files path meta IsError reply other agree (misread a h e t x) (misread b k f u y) =
+stops_single : (files : Files) (path : List ℕ) (meta : MetaDesc) (IsError : List ℕ → FileError → Type 0) (reply other : Reply) → HasOne IsError
+    → Stops files path meta IsError reply → Stops files path meta IsError other → reply ≡ other
+stops_single files path meta IsError reply other one (unloaded r x) (unloaded o y) = unloaded_single files path r o x y
+stops_single files path meta IsError reply other one (unloaded r x) (misread bytes h e t y) = absurd (not_unloaded files path bytes r h x)
+stops_single files path meta IsError reply other one (misread bytes h e t y) (unloaded o x) = absurd (not_unloaded files path bytes o h x)
+stops_single files path meta IsError reply other one (misread a h e t x) (misread b k f u y) =
     let there : IsError a f = subst (λ z. IsError z f) (one_file files path b a k.file h.file) y in
-    faults (is_limit e) (error_text meta path e) (error_text meta path f) refl (ap (λ l. faulty l (error_text meta path f)) (sym (agree a e f t u x there)))
+    ap (λ error. faulty (is_limit error) (error_text meta path error)) (one a e f t u x there)
 
 -- bytes of which no error is told stop nothing
 no_stop : (files : Files) (path bytes : List ℕ) (meta : MetaDesc) (IsError : List ℕ → FileError → Type 0) (reply : Reply) → HasShortFile files path bytes
@@ -105,23 +104,23 @@ both_lengths files c a b x l y m =
 
 -- ---- the reply
 
-pub convert_answer_single : (files : Files) (c : ConvertWords) (reply other : Reply) → ConvertAnswer files c reply → ConvertAnswer files c other → AreAlike reply other
+pub convert_answer_single : (files : Files) (c : ConvertWords) (reply other : Reply) → ConvertAnswer files c reply → ConvertAnswer files c other → reply ≡ other
 convert_answer_single files c reply other (metamodel_stops r x) (metamodel_stops o y) =
-    stops_single files c.metamodel emof IsMetaFileError r o same_limits_of_meta x y
+    stops_single files c.metamodel emof IsMetaFileError r o one_told_of_meta x y
 convert_answer_single files c reply other (metamodel_stops r x) (model_stops meta at o y) = absurd (metamodel_goes_on files c.metamodel meta r at x)
 convert_answer_single files c reply other (metamodel_stops r x) (output_long m named l) = absurd (metamodel_goes_on files c.metamodel named.meta r named.metamodel x)
 convert_answer_single files c reply other (metamodel_stops r x) (put m named l) = absurd (metamodel_goes_on files c.metamodel named.meta r named.metamodel x)
 convert_answer_single files c reply other (model_stops meta at r x) (metamodel_stops o y) = absurd (metamodel_goes_on files c.metamodel meta o at y)
 convert_answer_single files c reply other (model_stops meta at r x) (model_stops desc there o y) =
-    stops_single files c.model meta (IsFileError meta externs.None) r o (λ bytes. same_limits meta externs.None bytes) x
+    stops_single files c.model meta (IsFileError meta externs.None) r o (λ bytes. one_told meta externs.None bytes (described_well (at.0) meta at.2)) x
     (subst (λ d. Stops files c.model d (IsFileError d externs.None) o) (one_metamodel_at files c.metamodel desc meta there at) y)
 convert_answer_single files c reply other (model_stops meta at r x) (output_long m named l) = absurd (stops_at_model files c meta m r at x named)
 convert_answer_single files c reply other (model_stops meta at r x) (put m named l) = absurd (stops_at_model files c meta m r at x named)
 convert_answer_single files c reply other (output_long m named l) (metamodel_stops o y) = absurd (metamodel_goes_on files c.metamodel named.meta o named.metamodel y)
 convert_answer_single files c reply other (output_long m named l) (model_stops meta at o y) = absurd (stops_at_model files c meta m o at y named)
-convert_answer_single files c reply other (output_long m named l) (output_long k also n) = same refl
+convert_answer_single files c reply other (output_long m named l) (output_long k also n) = refl
 convert_answer_single files c reply other (output_long m named l) (put k also n) = absurd (both_lengths files c m k named l also n)
 convert_answer_single files c reply other (put m named l) (metamodel_stops o y) = absurd (metamodel_goes_on files c.metamodel named.meta o named.metamodel y)
 convert_answer_single files c reply other (put m named l) (model_stops meta at o y) = absurd (stops_at_model files c meta m o at y named)
 convert_answer_single files c reply other (put m named l) (output_long k also n) = absurd (both_lengths files c k m also n named l)
-convert_answer_single files c reply other (put m named l) (put k also n) = same (ap (λ text. converted c.output text) (one_text files c m k named also))
+convert_answer_single files c reply other (put m named l) (put k also n) = ap (λ text. converted c.output text) (one_text files c m k named also)

@@ -1,7 +1,8 @@
 -- What files are, and which errors are told of them.
-use Rattle.std.proofs.Common.{◌≡◌, ℕ, ◌≤◌, Bool, true, false, List, [], refl}
+use Rattle.std.proofs.Common.{◌≡◌, ℕ, ◌≤◌, List}
 use Rattle.mof_metamodel.specs.declared.desc.MetaDesc.{MetaDesc}
 use Rattle.mof_metamodel.specs.declared.limits.TheConstants.{MAX_DEPTH}
+use Rattle.mof_metamodel.specs.WellMeta.{WellMeta}
 use Rattle.object_tables.specs.Containment.{IsDepth}
 use Rattle.object_tables.specs.Models.{ModelData, IsLive}
 use Rattle.object_tables.specs.Validity.{Valid}
@@ -10,10 +11,11 @@ use Rattle.model_files.specs.declared.fault.FileError.{FileError}
 use Rattle.model_files.specs.declared.file_form.Form.{Form}
 use Rattle.model_files.specs.declared.file_form.Form.TheVariants.{Xmi, Json}
 use Rattle.model_files.specs.FileForm.{form_of}
-use Rattle.model_files.specs.FaultTexts.{is_limit}
 use Rattle.model_files.specs.Files.{FileSpells, IsFileError, IsTold, MetaSpells, IsMetaFileError, SpellsIn}
-use Rattle.model_files.proofs.FileLaws.{one_in, no_error_in, same_limit_in}
-use Rattle.model_files.proofs.MetaFileLaws.{one_metamodel, no_meta_error, same_limit_of_metamodel}
+use Rattle.model_files.proofs.EmofLaws.{emof_is_well}
+use Rattle.model_files.proofs.FileLaws.{one_in, no_error_in}
+use Rattle.model_files.proofs.MetaFileLaws.{one_metamodel, no_meta_error}
+use Rattle.model_files.proofs.OneErrorLaws.{one_error_in, one_error_of_metamodel}
 
 -- what is kept by the model of a file
 valid_in : (meta : MetaDesc) (outside : Externs) (bytes : List ℕ) (form : Form) (m : ModelData) → SpellsIn meta outside bytes form m → Valid m
@@ -46,10 +48,14 @@ no_error meta outside bytes m e x told y = told (no_error_in meta outside bytes 
 pub no_error_of_meta : (bytes : List ℕ) (desc : MetaDesc) (e : FileError) → MetaSpells bytes desc → IsTold e → IsMetaFileError bytes e → ⊥
 no_error_of_meta bytes desc e x told y = told (no_meta_error bytes desc x e y)
 
--- two errors agree on limits
-pub same_limits : (meta : MetaDesc) (outside : Externs) (bytes : List ℕ) (e f : FileError) → IsTold e → IsTold f
-    → IsFileError meta outside bytes e → IsFileError meta outside bytes f → is_limit e ≡ is_limit f
-same_limits meta outside bytes e f t u x y = same_limit_in meta outside bytes (form_of bytes) e f t u x y
+-- one error is told
+pub one_told : (meta : MetaDesc) (outside : Externs) (bytes : List ℕ) → WellMeta meta → (e f : FileError) → IsTold e → IsTold f
+    → IsFileError meta outside bytes e → IsFileError meta outside bytes f → e ≡ f
+one_told meta outside bytes well e f t u x y = one_error_in meta outside bytes well (form_of bytes) e f t u x y
 
-pub same_limits_of_meta : (bytes : List ℕ) (e f : FileError) → IsTold e → IsTold f → IsMetaFileError bytes e → IsMetaFileError bytes f → is_limit e ≡ is_limit f
-same_limits_of_meta = same_limit_of_metamodel
+pub one_told_of_meta : (bytes : List ℕ) (e f : FileError) → IsTold e → IsTold f → IsMetaFileError bytes e → IsMetaFileError bytes f → e ≡ f
+one_told_of_meta = one_error_of_metamodel emof_is_well
+
+-- a metamodel that is read is well formed
+pub described_well : (bytes : List ℕ) (desc : MetaDesc) → MetaSpells bytes desc → WellMeta desc
+described_well bytes desc h = h.describes.well

@@ -14,5 +14,6 @@ pub mod StopLaws
 pub mod FileLaws
 pub mod ConvertingLaws
 pub mod ConvertAnswerLaws
+pub mod ConvertAnsweredLaws
 pub mod AnswerLaws
 pub mod RunLaws

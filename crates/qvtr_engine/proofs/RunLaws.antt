@@ -24,7 +24,7 @@ use Rattle.qvtr_engine.specs.Outcome.{reply_of_stop, reply_of_outcome, Finishes,
 use Rattle.qvtr_engine.specs.Reply.{Reply, misused, unread, refused, faulty, too_long, holds, fails, converted, status_of, text_of, done_text, fault_text, no_memory_text}
 use Rattle.qvtr_engine.specs.Run.{Due, answered, starved, faulted_at, faulted_after, Ends, printed, cut_off, IsPut, KeepsFiles, IsAnswered, HasCause, IsOwed, HasConverted}
 use Rattle.qvtr_engine.specs.Stops.{reply_of_verdict, Gives, StoppedBy, Stopped}
-use Rattle.qvtr_engine.proofs.AnswerLaws.{answer_single, alike_status}
+use Rattle.qvtr_engine.proofs.AnswerLaws.{answer_single}
 use Rattle.qvtr_engine.proofs.CheckAnswerLaws.{check_answer_found}
 use Rattle.qvtr_engine.proofs.CommandLaws.{one_command, no_command_usage}
 use Rattle.qvtr_engine.specs.Command.{IsUsage, command_of}
@@ -165,7 +165,7 @@ all_cause told words vf sf before after told_after result e = if_some_map told _
 
 due_only : (words : List (List ℕ)) (files : Files) (faulted : Type 0) (status : Status) (text : List ℕ) (then : Files) (owed : Reply)
     → Due words files faulted status text then → Answer words files owed → IsOwed (status_of owed) faulted status
-due_only words files faulted status text then owed (answered reply a) b = inl (alike_status reply owed (answer_single words files reply owed a b))
+due_only words files faulted status text then owed (answered reply a) b = inl (ap status_of (answer_single words files reply owed a b))
 due_only words files faulted NoMemory text then owed starved b = inr (inl refl)
 due_only words files faulted Fault text then owed (faulted_at f path p) b = inr (inr (refl, f))
 due_only words files faulted Fault text then owed (faulted_after f path bytes a) b = inr (inr (refl, f))

@@ -7,7 +7,6 @@ pub mod ThinModel
 pub mod Verdict
 pub mod Reply
 pub mod Answer
-pub mod Alike
 pub mod Reading
 pub mod Arguments
 pub mod ArgumentsView

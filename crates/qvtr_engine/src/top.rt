@@ -2,7 +2,6 @@ ghost use Rattle.std.specs.Prelude.{◌≡◌, ◌≤◌, ◌⊎◌, List, ℕ, 
 ghost use Rattle.vault_io.specs.Counts.{Rose};
 ghost use Rattle.mof_metamodel.specs.declared.limits.TheConstants.{MAX_FILE};
 ghost use Rattle.object_tables.specs.Models.{ModelData};
-ghost use Rattle.qvtr_engine.specs.Alike.{AreAlike};
 ghost use Rattle.qvtr_engine.specs.Answer.{Answer, HasOneAnswer};
 ghost use Rattle.qvtr_engine.specs.CheckWords.{CheckWords, IsCheck};
 ghost use Rattle.qvtr_engine.specs.Command.{IsUsage};
@@ -22,14 +21,16 @@ use crate::status::Status;
 use std::alloc::Global;
 use vault_io::{Sink, Vault};
 
-/// Over files that are told, words have one answer at most, up to which fault of a file is told; those that are no command have the answer
-/// that says so, and those of `check` have exactly one. It does nothing: its contract is this law.
+/// Over files that are told, words have one answer at most; those that are no command have the answer that says so, and those of `check`
+/// and of `convert` have exactly one. It does nothing: its contract is this law.
 pub fn one_answer<F: Vault>(words: &[String], vault: &F)
     ensures usage { IfSome (F.files vault.now) (λ files. IsUsage (map string_bytes words.now) → Answer (map string_bytes words.now) files misused) }
     ensures checks { IfSome (F.files vault.now) (λ files. (w : CheckWords) → IsCheck (map string_bytes words.now) w →
         HasOneAnswer (map string_bytes words.now) files) }
+    ensures conversions { IfSome (F.files vault.now) (λ files. (c : ConvertWords) → IsConvert (map string_bytes words.now) c →
+        HasOneAnswer (map string_bytes words.now) files) }
     ensures single { IfSome (F.files vault.now) (λ files. (reply other : Reply)
-        → Answer (map string_bytes words.now) files reply → Answer (map string_bytes words.now) files other → AreAlike reply other) }
+        → Answer (map string_bytes words.now) files reply → Answer (map string_bytes words.now) files other → reply ≡ other) }
 {
     let _ = words;
     let _ = vault;
