@@ -1,8 +1,7 @@
 use crate::scripts::put_script;
 use case_texts::{Pen, expanded};
 use mof_metamodel::{NoMemory, Text};
-use ql_lex::{LexError, Tokens, lex};
-use qvtr_parser::{ParseError, parse_script};
+use script_files::{ScriptError, read_script, script_fault_text};
 use std::alloc::Global;
 
 /// Each line that is a case, with its answer.
@@ -27,32 +26,24 @@ fn answer_line(alloc: Global, pen: &mut Pen, line: &str) -> Result<(), NoMemory>
 
 /// What is told of a text.
 fn put_answer(alloc: Global, pen: &mut Pen, bytes: &[u8]) {
-    let tokens = lex(alloc, bytes);
-    match &tokens {
-        Ok(tokens) => put_parsed(alloc, pen, tokens),
-        Err(LexError::Fault(fault)) => put_placed(alloc, pen, fault.kind.word(), fault.at),
-        Err(LexError::NoMemory) => pen.put("no memory"),
-    }
-}
-
-fn put_parsed(alloc: Global, pen: &mut Pen, tokens: &Tokens<'_>) {
-    let parsed = parse_script(alloc, tokens);
-    match &parsed {
+    let read = read_script(alloc, bytes);
+    match &read {
         Ok(script) => put_script(pen, script),
         Err(error) => put_fault(alloc, pen, error),
     }
 }
 
-/// A fault of the grammar: its kind and its place.
-fn put_fault(alloc: Global, pen: &mut Pen, error: &ParseError) {
-    match error {
-        ParseError::Parse { at } | ParseError::Limit { at } => {
-            put_placed(alloc, pen, error.word(), *at);
-        }
-        ParseError::NoMemory => pen.put("no memory"),
+/// What is printed of an error, without the line feed at its end.
+fn put_fault(alloc: Global, pen: &mut Pen, error: &ScriptError) {
+    match script_fault_text(alloc, "s.qvtr", error) {
+        Ok(text) => put_line(pen, text.as_slice()),
+        Err(NoMemory) => pen.put("no memory"),
     }
 }
 
-fn put_placed(alloc: Global, pen: &mut Pen, word: &str, at: usize) {
-    pen.put_string(&format!(in alloc; "{word} {at}"));
+fn put_line(pen: &mut Pen, line: &[u8]) {
+    match str::from_utf8(line) {
+        Ok(text) => pen.put(text.trim_end_matches('\n')),
+        Err(_) => pen.put("no text"),
+    }
 }

@@ -1,5 +1,5 @@
 //! Cases of scripts, from their text to their tree. They stand in the standard input, a line each, and each is printed again
-//! with its answer behind ` => `: the script in short, or the fault with its place in bytes. In a line `%` and two
+//! with its answer behind ` => `: the script in short, or the line that is printed of its fault. In a line `%` and two
 //! hexadecimal digits are a byte, and `%[3 ab]` is `ababab`. Lines that are empty or begin with `#` are passed over.
 //!
 //! In short, a script is its name and its models, then each declaration behind a `;`: a key with its class and its

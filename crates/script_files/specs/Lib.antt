@@ -1,0 +1,3 @@
+pub mod ScriptErrors
+pub mod Scripts
+pub mod ScriptTexts
