@@ -38,7 +38,7 @@ use Rattle.qvtr_types.proofs.LocatedLaws.{located_piece, piece_located}
 
 -- ---- numbers of names
 
-number_at : (names : List (List ℕ)) (v : List ℕ) (n : ℕ) → position (same_name v) names ≡ Some n → slice_get names n ≡ Some v
+pub number_at : (names : List (List ℕ)) (v : List ℕ) (n : ℕ) → position (same_name v) names ≡ Some n → slice_get names n ≡ Some v
 number_at names v n h = by (nat_lt (position_or_len (same_name v) names) (length names)) refl h
   where
     by : (b : Bool) → nat_lt (position_or_len (same_name v) names) (length names) ≡ b → cond b (Some (position_or_len (same_name v) names)) None ≡ Some n → slice_get names n ≡ Some v
@@ -48,7 +48,7 @@ number_at names v n h = by (nat_lt (position_or_len (same_name v) names) (length
         ap (slice_get names) (sym (same_Some (position_or_len (same_name v) names) n g)) ∙ slice_get-get_or names (position_or_len (same_name v) names) v below
         ∙ ap Some (sym (same_is v (get_or names (position_or_len (same_name v) names) v) (passes_at_first (same_name v) names v below)))
 
-number_had : (names : List (List ℕ)) (v : List ℕ) → Contains names v → position (same_name v) names ≡ Some (position_or_len (same_name v) names)
+pub number_had : (names : List (List ℕ)) (v : List ℕ) → Contains names v → position (same_name v) names ≡ Some (position_or_len (same_name v) names)
 number_had names v c = ap (λ (b : Bool). cond b (Some (position_or_len (same_name v) names)) None) (lt-ltb (position_or_len (same_name v) names) (length names) (first_below v names c))
 
 module _ (types : NamesWith Ty) where
@@ -145,16 +145,16 @@ module _ (target : List ℕ) (r : RelationTree) where
   abbrev universal : List (List ℕ)
   universal = each_once (universal_names target r)
 
-  among_universal : (v : List ℕ) → is_among universal true v ≡ true → IsUniversal target r v
+  pub among_universal : (v : List ℕ) → is_among universal true v ≡ true → IsUniversal target r v
   among_universal v h = listed_universal target r v (has_once (universal_names target r) v (has_name universal v h))
 
-  universal_among : (v : List ℕ) → IsUniversal target r v → is_member same_name universal v ≡ true
+  pub universal_among : (v : List ℕ) → IsUniversal target r v → is_member same_name universal v ≡ true
   universal_among v u = name_had universal v (once_has (universal_names target r) v (universal_listed target r v u))
 
-  among_existential : (v : List ℕ) → is_among universal false v ≡ true → ¬ IsUniversal target r v
+  pub among_existential : (v : List ℕ) → is_among universal false v ≡ true → ¬ IsUniversal target r v
   among_existential v h u = true≢false (sym (universal_among v u) ∙ not_true (is_member same_name universal v) h)
 
-  existential_among : (v : List ℕ) → ¬ IsUniversal target r v → is_among universal false v ≡ true
+  pub existential_among : (v : List ℕ) → ¬ IsUniversal target r v → is_among universal false v ≡ true
   existential_among v h = by (is_member same_name universal v) refl
     where
       by : (b : Bool) → is_member same_name universal v ≡ b → not (is_member same_name universal v) ≡ true

@@ -1,16 +1,17 @@
 -- What an expression is split into, form by form.
 use Rattle.std.proofs.Common.{◌≡◌, ℕ, ◌+◌, ◌<◌, List, [], ◌∷◌, ◌++◌, Bor, Bool, true, false, ◌&&◌, cond, map, take, length, get_or, refl, sym, ◌∙◌, ap, subst, append-nil}
+use Rattle.std.specs.Prelude.{Option, None}
 use Rattle.std.specs.List.{flat_map, list_all}
 use Rattle.std.proofs.lemmas.Grind.{flat_map-append}
 use Rattle.std.proofs.lemmas.List.{take_more, map-append}
 use Rattle.mof_metamodel.specs.declared.span.Span.{Span}
-use Rattle.qv_syntax.specs.declared.expr.Expr.{Expr, roll-Expr, map-Expr, rec-roll-Expr, ind-Expr}
+use Rattle.qv_syntax.specs.declared.expr.Expr.{Expr, roll-Expr, map-Expr, rec-roll-Expr, fold-roll-Expr, ind-Expr}
 use Rattle.qv_syntax.specs.declared.expr.Infix.{Infix, map-Infix, rec-roll-Infix}
 use Rattle.qv_syntax.specs.declared.expr.Postfix.{Postfix}
 use Rattle.qv_syntax.specs.declared.expr.Args.{Args}
 use Rattle.qv_syntax.specs.declared.expr.Args.TheOpen as of
 use Rattle.qv_syntax.specs.declared.expr.Expr.TheVariants as exprs
-use Rattle.qvtr_types.specs.Conjuncts.{Splitting, BehindOperator, is_and, conjuncts_rule, splitting, behind, conjuncts}
+use Rattle.qvtr_types.specs.Conjuncts.{alone_step, name_alone, Splitting, BehindOperator, is_and, conjuncts_rule, splitting, behind, conjuncts}
 
 list_all_mapped : {X Y : Type 0} (v : X → Y) (test : Y → Bool) (xs : List X) → list_all (λ x. test (v x)) xs ≡ list_all test (map v xs)
 list_all_mapped v test [] = refl
@@ -37,7 +38,8 @@ module _ (X X' X'' X3 : Type 0) (v : X → Args) (v' : X' → Expr) (v'' : X'' �
       (flat_mapped v3 (λ l. (k3 l).conjuncts) rest)
   expr_seen (of.Not operand span) = refl
   expr_seen (of.Negated operand span) = refl
-  expr_seen (of.Calls part calls span) = refl
+  expr_seen (of.Calls part [] span) = refl
+  expr_seen (of.Calls part (call ∷ calls) span) = refl
   expr_seen (of.Number value span) = refl
   expr_seen (of.Str value span) = refl
   expr_seen (of.Bool value span) = refl
@@ -63,7 +65,7 @@ behind_is l = rec-roll-Infix (Unit {1}) Splitting (Unit {1}) BehindOperator _ _ 
 -- ---- each form
 
 -- by a form's layer
-by_layer : (d : of.Expr-F Args Expr Postfix Infix) (e : Expr) → roll-Expr d ≡ e → conjuncts e ≡ conjuncts_rule (λ x. x) splitting behind d e
+pub by_layer : (d : of.Expr-F Args Expr Postfix Infix) (e : Expr) → roll-Expr d ≡ e → conjuncts e ≡ conjuncts_rule (λ x. x) splitting behind d e
 by_layer d e is = ap (λ (s : Splitting). s.of e) (ap splitting (sym is) ∙ split d)
 
 pub and_behind : (l : Infix) → (behind l).is_and ≡ is_and l.operator
@@ -78,6 +80,19 @@ conjuncts-Chain first rest span = by_layer (of.Chain first rest span) (exprs.Cha
 
 pub conjuncts-Parens : (inner : Expr) (span : Span) → conjuncts (exprs.Parens inner span) ≡ conjuncts inner
 conjuncts-Parens inner span = by_layer (of.Parens inner span) (exprs.Parens inner span) (exprs.rolls-Parens inner span)
+
+pub conjuncts-Calls : (part : Expr) (span : Span) → conjuncts (exprs.Calls part [] span) ≡ conjuncts part
+conjuncts-Calls part span = by_layer (of.Calls part [] span) (exprs.Calls part [] span) (exprs.rolls-Calls part [] span)
+
+pub called_alone : (e part : Expr) (calls : List Postfix) (span : Span) → e ≡ exprs.Calls part calls span → (calls ≡ [] → ⊥) → conjuncts e ≡ e ∷ []
+called_alone e part [] span is some = absurd (some refl)
+called_alone e part (call ∷ calls) span is some = by_layer (of.Calls part (call ∷ calls) span) e (exprs.rolls-Calls part (call ∷ calls) span ∙ sym is)
+
+-- what is called on a part is no variable
+pub called_nameless : (e part : Expr) (calls : List Postfix) (span : Span) → e ≡ exprs.Calls part calls span → (calls ≡ [] → ⊥) → name_alone e ≡ None
+called_nameless e part [] span is some = absurd (some refl)
+called_nameless e part (call ∷ calls) span is some = ap name_alone (is ∙ sym (exprs.rolls-Calls part (call ∷ calls) span))
+    ∙ fold-roll-Expr (Unit {0}) (Option (List ℕ)) (Unit {0}) (Unit {0}) (λ a. tt) alone_step (λ p. tt) (λ i. tt) (of.Calls part (call ∷ calls) span)
 
 -- ---- references to conjuncts
 
@@ -116,15 +131,16 @@ layered : (e : Expr) → (d : of.Expr-F Args Expr Postfix Infix) × (roll-Expr d
 layered = ind-Expr (λ a. Unit {0}) (λ e. (d : of.Expr-F Args Expr Postfix Infix) × (roll-Expr d ≡ e)) (λ p. Unit {0}) (λ l. Unit {0})
     (λ x y is. tt) (λ x y is. (x, refl)) (λ x y is. tt) (λ x y is. tt)
 
-pub other_alone : (e : Expr) → ((f : Expr) (r : List Infix) (s : Span) → e ≡ exprs.Chain f r s → ⊥) → ((i : Expr) (s : Span) → e ≡ exprs.Parens i s → ⊥) → conjuncts e ≡ e ∷ []
-other_alone e no_chain no_parens = let (d, is) = layered e in by d is
+pub other_alone : (e : Expr) → ((f : Expr) (r : List Infix) (s : Span) → e ≡ exprs.Chain f r s → ⊥) → ((i : Expr) (s : Span) → e ≡ exprs.Parens i s → ⊥)
+    → ((p : Expr) (ks : List Postfix) (s : Span) → e ≡ exprs.Calls p ks s → ⊥) → conjuncts e ≡ e ∷ []
+other_alone e no_chain no_parens no_calls = let (d, is) = layered e in by d is
   where
     by : (d : of.Expr-F Args Expr Postfix Infix) → roll-Expr d ≡ e → conjuncts e ≡ e ∷ []
     by (of.Let n ty value body span) is = by_layer (of.Let n ty value body span) e is
     by (of.Chain first rest span) is = absurd (no_chain first rest span (sym is ∙ exprs.rolls-Chain first rest span))
     by (of.Not operand span) is = by_layer (of.Not operand span) e is
     by (of.Negated operand span) is = by_layer (of.Negated operand span) e is
-    by (of.Calls part calls span) is = by_layer (of.Calls part calls span) e is
+    by (of.Calls part calls span) is = absurd (no_calls part calls span (sym is ∙ exprs.rolls-Calls part calls span))
     by (of.Number value span) is = by_layer (of.Number value span) e is
     by (of.Str value span) is = by_layer (of.Str value span) e is
     by (of.Bool value span) is = by_layer (of.Bool value span) e is

@@ -31,7 +31,7 @@ get_right : (xs ys : Names) (k : ℕ) (x : List ℕ) → slice_get ys k ≡ Some
 get_right [] ys k x h = (k, omega arith, h)
 get_right (w ∷ xs) ys k x h = let (j, e, g) = get_right xs ys k x h in (suc j, omega (arith, e), g)
 
-repeated_left : (xs ys : Names) (n : List ℕ) → IsRepeated xs n → IsRepeated (xs ++ ys) n
+pub repeated_left : (xs ys : Names) (n : List ℕ) → IsRepeated xs n → IsRepeated (xs ++ ys) n
 repeated_left xs ys n h = record { first = h.first; second = h.second; order = h.order; one = get_left xs ys h.first n h.one; other = get_left xs ys h.second n h.other }
 
 repeated_right : (xs ys : Names) (n : List ℕ) → IsRepeated ys n → IsRepeated (xs ++ ys) n

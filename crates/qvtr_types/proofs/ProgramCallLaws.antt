@@ -22,21 +22,21 @@ use Rattle.qvtr_types.specs.Conjuncts.{clause_conjuncts, call_of, equation_of, c
 use Rattle.qvtr_types.specs.Divisions.{IsWhenEquation, IsWhereEquation}
 use Rattle.qvtr_types.specs.Occurrences.{relations_of}
 use Rattle.qvtr_types.specs.Declarations.{relation_names, IsRepeated}
-use Rattle.qvtr_types.specs.Directions.{CallsIn, IsPath, IsStratum}
+use Rattle.qvtr_types.specs.Directions.{CallsIn, IsPath}
 use Rattle.qvtr_types.specs.Environments.{Setting}
 use Rattle.qvtr_types.specs.Resolutions.{IsData, IsConjunct, AreConjuncts, IsRelation}
 use Rattle.qvtr_types.proofs.CallRowLaws.{within_some, some_among, among_some, named_by, number_by}
 
 -- ---- lists item by item
 
-zip_left : {A B : Type 0} (R : A → B → Type 0) (xs : List A) (ys : List B) → AllZip R xs ys → (k : ℕ) (x : A) → slice_get xs k ≡ Some x → (y : B) × (slice_get ys k ≡ Some y) × R x y
+pub zip_left : {A B : Type 0} (R : A → B → Type 0) (xs : List A) (ys : List B) → AllZip R xs ys → (k : ℕ) (x : A) → slice_get xs k ≡ Some x → (y : B) × (slice_get ys k ≡ Some y) × R x y
 zip_left R [] [] all k x found = absurd (none-some x found)
 zip_left R [] (y ∷ ys) all k x found = absurd (none-some x found)
 zip_left R (z ∷ xs) [] all k x found = absurd all
 zip_left R (z ∷ xs) (y ∷ ys) all zero x found = (y, refl, subst (λ w. R w y) (same_Some z x found) all.0)
 zip_left R (z ∷ xs) (y ∷ ys) all (suc k) x found = zip_left R xs ys all.1 k x found
 
-zip_right : {A B : Type 0} (R : A → B → Type 0) (xs : List A) (ys : List B) → AllZip R xs ys → (k : ℕ) (y : B) → slice_get ys k ≡ Some y → (x : A) × (slice_get xs k ≡ Some x) × R x y
+pub zip_right : {A B : Type 0} (R : A → B → Type 0) (xs : List A) (ys : List B) → AllZip R xs ys → (k : ℕ) (y : B) → slice_get ys k ≡ Some y → (x : A) × (slice_get xs k ≡ Some x) × R x y
 zip_right R [] [] all k y found = absurd (none-some y found)
 zip_right R (z ∷ xs) [] all k y found = absurd (none-some y found)
 zip_right R [] (z ∷ ys) all k y found = absurd all
@@ -46,7 +46,7 @@ zip_right R (x ∷ xs) (z ∷ ys) all (suc k) y found = zip_right R xs ys all.1 
 -- ---- conjuncts
 
 -- no conjunct is both an equation and a call
-apart : (layer : of.Expr-F Args Expr Postfix Infix) (p : List ℕ × Expr) (q : List ℕ × List Expr) → equation_in layer ≡ Some p → call_in layer ≡ Some q → ⊥
+pub apart : (layer : of.Expr-F Args Expr Postfix Infix) (p : List ℕ × Expr) (q : List ℕ × List Expr) → equation_in layer ≡ Some p → call_in layer ≡ Some q → ⊥
 apart (of.Chain first rest span) p q e c = none-some q c
 apart layer p q e c = none-some p e
 
@@ -106,10 +106,10 @@ module _ (s : Setting) (once : (name : List ℕ) → IsRepeated (relation_names 
 -- ---- paths and strata
 
 module _ (s : Setting) (once : (name : List ℕ) → IsRepeated (relation_names s.script) name → ⊥) (program : Program) (are : AllZip (IsRelation s) (relations_of s.script) program.rels) where
-  when_from : (r : RelationTree) (rel : Rel) → IsRelation s r rel → (number : ℕ) → programs.CallsIn rel.whens number → (called : RelationTree) × (slice_get (relations_of s.script) number ≡ Some called) × CallsIn s.script r.when called
+  pub when_from : (r : RelationTree) (rel : Rel) → IsRelation s r rel → (number : ℕ) → programs.CallsIn rel.whens number → (called : RelationTree) × (slice_get (relations_of s.script) number ≡ Some called) × CallsIn s.script r.when called
   when_from r rel is = call_from s once r rel.vars (IsWhenEquation (IsData s r) s.target r) r.when rel.whens is.whens (λ place v e q. (q.given.conjunct, q.given.found, q.given.is))
 
-  where_from : (r : RelationTree) (rel : Rel) → IsRelation s r rel → (number : ℕ) → programs.CallsIn rel.wheres number → (called : RelationTree) × (slice_get (relations_of s.script) number ≡ Some called) × CallsIn s.script r.wheres called
+  pub where_from : (r : RelationTree) (rel : Rel) → IsRelation s r rel → (number : ℕ) → programs.CallsIn rel.wheres number → (called : RelationTree) × (slice_get (relations_of s.script) number ≡ Some called) × CallsIn s.script r.wheres called
   where_from r rel is = call_from s once r rel.vars (IsWhereEquation (IsData s r) s.target r) r.wheres rel.wheres is.wheres (λ place v e q. (q.given.conjunct, q.given.found, q.given.is))
 
   when_to : (r : RelationTree) (rel : Rel) → IsRelation s r rel → (number : ℕ) (called : RelationTree) → slice_get (relations_of s.script) number ≡ Some called → CallsIn s.script r.when called → programs.CallsIn rel.whens number

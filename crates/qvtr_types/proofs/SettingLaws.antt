@@ -25,7 +25,7 @@ use Rattle.qvtr_types.specs.Variables.{IsVarOf, IsModelFault}
 use Rattle.qvtr_types.specs.ScriptSettings.{shown_relations, IsOneOf}
 use Rattle.qvtr_types.proofs.NameOrderLaws.{relations_once, model_numbers}
 use Rattle.qvtr_types.proofs.TypeFaultLaws.{types_stand}
-use Rattle.qvtr_types.proofs.VariableLaws.{all_typed, mix_stands, lacking_stands, unbound_stands, are_variables, none_stands}
+use Rattle.qvtr_types.proofs.VariableLaws.{all_typed, mix_stands, lacking_stands, unbound_stands, one_list, are_variables, none_stands}
 
 module _ (env : Environment) (tables : ScriptTables) (target : List ℕ) (r : RelationTree) where
   -- over an environment that is in reach
@@ -90,6 +90,10 @@ module _ (env : Environment) (tables : ScriptTables) (target : List ℕ) (r : Re
         (subst (λ (e : Environment). typed_over e → All (HasItsModel (types_over e) models) given → (vars : List Var) → AllZip (IsVarOf (types_over e) models numbers) (variables_of r) vars
         → All (IsBoundVariable (types_over e) (universal_over s.target) s.target r) (variables_of r) → (f : TypeFault) → StandsInDeclarations s r f → ⊥) h.reach
         (λ typed own vars all bound f. none_stands s r tables.names h.models h.metas in_order numbered (shown_relations tables) h.finds once typed own vars all bound f))
+
+    pub made_one : typed_over env → (a b : List Var) → AreVariables s r a → AreVariables s r b → a ≡ b
+    made_one = subst (λ (e : Environment). typed_over e → (a b : List Var) → AreVariables s r a → AreVariables s r b → a ≡ b) h.reach
+        (λ typed. one_list s r tables.names h.models h.metas in_order numbered (shown_relations tables) h.finds once typed)
 
     -- ---- of tables that are these
 

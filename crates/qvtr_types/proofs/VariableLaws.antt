@@ -1,5 +1,5 @@
 -- Variables from the tables of types and models are those of a relation, and where each is made and nothing is refused no fault stands.
-use Rattle.std.proofs.Common.{◌≡◌, ◌≢◌, ◌<◌, ℕ, zero, suc, List, [], ◌∷◌, true, false, refl, sym, ◌∙◌, ap, subst, map, length, get_or, arith, ⊎_elim, true≢false}
+use Rattle.std.proofs.Common.{◌≡◌, ◌≢◌, ◌<◌, ℕ, zero, suc, List, [], ◌∷◌, Bool, true, false, refl, sym, ◌∙◌, ap, subst, map, length, get_or, arith, ⊎_elim, true≢false}
 use Rattle.std.specs.Prelude.{Option, Some, None, Contains, All, is_some}
 use Rattle.std.specs.List.{AllZip}
 use Rattle.std.specs.Option.{option_map_or}
@@ -22,7 +22,7 @@ use Rattle.qvtr_types.specs.ObjectModels.{HasModel, HasOneModel}
 use Rattle.qvtr_types.specs.UniversalNames.{universal_names}
 use Rattle.qvtr_types.specs.Environments.{Setting, in_script, metamodel_names, slots_of, place_of}
 use Rattle.qvtr_types.specs.Declarations.{IsRepeated, relation_names, HasVariableType}
-use Rattle.qvtr_types.specs.Resolutions.{IsVariable, IsData}
+use Rattle.qvtr_types.specs.Resolutions.{IsVariable, IsData, model_number}
 use Rattle.qvtr_types.specs.Refusals.{HasNamesInOrder}
 use Rattle.qvtr_types.specs.Faults.{domain_models, StandsInDeclarations, AreVariables}
 use Rattle.qvtr_types.specs.FirstEntries.{first_entries}
@@ -49,16 +49,24 @@ zip_weaker R Q h [] (z ∷ ys) all = absurd all
 zip_weaker R Q h (w ∷ xs) [] all = absurd all
 zip_weaker R Q h (w ∷ xs) (z ∷ ys) all = (h w z all.0, zip_weaker R Q h xs ys all.1)
 
+pub zip_one : {X Y : Type 0} (R : X → Y → Type 0) → ((x : X) (y z : Y) → R x y → R x z → y ≡ z) → (xs : List X) (ys zs : List Y) → AllZip R xs ys → AllZip R xs zs → ys ≡ zs
+zip_one R h [] [] [] all more = refl
+zip_one R h [] (y ∷ ys) zs all more = absurd all
+zip_one R h [] [] (z ∷ zs) all more = absurd more
+zip_one R h (x ∷ xs) [] zs all more = absurd all
+zip_one R h (x ∷ xs) (y ∷ ys) [] all more = absurd more
+zip_one R h (x ∷ xs) (y ∷ ys) (z ∷ zs) all more = λ i. h x y z all.0 more.0 i ∷ zip_one R h xs ys zs all.1 more.1 i
+
 -- ---- a class or not
 
-no_class : (ty : Ty) → ((m : ℕ) (class : ClassId) → ty ≢ kinds.Class m class) → class_of ty ≡ None
+pub no_class : (ty : Ty) → ((m : ℕ) (class : ClassId) → ty ≢ kinds.Class m class) → class_of ty ≡ None
 no_class ty h = by (class_of ty) refl
   where
     by : (o : Option (ℕ × ClassId)) → class_of ty ≡ o → class_of ty ≡ None
     by None e = e
     by (Some c) e = absurd (h c.0 c.1 (class_is ty c e))
 
-not_class : (ty : Ty) → class_of ty ≡ None → (m : ℕ) (class : ClassId) → ty ≢ kinds.Class m class
+pub not_class : (ty : Ty) → class_of ty ≡ None → (m : ℕ) (class : ClassId) → ty ≢ kinds.Class m class
 not_class ty none m class same = none-some (m, class) (sym none ∙ ap class_of same ∙ class_of_class m class)
 
 class_there : (ty : Ty) (m : ℕ) (class : ClassId) → ty ≡ kinds.Class m class → is_class ty ≡ true
@@ -70,6 +78,13 @@ there_class ty h = by (class_of ty) refl h
     by : (o : Option (ℕ × ClassId)) → class_of ty ≡ o → is_some o ≡ true → (c : ℕ × ClassId) × (ty ≡ kinds.Class c.0 c.1)
     by None e g = absurd (true≢false (sym g))
     by (Some c) e g = (c, class_is ty c e)
+
+no_class_there : (ty : Ty) → is_class ty ≡ false → class_of ty ≡ None
+no_class_there ty h = by (class_of ty) refl h
+  where
+    by : (o : Option (ℕ × ClassId)) → class_of ty ≡ o → is_some o ≡ false → class_of ty ≡ None
+    by None e g = e
+    by (Some c) e g = absurd (true≢false g)
 
 object_there : (types : NamesWith Ty) (v : List ℕ) (ty : Ty) → value_of types v ≡ Some ty → is_class ty ≡ true → is_object types v ≡ true
 object_there types v ty found h = ap (λ (o : Option Ty). option_map_or (λ ty. is_some (class_of ty)) o false) found ∙ h
@@ -148,6 +163,28 @@ module _ (s : Setting) (r : RelationTree) (names : ModelNames) (models_are : nam
       (λ b. h.unbound (bound_derived s.target r (IsData s r) types data_from data_to h.name b h.number h.has)))
 
   -- ---- variables
+
+  -- each has one type, and one model at most
+  module _ (name : List ℕ) (a b : Var) (x : IsVariable s r name a) (y : IsVariable s r name b) where
+    same_type : a.ty ≡ b.ty
+    same_type = same_Some a.ty b.ty (sym (has_to name a.ty x.typed) ∙ has_to name b.ty y.typed)
+
+    same_model : a.model ≡ b.model
+    same_model = by (is_class a.ty) refl
+      where
+        by : (c : Bool) → is_class a.ty ≡ c → a.model ≡ b.model
+        by true is =
+            let (c, same) = there_class a.ty is in
+            let (model, has, number) = x.object c.0 c.1 same in
+            let (other, has_other, number_other) = y.object c.0 c.1 (sym same_type ∙ same) in
+            number ∙ ap (λ (m : List ℕ). Some (model_number s m)) (sym (has.alone other has_other.has)) ∙ sym number_other
+        by false is = x.data_value (not_class a.ty (no_class_there a.ty is)) ∙ sym (y.data_value (not_class b.ty (no_class_there b.ty (ap is_class (sym same_type) ∙ is))))
+
+    one_variable : a ≡ b
+    one_variable = λ i. record { name = (x.named ∙ sym y.named) i; ty = same_type i; model = same_model i }
+
+  pub one_list : (a b : List Var) → AreVariables s r a → AreVariables s r b → a ≡ b
+  one_list a b one other = zip_one (IsVariable s r) one_variable (variables_of r) a b one other
 
   module _ (own : All (HasItsModel types models) (object_models relations r)) where
     one_for : (v model : List ℕ) (ty : Ty) → value_of types v ≡ Some ty → is_class ty ≡ true → value_of models v ≡ Some model → HasOneModel s.script r v model

@@ -1,4 +1,5 @@
--- The conjuncts of when and where clauses (QVT 1.3, section 7.11.1.4): `a and b` counts as two, parentheses are looked through.
+-- The conjuncts of when and where clauses (QVT 1.3, section 7.11.1.4): `a and b` counts as two; parentheses, and a part on which
+-- nothing is called, are looked through.
 use Rattle.std.specs.Prelude.{ℕ, Bool, true, false, ◌&&◌, if◌then◌else◌, List, [], ◌∷◌, ◌++◌, Option, None, Some}
 use Rattle.std.specs.List.{flat_map, list_all}
 use Rattle.qv_syntax.specs.declared.name.Name.{Name}
@@ -31,6 +32,7 @@ abbrev pub conjuncts_rule : {X X' X'' X3 : Type 0} → (X' → Expr) → (X' →
 conjuncts_rule part expr link (of.Chain first rest span) whole =
     if list_all (λ l. (link l).is_and) rest then (expr first).of (part first) ++ flat_map (λ l. (link l).conjuncts) rest else whole ∷ []
 conjuncts_rule part expr link (of.Parens inner span) whole = (expr inner).of (part inner)
+conjuncts_rule part expr link (of.Calls inner [] span) whole = (expr inner).of (part inner)
 conjuncts_rule part expr link layer whole = whole ∷ []
 
 abbrev pub splitting : Expr → Splitting
@@ -64,6 +66,7 @@ one_name names = None
 
 abbrev pub alone_step : of.Expr-F (Unit {0}) (Option (List ℕ)) (Unit {0}) (Unit {0}) → Option (List ℕ)
 alone_step (of.Parens inner span) = inner
+alone_step (of.Calls inner [] span) = inner
 alone_step (of.Named path) = one_name path.names
 alone_step layer = None
 

@@ -7,13 +7,16 @@ use Rattle.qv_syntax.specs.declared.typed.Typed.{Typed}
 use Rattle.qv_syntax.specs.declared.ty.Ty.TheVariants as types
 use Rattle.qv_syntax.specs.declared.program.Var.{Var}
 use Rattle.qv_syntax.specs.Types.{AreRelated}
+use Rattle.qv_syntax.specs.TypeRules.{AreComparable}
 use Rattle.qv_syntax.specs.TypedTrees.{Typing, IsTyped}
 use Rattle.qv_syntax.specs.ProgramTypes.{typing_of, Fits}
 use Rattle.ocl_types.specs.declared.fault.TypeFault.{TypeFault}
 use Rattle.ocl_types.specs.declared.fault.TypeFault.TheVariants.{WrongCount, ModelMix}
 use Rattle.ocl_types.specs.declared.part.TypedPart.{TypedPart}
+use Rattle.ocl_types.specs.declared.variable.Variable.{Variable}
 use Rattle.ocl_types.specs.Environments.{Environment, is_over}
 use Rattle.ocl_types.specs.HasType.{HasType, Stands}
+use Rattle.ocl_types.specs.TypeRules.{IsFirstNamed}
 use Rattle.ocl_types.specs.Outcomes.{wrong_type}
 use Rattle.ocl_types.specs.Parts.{tree_of}
 use Rattle.ocl_types.specs.TypedContext.{context_of, variables_of}
@@ -40,6 +43,15 @@ pub record IsCondition (env : Environment) (e : Expr) (tree : Typed) : Type 0 wh
 pub data StandsInCondition (env : Environment) (e : Expr) (fault : TypeFault) : Type 0 where
   typing : Stands env e fault → StandsInCondition env e fault
   type : (tree : Typed) (t : Typing) → HasTyping env e tree t → t.ty ≢ types.Bool → fault ≡ wrong_type env.metas types.Bool t.ty → StandsInCondition env e fault
+
+-- the expression of a conjunct `v = e`: the first variable of this name may be compared with it
+pub record IsEquated (env : Environment) (v : List ℕ) (e : Expr) (tree : Typed) : Type 0 where
+  pub typing : Typing
+  pub has : HasTyping env e tree typing
+  pub number : ℕ
+  pub variable : Variable
+  pub named : IsFirstNamed Variable env.variables v (number, variable)
+  pub compared : AreComparable env.metas variable.ty typing.ty
 
 -- ---- what is given where a type and a model are asked for
 

@@ -10,10 +10,8 @@ use Rattle.qv_syntax.specs.declared.type_tree.Kind.{Kind}
 use Rattle.qv_syntax.specs.declared.type_tree.TypeTree.{TypeTree}
 use Rattle.qv_syntax.specs.declared.ty.Ty.{Ty}
 use Rattle.qv_syntax.specs.declared.ty.Ty.TheVariants as types
-use Rattle.qv_syntax.specs.declared.typed.Typed.{Typed}
 use Rattle.qv_syntax.specs.declared.typed.Values.{Values}
 use Rattle.qv_syntax.specs.declared.script.BlockTree.{BlockTree}
-use Rattle.qv_syntax.specs.declared.script.KeyTree.{KeyTree}
 use Rattle.qv_syntax.specs.declared.script.RelationTree.{RelationTree}
 use Rattle.qv_syntax.specs.declared.script.DomainTree.{DomainTree}
 use Rattle.qv_syntax.specs.declared.program.Var.{Var}
@@ -21,13 +19,15 @@ use Rattle.mof_metamodel.specs.Metamodels.{prop_number}
 use Rattle.qv_syntax.specs.declared.query.QueryTree.{QueryTree}
 use Rattle.qv_syntax.specs.Types.{AreRelated}
 use Rattle.qv_syntax.specs.TypeRules.{HasProperty}
-use Rattle.ocl_types.specs.Environments.{meta_at}
-use Rattle.qv_syntax.specs.TypedTrees.{Context, Typing, IsTyped}
-use Rattle.qv_syntax.specs.ProgramTypes.{query_type, typing_of}
+use Rattle.ocl_types.specs.Environments.{meta_at, without_queries}
+use Rattle.qv_syntax.specs.TypedTrees.{Typing}
+use Rattle.qv_syntax.specs.ProgramTypes.{typing_of}
 use Rattle.ocl_types.specs.declared.fault.TypeFault.{TypeFault}
-use Rattle.ocl_types.specs.declared.fault.TypeFault.TheVariants.{UnknownName, WrongType, WrongCount, ModelMix, DuplicateName, Unbound, WhenCycle, CallShape, KeyShape, UnknownModel}
-use Rattle.ocl_types.specs.HasType.{HasTree, Stands}
-use Rattle.ocl_types.specs.Naming.{names_of, path_text, type_text, texts_of}
+use Rattle.ocl_types.specs.declared.fault.TypeFault.TheVariants.{UnknownName, WrongType, WrongCount, ModelMix, DuplicateName, Unbound, WhenCycle, CallShape, UnknownModel}
+use Rattle.ocl_types.specs.declared.part.TypedPart.{TypedPart}
+use Rattle.ocl_types.specs.HasType.{HasType, Stands}
+use Rattle.ocl_types.specs.TypedContext as context
+use Rattle.ocl_types.specs.Naming.{names_of, path_text, type_text}
 use Rattle.ocl_types.specs.Written.{written}
 use Rattle.qvtr_types.specs.ScriptNames.{model_names}
 use Rattle.qvtr_types.specs.Usages.{calls_in}
@@ -37,30 +37,11 @@ use Rattle.qvtr_types.specs.Occurrences.Piece.{begins, asks}
 use Rattle.qvtr_types.specs.Divisions.{model_of, HasPiece, IsBound}
 use Rattle.qvtr_types.specs.ObjectModels.{CallsWith, HasModel, HasTwoModels}
 use Rattle.qvtr_types.specs.Directions.{IsOnWhenCycle, IsRelationName, IsMisplaced, LeavesDirection}
-use Rattle.qvtr_types.specs.Environments.{Setting, in_script, in_relation, metamodel_names, slots_of}
-use Rattle.qvtr_types.specs.Declarations.{keys_of, queries_of, global_names, IsRepeated, IsTemplateClass, IsWrittenFor, HasVariableType, template_class, meta_of, key_class, key_property}
+use Rattle.qvtr_types.specs.Environments.{Setting, in_script, in_relation, metamodel_names}
+use Rattle.qvtr_types.specs.Declarations.{keys_of, queries_of, global_names, IsRepeated, IsTemplateClass, IsWrittenFor, HasVariableType, template_class, meta_of}
+use Rattle.qvtr_types.specs.Keys.{StandsInKeys}
+use Rattle.qvtr_types.specs.ScriptQueries.{StandsInQueries}
 use Rattle.qvtr_types.specs.Resolutions.{IsVariable, IsData, model_number}
-
--- ---- keys (section 7.10.2)
-
-pub data StandsInKey (s : Setting) (key : KeyTree) : TypeFault → Type 0 where
-  unknown_class : key_class (in_script s) key ≡ None → StandsInKey s key (UnknownName (path_text key.class))
-  unknown_property : (class : ℕ × ClassId) (name : List ℕ) → key_class (in_script s) key ≡ Some class → Contains (texts_of key.props) name
-      → key_property (in_script s) class name ≡ None → StandsInKey s key (UnknownName name)
-  no_property : key.props ≡ [] → StandsInKey s key (KeyShape (path_text key.class))
-  repeated : (name : List ℕ) → IsRepeated (texts_of key.props) name → StandsInKey s key (KeyShape name)
-
--- a later key is one of the same class
-pub record IsSecondKey (s : Setting) (key : KeyTree) : Type 0 where
-  pub place : ℕ
-  pub earlier : ℕ
-  pub order : earlier < place
-  pub first : KeyTree
-  pub class : ℕ × ClassId
-  pub found : slice_get (keys_of s.script) place ≡ Some key
-  pub found_first : slice_get (keys_of s.script) earlier ≡ Some first
-  pub same : key_class (in_script s) key ≡ Some class
-  pub same_first : key_class (in_script s) first ≡ Some class
 
 -- ---- declarations of a relation (sections 7.11.1 and 7.11.2)
 
@@ -108,14 +89,11 @@ pub data StandsInDeclarations (s : Setting) (r : RelationTree) : TypeFault → T
 abbrev pub AreVariables : Setting → RelationTree → List Var → Type 0
 AreVariables s r vars = AllZip (IsVariable s r) (variables_of r) vars
 
-abbrev pub context_in : Setting → Context
-context_in s = record { metas = s.metas; slots = slots_of s.script; queries = map query_type s.queries }
-
--- the expression has this tree, type and model
+-- the expression has this type, and this model of its objects
 pub record IsExpression (s : Setting) (r : RelationTree) (vars : List Var) (e : Expr) (typing : Typing) : Type 0 where
-  pub tree : Typed
-  pub has : HasTree (in_relation s r vars) e tree
-  pub typed : IsTyped (context_in s) (map typing_of vars) tree typing
+  pub part : TypedPart
+  pub has : HasType (in_relation s r vars) e part
+  pub is : typing ≡ context.typing_of part
 
 -- what is given where a type and a model are asked for: it has a related type, and no other model
 pub data StandsInPlace (s : Setting) (wanted given : Typing) (name : List ℕ) : TypeFault → Type 0 where
@@ -197,9 +175,9 @@ pub data StandsInScript (s : Setting) : TypeFault → Type 0 where
   target : ¬ Contains (model_names s.script.models) s.target → StandsInScript s (UnknownModel s.target)
   -- names of models, metamodels, relations and queries are distinct
   name : (name : List ℕ) → IsRepeated (global_names s.script) name → StandsInScript s (DuplicateName name)
-  key : (key : KeyTree) (f : TypeFault) → Contains (keys_of s.script) key → StandsInKey s key f → StandsInScript s f
-  -- a class has at most one key
-  second_key : (key : KeyTree) → IsSecondKey s key → StandsInScript s (KeyShape (path_text key.class))
+  key : (f : TypeFault) → StandsInKeys (in_script s) (keys_of s.script) f → StandsInScript s f
+  -- queries have the types that they write, and none comes to itself by calls
+  query : (f : TypeFault) → StandsInQueries (without_queries (in_script s)) (queries_of s.script) f → StandsInScript s f
   declaration : (r : RelationTree) (f : TypeFault) → Contains (relations_of s.script) r → StandsInDeclarations s r f → StandsInScript s f
   expression : (r : RelationTree) (vars : List Var) (f : TypeFault) → Contains (relations_of s.script) r → AreVariables s r vars → StandsInExpressions s r vars f → StandsInScript s f
   -- a relation is called by a conjunct, and from the direction in the direction

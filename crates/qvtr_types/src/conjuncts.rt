@@ -38,8 +38,8 @@ fn are_and(links: &[Infix]) -> bool
     true
 }
 
-/// Puts the conjuncts of an expression, in the order of the text, behind others: `a and b` counts as two, parentheses are looked
-/// through (QVT 1.3, section 7.11.1.4).
+/// Puts the conjuncts of an expression, in the order of the text, behind others: `a and b` counts as two; parentheses, and a part on
+/// which nothing is called, are looked through (QVT 1.3, section 7.11.1.4).
 #[cycle(conjuncts)]
 pub fn add_conjuncts<'a>(e: &'a Expr, out: &mut Seq<&'a Expr>) -> Result<(), NoMemory>
     ensures { OnOk result (map (λ r. r.now) out.new ≡ map (λ r. r.now) out.old ++ conjuncts e.now) }
@@ -53,6 +53,12 @@ pub fn add_conjuncts<'a>(e: &'a Expr, out: &mut Seq<&'a Expr>) -> Result<(), NoM
             add_behind(rest.as_slice(), out)
         }
         Expr::Parens { inner, .. } => add_conjuncts(inner.get(), out),
+        Expr::Calls { of, calls, .. } => {
+            if calls.is_empty() {
+                return add_conjuncts(of.get(), out);
+            }
+            out.push(e)
+        }
         _ => out.push(e),
     }
 }
@@ -110,12 +116,18 @@ fn one(path: &Path) -> Option<&Text>
     }
 }
 
-/// The name, where an expression is a variable alone; parentheses are looked through.
+/// The name, where an expression is a variable alone; parentheses, and a part on which nothing is called, are looked through.
 pub fn name_alone(e: &Expr) -> Option<&Text>
     ensures { option_map (λ n. n.now) result ≡ alone e.now }
 {
     match e {
         Expr::Parens { inner, .. } => name_alone(inner.get()),
+        Expr::Calls { of, calls, .. } => {
+            if calls.is_empty() {
+                return name_alone(of.get());
+            }
+            None
+        }
         Expr::Named { path } => one(path),
         _ => None,
     }

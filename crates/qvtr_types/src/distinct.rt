@@ -7,7 +7,7 @@ use mof_metamodel::{NameTable, NoMemory, Seq, Text};
 use std::alloc::Global;
 
 /// Puts a name behind the others, if it isn't among them.
-fn add_new(met: &mut NameTable<u32>, name: Text) -> Result<(), NoMemory>
+pub(crate) fn add_new(met: &mut NameTable<u32>, name: Text) -> Result<(), NoMemory>
     ensures { OnOk result (map (λ e. e.0) met.new ≡ map (λ e. e.0) met.old ++ (if is_member same_name (map (λ e. e.0) met.old) name then [] else name ∷ [])) }
 {
     if met.contains(&name) {

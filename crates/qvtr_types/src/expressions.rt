@@ -1,18 +1,18 @@
-ghost use Rattle.std.specs.Prelude.{◌≡◌, ◌≢◌, ◌⊎◌, ◌↔◌, ℕ, List, Some, None, IsTrue, IfOk, OnOk};
+ghost use Rattle.std.specs.Prelude.{◌≡◌, ◌≢◌, ◌⊎◌, ◌↔◌, ◌<◌, ℕ, List, All, Some, None, IsTrue, IfOk, OnOk, length, map, slice_get};
 ghost use Rattle.qv_syntax.specs.declared.ty.Ty.TheVariants as types;
 ghost use Rattle.qv_syntax.specs.declared.typed.Typed.{Typed as Tree};
 ghost use Rattle.qv_syntax.specs.Types.{AreRelated};
 ghost use Rattle.ocl_types.specs.HasType.{HasTree};
 ghost use Rattle.qvtr_types.specs.Conjuncts.{equation_of};
-ghost use Rattle.ocl_types.specs.declared.fault.TypeFault.TheVariants.{ModelMix};
+ghost use Rattle.ocl_types.specs.declared.fault.TypeFault.TheVariants.{WrongCount, ModelMix};
 ghost use Rattle.ocl_types.specs.Environments.{AreWell, is_over};
 ghost use Rattle.ocl_types.specs.Outcomes.{wrong_type as wrong};
 ghost use Rattle.ocl_types.specs.Written.{IfFault};
-ghost use Rattle.qvtr_types.specs.Expressions.{IsCondition, StandsInCondition, IsGiven, StandsInGiven};
+ghost use Rattle.qvtr_types.specs.Expressions.{HaveTypes, IsCondition, StandsInCondition, IsEquated, IsGiven, StandsInGiven, AreArguments, StandsInArguments};
 
-use mof_metamodel::{MetaModel, Text};
-use ocl_types::{Env, TypeError, TypeFault, are_related, type_whole, wrong_type};
-use qv_syntax::{Expr, Ty, Typed};
+use mof_metamodel::{MetaModel, Seq, Text};
+use ocl_types::{Env, TypeError, TypeFault, are_related, one_type_is_had, type_whole, wrong_type};
+use qv_syntax::{Expr, Ty, Typed, Var};
 use std::alloc::Global;
 
 /// Refuses a type that isn't Boolean.
@@ -43,7 +43,7 @@ pub fn type_condition(alloc: Global, env: &Env<'_>, e: &Expr) -> Result<Typed, T
     Ok(part.into_tree())
 }
 
-/// The tree of the expression of a conjunct `v = e`, which is a condition.
+/// The tree of the expression of a conjunct `v = e`, which is a condition: the variable may be compared with it.
 ///
 /// # Errors
 ///
@@ -56,16 +56,18 @@ pub fn type_equation(
 ) -> Result<Typed, TypeError>
     requires { (v : List ℕ) × (equation_of conjunct.now ≡ Some (v, e.now)) }
     ensures is { IfOk result (λ tree. HasTree env.now e.now tree) }
+    ensures equated { IfOk result (λ tree. (v : List ℕ) → equation_of conjunct.now ≡ Some (v, e.now) → IsEquated env.now v e.now tree) }
     ensures condition { OnOk result ((tree : Tree) × IsCondition env.now conjunct.now tree) }
     ensures fault { IfFault result (StandsInCondition env.now conjunct.now) }
 {
+    one_type_is_had(env);
     let _condition = type_condition(alloc, env, conjunct)?;
     let part = type_whole(alloc, env, e)?;
     Ok(part.into_tree())
 }
 
 /// Refuses a type that isn't related to the one that is asked for.
-fn refuse_unrelated(
+pub(crate) fn refuse_unrelated(
     alloc: Global,
     metas: &[MetaModel],
     wanted: &Ty,
@@ -140,4 +142,54 @@ pub fn type_given(
     refuse_unrelated(alloc, env.metas(), wanted.ty, &part.ty)?;
     refuse_other_model(alloc, wanted.model, part.model, wanted.name)?;
     Ok(part.into_tree())
+}
+
+/// The trees of arguments, of which there are as many as roots.
+fn type_each(
+    alloc: Global,
+    env: &Env<'_>,
+    called: &Text,
+    roots: &[&Var],
+    args: &[Expr],
+) -> Result<Seq<Typed>, TypeError>
+    requires count { length args.now ≡ length roots.now }
+    requires types { HaveTypes env.now.metas (map (λ r. r.now) roots.now) }
+    ensures are { IfOk result (λ trees. AreArguments env.now (map (λ r. r.now) roots.now) args.now trees) }
+    ensures fault { IfFault result (StandsInArguments env.now called.now (map (λ r. r.now) roots.now) args.now) }
+{
+    let mut trees = Seq::new(alloc);
+    for (place, e) in args.iter().enumerate() {
+        let root = roots[place];
+        let wanted = WantedValue {
+            ty: &root.ty,
+            model: root.model,
+            name: called,
+        };
+        let tree = type_given(alloc, env, &wanted, e)?;
+        trees.push(tree)?;
+    }
+    Ok(trees)
+}
+
+/// The trees of the arguments of a call, one for each root of the called relation, of its type and model (QVT 1.3, section 7.11.1.4).
+///
+/// # Errors
+///
+/// `WrongCount` with the name of the called relation where there are more or fewer arguments than roots; else as those of `type_given`.
+pub fn type_arguments(
+    alloc: Global,
+    env: &Env<'_>,
+    called: &Text,
+    roots: &[&Var],
+    args: &[Expr],
+) -> Result<Seq<Typed>, TypeError>
+    requires { HaveTypes env.now.metas (map (λ r. r.now) roots.now) }
+    ensures are { IfOk result (λ trees. AreArguments env.now (map (λ r. r.now) roots.now) args.now trees) }
+    ensures fault { IfFault result (StandsInArguments env.now called.now (map (λ r. r.now) roots.now) args.now) }
+{
+    if args.len() != roots.len() {
+        let text = called.duplicate(alloc)?;
+        return Err(TypeError::Fault(TypeFault::WrongCount(text)));
+    }
+    type_each(alloc, env, called, roots, args)
 }

@@ -40,7 +40,7 @@ fn is_meta(models: &[ModelTree], name: &str) -> bool
 }
 
 /// Whether a name is among those that are given.
-fn is_given(names: &[Text], name: &Text) -> bool
+pub(crate) fn is_given(names: &[Text], name: &Text) -> bool
     ensures { result ≡ is_member same_name names.now name.now }
 {
     for given in names {

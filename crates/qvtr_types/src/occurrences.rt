@@ -107,7 +107,7 @@ fn add_each(
 }
 
 /// The name of a domain's root.
-fn root_name(domain: &DomainTree) -> &Text
+pub(crate) fn root_name(domain: &DomainTree) -> &Text
     ensures { result.now ≡ root_of domain.now }
 {
     match domain {

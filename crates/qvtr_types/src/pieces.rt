@@ -8,7 +8,7 @@ use mof_metamodel::{NoMemory, Seq};
 use qv_syntax::{DomainTree, ItemTree, ItemValueTree, Name, Path, TemplateTree};
 
 /// The variable of a template: its name, or else the template's number.
-fn variable_of(variable: &Option<Name>, k: u32) -> VariableName<'_>
+pub(crate) fn variable_of(variable: &Option<Name>, k: u32) -> VariableName<'_>
     ensures { shown_variable result ≡ variable_text k variable.now }
 {
     match variable {

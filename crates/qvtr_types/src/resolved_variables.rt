@@ -2,6 +2,7 @@
 ghost use Rattle.std.specs.Prelude.{◌≡◌, ◌↔◌, ◌⊎◌, ℕ, List, true, false, is_some, chars, map, slice_index_or, All, IfOk, OnOk};
 ghost use Rattle.std.specs.List.{AllZip};
 ghost use Rattle.mof_metamodel.specs.NameTables.{value_of};
+ghost use Rattle.qv_syntax.specs.declared.program.Var.{Var as Variable};
 ghost use Rattle.ocl_types.specs.declared.fault.TypeFault.{TypeFault as Fault};
 ghost use Rattle.ocl_types.specs.Written.{IfFault};
 ghost use Rattle.qvtr_types.specs.ScriptNames.{each_once as distinct};
@@ -27,7 +28,7 @@ use crate::template_classes::{ModelNames, model_names};
 use crate::variable_types::variable_types;
 use crate::variables::variables;
 use mof_metamodel::{NameTable, NoMemory, Seq, Text};
-use ocl_types::{Env, Metas, TypeError};
+use ocl_types::{Env, TypeError};
 use qv_syntax::{RelationTree, Script, Ty, Var};
 use std::alloc::Global;
 
@@ -109,18 +110,17 @@ fn bound_variables(
 pub fn relation_variables(
     alloc: Global,
     env: &Env<'_>,
-    metas: &Metas,
     tables: &ScriptTables<'_>,
     target: &str,
     r: &RelationTree,
 ) -> Result<Seq<Var>, TypeError>
-    requires metas { metas.now ≡ env.now.metas }
-    requires setting { (s : Setting) × IsOneOf s env.now tables.now (chars target.now) r.now }
+    requires { (s : Setting) × IsOneOf s env.now tables.now (chars target.now) r.now }
     ensures variables { IfOk result (λ vars. (s : Setting) → IsOneOf s env.now tables.now (chars target.now) r.now → AreVariables s r.now vars) }
+    ensures only { IfOk result (λ vars. (s : Setting) (other : List Variable) → IsOneOf s env.now tables.now (chars target.now) r.now → AreVariables s r.now other → other ≡ vars) }
     ensures none { OnOk result ((s : Setting) (f : Fault) → IsOneOf s env.now tables.now (chars target.now) r.now → ¬ StandsInDeclarations s r.now f) }
     ensures fault { IfFault result (λ f. (s : Setting) → IsOneOf s env.now tables.now (chars target.now) r.now → StandsInDeclarations s r.now f) }
 {
-    let types = variable_types(alloc, env, metas, &tables.names, r)?;
+    let types = variable_types(alloc, env, &tables.names, r)?;
     let models = variable_models(alloc, &tables.relations, &types, r)?;
     bound_variables(alloc, &tables.names, target, &types, &models, r)
 }

@@ -10,27 +10,13 @@ ghost use Rattle.qvtr_types.specs.VariableTypes.{shown_written, single_type as s
 use crate::first_names::put_first;
 use crate::template_classes::{ModelNames, template_types};
 use crate::written_types::{WrittenType, written_types};
-use mof_metamodel::{NameTable, NoMemory, Seq, Text};
-use ocl_types::{Env, Metas, TypeError, TypeFault, type_text, written_type};
+use mof_metamodel::{MetaModel, NameTable, NoMemory, Seq, Text};
+use ocl_types::{Env, TypeError, written_type, wrong_type};
 use qv_syntax::{RelationTree, Ty, TypeTree};
 use std::alloc::Global;
 
-/// A type in the place of another.
-pub(crate) fn wrong_type(
-    alloc: Global,
-    metas: &Metas,
-    wanted: &Ty,
-    found: &Ty,
-) -> Result<TypeFault, NoMemory>
-    ensures { IfOk result (λ f. f ≡ wrong metas.now wanted.now found.now) }
-{
-    let wanted = type_text(alloc, metas, wanted)?;
-    let found = type_text(alloc, metas, found)?;
-    Ok(TypeFault::WrongType { wanted, found })
-}
-
 /// Refuses a type that is a collection.
-fn refuse_collection(alloc: Global, metas: &Metas, ty: &Ty) -> Result<(), TypeError>
+fn refuse_collection(alloc: Global, metas: &[MetaModel], ty: &Ty) -> Result<(), TypeError>
     ensures { Gives fault_in (λ u. ty.now) result (element_of metas.now ty.now) }
 {
     match ty {
@@ -40,17 +26,11 @@ fn refuse_collection(alloc: Global, metas: &Metas, ty: &Ty) -> Result<(), TypeEr
 }
 
 /// The type that is written for a variable of a relation: no collection.
-fn single_type(
-    alloc: Global,
-    env: &Env<'_>,
-    metas: &Metas,
-    tree: &TypeTree,
-) -> Result<Ty, TypeError>
-    requires { metas.now ≡ env.now.metas }
+fn single_type(alloc: Global, env: &Env<'_>, tree: &TypeTree) -> Result<Ty, TypeError>
     ensures { Gives fault_in (λ x. x) result (single env.now tree.now) }
 {
     let ty = written_type(alloc, env, tree)?;
-    refuse_collection(alloc, metas, &ty)?;
+    refuse_collection(alloc, env.metas(), &ty)?;
     Ok(ty)
 }
 
@@ -58,16 +38,14 @@ fn single_type(
 fn add_typing(
     alloc: Global,
     env: &Env<'_>,
-    metas: &Metas,
     written: &WrittenType<'_>,
     out: &mut Seq<(Text, Ty)>,
 ) -> Result<(), TypeError>
-    requires { metas.now ≡ env.now.metas }
     ensures typed { OnOk result (out.new ≡ out.old ++ written_typing env.now (shown_written written.now)) }
     ensures single { OnOk result (HasSingle env.now (shown_written written.now)) }
     ensures fault { IfFault result (λ f. single env.now written.now.tree.now ≡ Err f) }
 {
-    let ty = single_type(alloc, env, metas, written.tree)?;
+    let ty = single_type(alloc, env, written.tree)?;
     let name = written.name.duplicate(alloc)?;
     Ok(out.push((name, ty))?)
 }
@@ -76,17 +54,15 @@ fn add_typing(
 fn add_typings(
     alloc: Global,
     env: &Env<'_>,
-    metas: &Metas,
     written: &[WrittenType<'_>],
     out: &mut Seq<(Text, Ty)>,
 ) -> Result<(), TypeError>
-    requires { metas.now ≡ env.now.metas }
     ensures typed { OnOk result (out.new ≡ out.old ++ flat_map (written_typing env.now) (map shown_written written.now)) }
     ensures single { OnOk result (All (HasSingle env.now) (map shown_written written.now)) }
     ensures fault { IfFault result (IsWrittenFault env.now (map shown_written written.now)) }
 {
     for w in written {
-        add_typing(alloc, env, metas, w, out)?;
+        add_typing(alloc, env, w, out)?;
     }
     Ok(())
 }
@@ -108,7 +84,7 @@ fn put_types(
 }
 
 /// Refuses a class in the place of another type.
-fn refuse_class(alloc: Global, metas: &Metas, ty: &Ty, class: &Ty) -> Result<(), TypeError>
+fn refuse_class(alloc: Global, metas: &[MetaModel], ty: &Ty, class: &Ty) -> Result<(), TypeError>
     ensures agreed { OnOk result (ty.now ≡ class.now) }
     ensures fault { IfFault result (λ f. (ty.now ≢ class.now) × (f ≡ wrong metas.now ty.now class.now)) }
 {
@@ -121,7 +97,7 @@ fn refuse_class(alloc: Global, metas: &Metas, ty: &Ty, class: &Ty) -> Result<(),
 /// Refuses another class where a template's variable has a declared type.
 fn refuse_one(
     alloc: Global,
-    metas: &Metas,
+    metas: &[MetaModel],
     declared: &NameTable<Ty>,
     name: &Text,
     class: &Ty,
@@ -138,7 +114,7 @@ fn refuse_one(
 /// The same of all variables of templates.
 fn refuse_other(
     alloc: Global,
-    metas: &Metas,
+    metas: &[MetaModel],
     declared: &NameTable<Ty>,
     classes: &[(Text, Ty)],
 ) -> Result<(), TypeError>
@@ -155,10 +131,8 @@ fn refuse_other(
 fn declared_types(
     alloc: Global,
     env: &Env<'_>,
-    metas: &Metas,
     r: &RelationTree,
 ) -> Result<NameTable<Ty>, TypeError>
-    requires { metas.now ≡ env.now.metas }
     ensures types { IfOk result (λ types. types ≡ first_entries (types_declared env.now r.now)) }
     ensures single { OnOk result (All (HasSingle env.now) (types_written r.now)) }
     ensures fault { IfFault result (IsWrittenFault env.now (types_written r.now)) }
@@ -166,7 +140,7 @@ fn declared_types(
     let written = written_types(alloc, r)?;
     let listed = written.as_slice();
     let mut typings = Seq::new(alloc);
-    add_typings(alloc, env, metas, listed, &mut typings)?;
+    add_typings(alloc, env, listed, &mut typings)?;
     let mut table = NameTable::new(alloc);
     put_types(alloc, typings.as_slice(), &mut table)?;
     Ok(table)
@@ -175,7 +149,7 @@ fn declared_types(
 /// Refuses another class where a template's variable has a declared type, and puts the others behind these.
 fn put_classes(
     alloc: Global,
-    metas: &Metas,
+    metas: &[MetaModel],
     classes: &[(Text, Ty)],
     types: &mut NameTable<Ty>,
 ) -> Result<(), TypeError>
@@ -191,17 +165,15 @@ fn put_classes(
 pub(crate) fn variable_types(
     alloc: Global,
     env: &Env<'_>,
-    metas: &Metas,
     names: &ModelNames,
     r: &RelationTree,
 ) -> Result<NameTable<Ty>, TypeError>
-    requires { metas.now ≡ env.now.metas }
     ensures types { IfOk result (λ types. types ≡ types_of_variables env.now (class_in env.now.metas names.now) r.now) }
     ensures typed { OnOk result (AreTyped env.now (class_in env.now.metas names.now) r.now) }
     ensures fault { IfFault result (StandsInTypes env.now (class_in env.now.metas names.now) r.now) }
 {
-    let mut types = declared_types(alloc, env, metas, r)?;
+    let mut types = declared_types(alloc, env, r)?;
     let classes = template_types(alloc, env.metas(), names, r)?;
-    put_classes(alloc, metas, classes.as_slice(), &mut types)?;
+    put_classes(alloc, env.metas(), classes.as_slice(), &mut types)?;
     Ok(types)
 }

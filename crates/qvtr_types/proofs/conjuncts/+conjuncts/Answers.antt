@@ -2,10 +2,13 @@ use Rattle.std.proofs.Common.{◌≡◌, List, [], ◌∷◌, ◌++◌, Bor, tru
 use Rattle.std.specs.Prelude.{OnOk}
 use Rattle.std.specs.List.{flat_map, list_all}
 use Rattle.qv_syntax.specs.declared.expr.Expr.{Expr}
+use Rattle.qv_syntax.specs.declared.expr.Expr.TheVariants as exprs
 use Rattle.qv_syntax.specs.declared.expr.Infix.{Infix}
+use Rattle.qv_syntax.specs.declared.expr.Postfix.{Postfix}
+use Rattle.std.proofs.lemmas.Bool.{false≢true}
 use Rattle.qvtr_types.specs.Conjuncts.{behind, conjuncts}
 use Rattle.qvtr_types.proofs.RefusalLemmas.{given_then}
-use Rattle.qvtr_types.proofs.ConjunctLemmas.{behind_more, pushed, chain_alone, chain_split, conjuncts-Parens, other_alone}
+use Rattle.qvtr_types.proofs.ConjunctLemmas.{behind_more, pushed, chain_alone, chain_split, conjuncts-Parens, conjuncts-Calls, called_alone, other_alone}
 use Rattle.qvtr_types.proofs.conjuncts.+conjuncts.Goals as goal
 
 abbrev shown : List (Bor Expr) → List Expr
@@ -50,4 +53,17 @@ add_conjuncts-returns-in-Parens t c =
 pub add_conjuncts-returns-in_default : goal.add_conjuncts-returns-in_default
 add_conjuncts-returns-in_default t c =
     given_then c.push-in_default.result (c.push-in_default.new.self ≡ c.args.out.now ++ c.args.e ∷ []) (shown c.push-in_default.new.self ≡ shown c.args.out.now ++ conjuncts c.args.e.now)
-    (pushed c.args.out.now c.push-in_default.new.self c.args.e (other_alone c.args.e.now c.in_default.not-Chain c.in_default.not-Parens)) c.push-in_default.ensures.ok
+    (pushed c.args.out.now c.push-in_default.new.self c.args.e (other_alone c.args.e.now c.in_default.not-Chain c.in_default.not-Parens c.in_default.not-Calls)) c.push-in_default.ensures.ok
+
+pub add_conjuncts-returns-then-is_empty : goal.add_conjuncts-returns-then-is_empty
+add_conjuncts-returns-then-is_empty t c =
+    let none : c.in-Calls.calls ≡ [] = c.is_empty.ensures.0 c.if-is_empty.true in
+    let is : c.args.e.now ≡ exprs.Calls c.in-Calls.of [] c.in-Calls.span = c.in-Calls.is ∙ ap (λ (ks : List Postfix). exprs.Calls c.in-Calls.of ks c.in-Calls.span) none in
+    subst (λ (es : List Expr). OnOk c.add_conjuncts-then-is_empty.result (shown c.add_conjuncts-then-is_empty.new.out ≡ shown c.args.out.now ++ es))
+    (ap conjuncts c.get-then-is_empty.ensures ∙ sym (conjuncts-Calls c.in-Calls.of c.in-Calls.span) ∙ ap conjuncts (sym is)) c.add_conjuncts-then-is_empty.ensures
+
+pub add_conjuncts-returns-else-is_empty : goal.add_conjuncts-returns-else-is_empty
+add_conjuncts-returns-else-is_empty t c =
+    given_then c.push-in-Calls.result (c.push-in-Calls.new.self ≡ c.args.out.now ++ c.args.e ∷ []) (shown c.push-in-Calls.new.self ≡ shown c.args.out.now ++ conjuncts c.args.e.now)
+    (pushed c.args.out.now c.push-in-Calls.new.self c.args.e
+    (called_alone c.args.e.now c.in-Calls.of c.in-Calls.calls c.in-Calls.span c.in-Calls.is (λ none. false≢true (sym c.if-is_empty.false ∙ c.is_empty.ensures.1 none)))) c.push-in-Calls.ensures.ok

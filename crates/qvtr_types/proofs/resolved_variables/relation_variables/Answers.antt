@@ -1,8 +1,9 @@
-use Rattle.std.proofs.Common.{◌⊎◌, ℕ, List, map}
+use Rattle.std.proofs.Common.{◌≡◌, ◌⊎◌, ℕ, List, map}
 use Rattle.std.specs.Prelude.{All, chars}
 use Rattle.std.specs.List.{AllZip}
 use Rattle.std.proofs.lemmas.Result.{err_from_is_err_and}
 use Rattle.mof_metamodel.specs.NameTables.{NamesWith}
+use Rattle.qv_syntax.specs.declared.program.Var.{Var}
 use Rattle.ocl_types.specs.declared.fault.TypeFault.{TypeFault}
 use Rattle.ocl_types.proofs.QueryLemmas.{err_told, fault_of_result, ok_told}
 use Rattle.qvtr_types.specs.Occurrences.{variables_of}
@@ -16,7 +17,7 @@ use Rattle.qvtr_types.specs.Bindings.{IsBoundVariable, IsUnboundVariable}
 use Rattle.qvtr_types.specs.Variables.{IsVarOf, IsModelFault}
 use Rattle.qvtr_types.specs.ModelLists.{object_models, IsMixFault}
 use Rattle.qvtr_types.specs.ScriptSettings.{IsOneOf, shown_relations}
-use Rattle.qvtr_types.proofs.SettingLaws.{types_fault, had, mixed_stands, made_stands, are_those, none_of_them, answered_told}
+use Rattle.qvtr_types.proofs.SettingLaws.{types_fault, had, mixed_stands, made_stands, are_those, none_of_them, made_one, answered_told}
 use Rattle.qvtr_types.proofs.resolved_variables.relation_variables.Goals as goal
 
 pub returns-in_err-types-clause-fault : goal.returns-in_err-types-clause-fault
@@ -42,7 +43,7 @@ returns-in_err-models-clause-fault c =
 
 pub bound_variables-requires : goal.bound_variables-requires
 bound_variables-requires c =
-    had c.args.env.now c.args.tables.now (chars c.args.target.now) c.args.r.now c.requires.setting.0 c.requires.setting.1 c.in_ok-types.types c.in_ok-types.ensures.types c.in_ok-types.ensures.typed
+    had c.args.env.now c.args.tables.now (chars c.args.target.now) c.args.r.now c.requires.0 c.requires.1 c.in_ok-types.types c.in_ok-types.ensures.types c.in_ok-types.ensures.typed
 
 pub returns-clause-variables : goal.returns-clause-variables
 returns-clause-variables c =
@@ -53,6 +54,18 @@ returns-clause-variables c =
     (λ vars. (s : Setting) → IsOneOf s c.args.env.now c.args.tables.now target c.args.r.now → AreVariables s c.args.r.now vars)
     (λ vars bound all s one. are_those c.args.env.now c.args.tables.now target c.args.r.now s one c.in_ok-types.types c.in_ok-types.ensures.types c.in_ok-types.ensures.typed
     c.in_ok-models.models c.in_ok-models.ensures.models c.in_ok-models.ensures.own vars all)
+    c.bound_variables.ensures.bound c.bound_variables.ensures.vars
+
+pub returns-clause-only : goal.returns-clause-only
+returns-clause-only c =
+    let target : List ℕ = chars c.args.target.now in
+    let numbers : List (List ℕ) = map {A = List ℕ × ℕ} {B = List ℕ} (λ e. e.0) c.args.tables.now.names.models in
+    let Bound : List ℕ → Type 0 = IsBoundVariable c.in_ok-types.types (each_once (universal_names target c.args.r.now)) target c.args.r.now in
+    ok_told c.bound_variables.result (All Bound (variables_of c.args.r.now)) (AllZip (IsVarOf c.in_ok-types.types c.in_ok-models.models numbers) (variables_of c.args.r.now))
+    (λ vars. (s : Setting) (other : List Var) → IsOneOf s c.args.env.now c.args.tables.now target c.args.r.now → AreVariables s c.args.r.now other → other ≡ vars)
+    (λ vars bound all s other one are. made_one c.args.env.now c.args.tables.now target c.args.r.now s one c.in_ok-types.ensures.typed other vars are
+    (are_those c.args.env.now c.args.tables.now target c.args.r.now s one c.in_ok-types.types c.in_ok-types.ensures.types c.in_ok-types.ensures.typed
+    c.in_ok-models.models c.in_ok-models.ensures.models c.in_ok-models.ensures.own vars all))
     c.bound_variables.ensures.bound c.bound_variables.ensures.vars
 
 pub returns-clause-none : goal.returns-clause-none
