@@ -1,4 +1,12 @@
 pub mod ListLaws
 pub mod ChainLaws
 pub mod CallLaws
+pub mod RefusalLaws
+pub mod VisitLaws
+pub mod OutcomeLaws
+pub mod FailingLaws
+pub mod AskingLaws
+pub mod OutsideLaws
 pub mod HeightLaws
+pub mod StepLaws
+pub mod MakingLaws

@@ -1,12 +1,22 @@
-//! Calls between relations (QVT 1.3, sections 7.3 and 7.10.2): laws on the chains of calls, on when a relation holds for roots and on when
-//! a call matches, and the errors and the memo of a search through calls.
+//! Calls between relations (QVT 1.3, sections 7.3 and 7.10.2): a call in a when clause asks for a match, one in a where clause that the
+//! called relation holds for its roots. Every call that a binding makes is asked, also where the answer is clear without it, so that a
+//! chain of calls that comes back to one of its calls, or has more than `MAX_CALLS`, is refused whatever the answer would be.
 #![tactic(auto)]
 
+mod asking;
+mod calls;
+mod chain;
+mod copying;
 mod error;
+mod found;
 mod laws;
+mod making;
 mod memo;
 mod name;
+mod outcome;
+mod visit;
 
+pub use calls::{failing_binding, holds_call, match_call};
 pub use error::CallError;
 pub use laws::{chains_are_seen, longest_chain_is_enough, matches_need_no_strata};
 pub use memo::Memo;

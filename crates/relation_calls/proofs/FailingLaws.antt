@@ -1,0 +1,136 @@
+-- Which binding fails first: of bindings in their order, the first that is alone is the least that fails.
+use Rattle.std.specs.Prelude.{◌≡◌, ◌⊎◌, ℕ, zero, suc, true, false, List, [], ◌∷◌, Option, None, Some, MatchOption, Contains, AllPairs, IsTrue}
+use Rattle.std.specs.List.{list_any}
+use Rattle.std.specs.Option.{option_map}
+use Rattle.std.specs.Ordering.{ordering_reverse, is_lt}
+use Rattle.std.specs.declared.cmp.Ordering.{Ordering}
+use Rattle.std.specs.declared.cmp.Ordering.TheVariants.{Less, Equal, Greater}
+use Rattle.std.proofs.Common.{refl, sym, ap, subst, ◌∙◌, arith, inl, inr}
+use Rattle.std.proofs.lemmas.Bool.{true≢false}
+use Rattle.std.proofs.lemmas.Option.{same_Some}
+use Rattle.mof_metamodel.specs.declared.limits.TheConstants.{MAX_CALLS}
+use Rattle.object_tables.specs.Models.{ModelData}
+use Rattle.qv_syntax.specs.declared.program.Program.{Program}
+use Rattle.qv_syntax.specs.declared.program.Rel.{Rel}
+use Rattle.qvtr_semantics.specs.declared.datum.Datum.{Datum}
+use Rattle.qvtr_semantics.specs.declared.binding.Binding.{Binding}
+use Rattle.qvtr_semantics.specs.Data.{is_before}
+use Rattle.qvtr_semantics.specs.Templates.{Values, value_at}
+use Rattle.qvtr_semantics.specs.Calls.{SourceMatches, TargetHolds, Match, Holds, free}
+use Rattle.qvtr_semantics.specs.Satisfaction.{IsTop, Failing, comes_before, IsLess}
+use Rattle.ocl_values.specs.Order.{datum_order}
+use Rattle.ocl_values.specs.OrderLaws.{before_by_order, order_total}
+use Rattle.template_match.specs.Search.{values_of}
+use Rattle.template_match.proofs.ListLaws.{contains_first, contains_later}
+use Rattle.relation_calls.specs.declared.outcome.Outcome.{Outcome}
+use Rattle.relation_calls.specs.declared.outcome.Outcome.TheVariants as outcomes
+use Rattle.relation_calls.specs.declared.found.Found.{Found}
+use Rattle.relation_calls.specs.Outcomes.{IsOutcome, AreOutcomes, is_alone, first_alone}
+use Rattle.relation_calls.specs.Founds.{IsFound, IsLeastOf}
+use Rattle.relation_calls.proofs.OutcomeLaws.{none_alone}
+
+-- ---- the order is strict
+
+before_twice : (d e : Datum) → is_before d e ≡ true → is_before e d ≡ true → ⊥
+before_twice d e p q = by (datum_order d e) (datum_order e d) (order_total.antisymm d e) (before_by_order d e ∙ p) (before_by_order e d ∙ q)
+  where
+    by : (o r : Ordering) → o ≡ ordering_reverse r → is_lt o ≡ true → is_lt r ≡ true → ⊥
+    by o Less is h k = true≢false (sym h ∙ ap is_lt is)
+    by o Equal is h k = true≢false (sym k)
+    by o Greater is h k = true≢false (sym k)
+
+option_twice : (x y : Option Datum) → IsTrue (comes_before x y) → IsTrue (comes_before y x) → ⊥
+option_twice (Some d) (Some e) p q = before_twice d e p q
+option_twice (Some d) None p q = true≢false (sym p)
+option_twice None (Some e) p q = true≢false (sym p)
+option_twice None None p q = true≢false (sym p)
+
+never_itself : (x y : Option Datum) → x ≡ y → IsTrue (comes_before x y) → ⊥
+never_itself x y same h = let k = subst (λ z. IsTrue (comes_before x z)) (sym same) h in option_twice x x k k
+
+-- of two bindings at most one is less than the other
+pub less_twice : (vars : List ℕ) (a b : Values) → IsLess vars a b → IsLess vars b a → ⊥
+less_twice [] a b p q = p
+less_twice (v ∷ vs) a b (inl p) (inl q) = option_twice (value_at a v) (value_at b v) p q
+less_twice (v ∷ vs) a b (inl p) (inr q) = never_itself (value_at a v) (value_at b v) (sym q.0) p
+less_twice (v ∷ vs) a b (inr p) (inl q) = never_itself (value_at b v) (value_at a v) (sym p.0) q
+less_twice (v ∷ vs) a b (inr p) (inr q) = less_twice vs a b p.1 q.1
+
+-- ---- the first that is alone
+
+pairs_later : (R : Values → Values → Type 0) (x : Values) (xs : List Values) → AllPairs R (x ∷ xs) → AllPairs R xs
+pairs_later R x xs all i j d before within = all (suc i) (suc j) d (omega (arith, before)) (omega (arith, within))
+
+first_pair : (R : Values → Values → Type 0) (x : Values) (xs : List Values) (c : Values) → AllPairs R (x ∷ xs) → Contains xs c → R x c
+first_pair R x xs c all (k, within, is) = subst (R x) is (all 0 (suc k) c (omega arith) (omega (arith, within)))
+
+module _ (program : Program) (models : List ModelData) (n : ℕ) (rel : Rel) where
+  abbrev IsAlone : Values → Type 0
+  IsAlone b = IsOutcome program models n rel b outcomes.Alone
+
+  -- where there is none, none is alone
+  none_first : (bs : List Values) (os : List Outcome) → AreOutcomes program models n rel bs os → first_alone bs os ≡ None → list_any is_alone os ≡ false
+  none_first [] [] all e = refl
+  none_first [] (o ∷ os) all e = absurd all
+  none_first (b ∷ bs) [] all e = refl
+  none_first (b ∷ bs) (outcomes.Unmatched ∷ os) all e = none_first bs os all.1 e
+  none_first (b ∷ bs) (outcomes.Alone ∷ os) all e = absurd (cc)
+  none_first (b ∷ bs) (outcomes.Partnered ∷ os) all e = none_first bs os all.1 e
+
+  -- all others that are alone come behind it
+  record IsFirst (R : Values → Values → Type 0) (bs : List Values) (b : Values) : Type 0 where
+    among : Contains bs b
+    alone : IsAlone b
+    others : (c : Values) → Contains bs c → IsAlone c → (c ≡ b) ⊎ R b c
+
+  at_first : (R : Values → Values → Type 0) (x : Values) (bs : List Values) (c : Values) → AllPairs R (x ∷ bs) → Contains (x ∷ bs) c → (c ≡ x) ⊎ R x c
+  at_first R x bs c pairs (zero, within, is) = inl (sym is)
+  at_first R x bs c pairs (suc k, within, is) = inr (first_pair R x bs c pairs (k, omega (arith, within), is))
+
+  further : (R : Values → Values → Type 0) (x : Values) (bs : List Values) (b : Values) → (IsAlone x → ⊥) → IsFirst R bs b → IsFirst R (x ∷ bs) b
+  further R x bs b never first = record { among = contains_later b x bs first.among; alone = first.alone; others = others }
+    where
+      others : (c : Values) → Contains (x ∷ bs) c → IsAlone c → (c ≡ b) ⊎ R b c
+      others c (zero, within, is) alone = absurd (never (subst IsAlone (sym is) alone))
+      others c (suc k, within, is) alone = first.others c (k, omega (arith, within), is) alone
+
+  is_first : (R : Values → Values → Type 0) (bs : List Values) (os : List Outcome) (b : Values) → AllPairs R bs → AreOutcomes program models n rel bs os → first_alone bs os ≡ Some b → IsFirst R bs b
+  is_first R [] [] b pairs all e = absurd (cc)
+  is_first R [] (o ∷ os) b pairs all e = absurd all
+  is_first R (x ∷ bs) [] b pairs all e = absurd all
+  is_first R (x ∷ bs) (outcomes.Unmatched ∷ os) b pairs all e = further R x bs b (λ alone. all.0 alone.0) (is_first R bs os b (pairs_later R x bs pairs) all.1 e)
+  is_first R (x ∷ bs) (outcomes.Alone ∷ os) b pairs all e =
+      subst (IsFirst R (x ∷ bs)) (same_Some x b e) (record { among = contains_first x bs; alone = all.0; others = λ c has alone. at_first R x bs c pairs has })
+  is_first R (x ∷ bs) (outcomes.Partnered ∷ os) b pairs all e =
+      further R x bs b (λ alone. alone.1 all.0.1 all.0.2) (is_first R bs os b (pairs_later R x bs pairs) all.1 e)
+
+-- ---- a top relation
+
+module _ (program : Program) (models : List ModelData) (number : ℕ) (rel : Rel) (found : Found) (top : IsTop program number rel) (is : IsFound program models MAX_CALLS rel (free rel) found) where
+  matches_at : (c : Values) (f : Failing program models number c) → SourceMatches (Match program models) program models rel (free rel) c
+  matches_at c f = subst (λ (r : Rel). SourceMatches (Match program models) program models r (free r) c) (same_Some f.rel rel (sym f.top.is ∙ top.is)) f.source
+
+  alone_at : (c : Values) (f : Failing program models number c) → (g : Values) → ¬ TargetHolds (Holds program models) program models rel c g
+  alone_at c f = subst (λ (r : Rel). (g : Values) → ¬ TargetHolds (Holds program models) program models r c g) (same_Some f.rel rel (sym f.top.is ∙ top.is)) f.alone
+
+  none_fails : first_alone (values_of found.bindings) found.outcomes ≡ None → (b : Values) → ¬ Failing program models number b
+  none_fails none b f =
+      let (g, partner) = none_alone program models MAX_CALLS rel (free rel) found is (none_first program models MAX_CALLS rel (values_of found.bindings) found.outcomes is.outcomes none) b (matches_at b f) in
+      alone_at b f g partner
+
+  least_fails : (b : Values) → first_alone (values_of found.bindings) found.outcomes ≡ Some b → IsLeastOf program models number b
+  least_fails b some =
+      let first = is_first program models MAX_CALLS rel (IsLess rel.universal) (values_of found.bindings) found.outcomes b is.sorted is.outcomes some in
+      record {
+        failing = record { rel = rel; top = top; source = record { source = (is.exact b).0 first.among; whens = first.alone.0 }; alone = first.alone.1 };
+        least = λ c f less. elim (first.others c ((is.exact c).1 (matches_at c f).source) ((matches_at c f).whens, alone_at c f)) [
+          | inl same ↦ let twice : IsLess rel.universal b b = subst (λ x. IsLess rel.universal x b) same less in less_twice rel.universal b b twice twice
+          | inr later ↦ less_twice rel.universal c b less later
+        ];
+      }
+
+  -- what is found first of the bindings is the least that fails
+  pub failing_value : (o : Option Binding) → option_map (λ (b : Binding). b.values) o ≡ first_alone (values_of found.bindings) found.outcomes
+      → MatchOption o ((b : Values) → ¬ Failing program models number b) (λ b. IsLeastOf program models number b.values)
+  failing_value None e = none_fails (sym e)
+  failing_value (Some b) e = least_fails b.values (sym e)

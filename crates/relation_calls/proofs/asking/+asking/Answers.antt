@@ -1,0 +1,542 @@
+use Rattle.std.proofs.Common.{List, not, false, ◌≡◌, ◌<◌, ◌+◌, ◌-◌, refl, sym, ap, subst, ◌∙◌, arith, inl, inr, suc, length, take, ℕ, ◌∷◌, [], true}
+use Rattle.std.specs.Prelude.{Some, IsTrue, IfOk, IfErr, ◌↔◌, Contains}
+use Rattle.std.specs.Option.{option_map}
+use Rattle.std.proofs.lemmas.Result.{IfOk-weaker, IfErr-weaker, err_from_is_err_and}
+use Rattle.std.proofs.lemmas.Option.{slice_get_within, same_Some}
+use Rattle.qv_syntax.specs.declared.program.Rel.{Rel}
+use Rattle.qvtr_semantics.specs.Calls.{AllAsked, HoldsFor, TargetHolds, calls_of}
+use Rattle.qvtr_semantics.specs.Bindings.{Target}
+use Rattle.qvtr_semantics.specs.Templates.{Values}
+use Rattle.qvtr_semantics.specs.declared.binding.Binding.{Binding}
+use Rattle.template_match.specs.Search.{values_of}
+use Rattle.relation_calls.specs.Names.{call_named, chain_named, calls_named}
+use Rattle.relation_calls.specs.Seen.{Seen, SeenBehind, AreClean}
+use Rattle.relation_calls.specs.Faults.{IsFault}
+use Rattle.relation_calls.specs.Askable.{AreBelow, stratum_in}
+use Rattle.relation_calls.specs.Outcomes.{AreOutcomes, is_alone, is_partnered}
+use Rattle.relation_calls.specs.Visits.{upto_of, left_of, match_in, hold_in, whens_of, wheres_of, SeenInWhens, SeenInWheres, SeenByPartners, SeenByTargets, SeenBy, SeenByAny, IsChain}
+use Rattle.relation_calls.proofs.VisitLaws.{ends_with, fault_in, clean_from, clean_no_calls, clean_no_values, any_none, by_one, by_none, asked_one}
+use Rattle.relation_calls.proofs.StepLaws.{call_below, call_fault, call_value, call_clean, calls_value, calls_clean, value_here, value_fault, value_clean, value_any, value_outcomes, values_clean, values_any, values_outcomes}
+use Rattle.std.proofs.lemmas.List.{length-map}
+use Rattle.std.proofs.lemmas.Bool.{true≢false}
+use Rattle.relation_calls.proofs.CallLaws.{below_whens, below_wheres}
+use Rattle.std.specs.List.{list_any}
+use Rattle.mof_metamodel.specs.declared.limits.TheConstants.{MAX_CALLS}
+use Rattle.relation_calls.specs.declared.name.CallName.{CallName}
+use Rattle.relation_calls.specs.Founds.{IsFound}
+use Rattle.relation_calls.proofs.RefusalLaws.{no_chain, length_more}
+use Rattle.relation_calls.proofs.VisitLaws.{source_binding}
+use Rattle.relation_calls.proofs.AskingLaws.{planned_at, clean_call, fault_call, refused_fault, called_clean, called_fault, called_value, match_value, match_clean, match_fault, partner_value, partner_seen, unmatched_clean, matched_clean, visited, all_sources, found_all}
+use Rattle.relation_calls.proofs.asking.+asking.Goals as goal
+
+pub all_match-loop-call-init : goal.all_match-loop-call-init
+all_match-loop-call-init t c = record { value = (λ h. tt, λ h. refl); clean = clean_no_calls (Seen c.args.visit.now.program.now c.args.visit.now.models.now []) }
+
+pub all_match-one_matches-requires : goal.all_match-one_matches-requires
+all_match-one_matches-requires t c =
+    let within : c.loop-call.call-index < length c.args.calls.now = omega arith in
+    (omega (arith, c.decreases), (c.requires.visit, call_below c.args.calls.now c.loop-call.call-index c.call-item.result within c.call-item.is c.args.visit.now.program.now c.args.visit.now.rel.now.stratum c.requires.below))
+
+pub all_match-returns-in_err-one-clause-fault : goal.all_match-returns-in_err-one-clause-fault
+all_match-returns-in_err-one-clause-fault t c =
+    let within : c.loop-call.call-index < length c.args.calls.now = omega arith in
+    let e = c.in_err-one.field-0.0 in
+    let p = err_from_is_err_and c.from_residual.result c.from_residual.ensures.1 in
+    ends_with (IsFault (SeenInWhens c.args.visit.now (calls_named c.args.calls.now))) c.from_residual.result e p.0 p.1 (cc p.2) (call_fault c.args.calls.now c.loop-call.call-index c.call-item.result within c.call-item.is (Seen c.args.visit.now.program.now c.args.visit.now.models.now []) e c.in_err-one.ensures.fault)
+
+pub all_match-loop-call-preserved : goal.all_match-loop-call-preserved
+all_match-loop-call-preserved t c =
+    let i : ℕ = c.loop-call.call-index in
+    let within : i < length c.args.calls.now = omega arith in
+    record {
+      value = call_value c.args.calls.now i c.call-item.result within c.call-item.is (match_in c.args.visit.now) (i + 1) c.loop-call.all c.in_ok-one.one (omega arith) c.loop-call.invariant.value c.in_ok-one.ensures.value;
+      clean = call_clean c.args.calls.now i c.call-item.result within c.call-item.is (Seen c.args.visit.now.program.now c.args.visit.now.models.now []) (i + 1) (omega arith) c.loop-call.invariant.clean c.in_ok-one.ensures.clean;
+    }
+
+pub all_match-returns-clause-value : goal.all_match-returns-clause-value
+all_match-returns-clause-value t c =
+    calls_value c.args.calls.now c.loop-call.call-index (omega arith) (match_in c.args.visit.now) c.loop-call.all c.loop-call.invariant.value
+
+pub all_match-returns-clause-clean : goal.all_match-returns-clause-clean
+all_match-returns-clause-clean t c =
+    calls_clean c.args.calls.now c.loop-call.call-index (omega arith) (Seen c.args.visit.now.program.now c.args.visit.now.models.now []) c.loop-call.invariant.clean
+
+-- ---- calls in where clauses
+
+pub all_hold-loop-call-init : goal.all_hold-loop-call-init
+all_hold-loop-call-init t c = record { value = (λ h. tt, λ h. refl); clean = clean_no_calls (SeenBehind c.args.visit.now.program.now c.args.visit.now.models.now (upto_of c.args.visit.now)) }
+
+pub all_hold-one_holds-requires : goal.all_hold-one_holds-requires
+all_hold-one_holds-requires t c =
+    let within : c.loop-call.call-index < length c.args.calls.now = omega arith in
+    (omega (arith, c.decreases), (c.requires.visit, call_below c.args.calls.now c.loop-call.call-index c.call-item.result within c.call-item.is c.args.visit.now.program.now (suc c.args.visit.now.rel.now.stratum) c.requires.below))
+
+pub all_hold-returns-in_err-one-clause-fault : goal.all_hold-returns-in_err-one-clause-fault
+all_hold-returns-in_err-one-clause-fault t c =
+    let within : c.loop-call.call-index < length c.args.calls.now = omega arith in
+    let e = c.in_err-one.field-0.0 in
+    let p = err_from_is_err_and c.from_residual.result c.from_residual.ensures.1 in
+    ends_with (IsFault (SeenInWheres c.args.visit.now (calls_named c.args.calls.now))) c.from_residual.result e p.0 p.1 (cc p.2) (call_fault c.args.calls.now c.loop-call.call-index c.call-item.result within c.call-item.is (SeenBehind c.args.visit.now.program.now c.args.visit.now.models.now (upto_of c.args.visit.now)) e c.in_err-one.ensures.fault)
+
+pub all_hold-loop-call-preserved : goal.all_hold-loop-call-preserved
+all_hold-loop-call-preserved t c =
+    let i : ℕ = c.loop-call.call-index in
+    let within : i < length c.args.calls.now = omega arith in
+    record {
+      value = call_value c.args.calls.now i c.call-item.result within c.call-item.is (hold_in c.args.visit.now) (i + 1) c.loop-call.all c.in_ok-one.one (omega arith) c.loop-call.invariant.value c.in_ok-one.ensures.value;
+      clean = call_clean c.args.calls.now i c.call-item.result within c.call-item.is (SeenBehind c.args.visit.now.program.now c.args.visit.now.models.now (upto_of c.args.visit.now)) (i + 1) (omega arith) c.loop-call.invariant.clean c.in_ok-one.ensures.clean;
+    }
+
+pub all_hold-returns-clause-value : goal.all_hold-returns-clause-value
+all_hold-returns-clause-value t c =
+    calls_value c.args.calls.now c.loop-call.call-index (omega arith) (hold_in c.args.visit.now) c.loop-call.all c.loop-call.invariant.value
+
+pub all_hold-returns-clause-clean : goal.all_hold-returns-clause-clean
+all_hold-returns-clause-clean t c =
+    calls_clean c.args.calls.now c.loop-call.call-index (omega arith) (SeenBehind c.args.visit.now.program.now c.args.visit.now.models.now (upto_of c.args.visit.now)) c.loop-call.invariant.clean
+
+-- ---- partners
+
+pub any_partner-loop-g-init : goal.any_partner-loop-g-init
+any_partner-loop-g-init t c =
+    record {
+      value = any_none (λ g. AllAsked (hold_in c.args.visit.now) (wheres_of c.args.visit.now g));
+      clean = clean_no_values (λ g. SeenInWheres c.args.visit.now (wheres_of c.args.visit.now g));
+    }
+
+pub any_partner-returns-in_err-one-clause-fault : goal.any_partner-returns-in_err-one-clause-fault
+any_partner-returns-in_err-one-clause-fault t c =
+    let within : c.loop-g.g-index < length c.args.gs.now = omega arith in
+    let e = c.in_err-one.field-0.0 in
+    let p = err_from_is_err_and c.from_residual.result c.from_residual.ensures.1 in
+    ends_with (IsFault (SeenByPartners c.args.visit.now (values_of c.args.gs.now))) c.from_residual.result e p.0 p.1 (cc p.2) (value_fault c.args.gs.now c.loop-g.g-index c.g-item.result within c.g-item.is (λ g. SeenInWheres c.args.visit.now (wheres_of c.args.visit.now g)) e c.in_err-one.ensures.fault)
+
+pub any_partner-loop-g-preserved : goal.any_partner-loop-g-preserved
+any_partner-loop-g-preserved t c =
+    let i : ℕ = c.loop-g.g-index in
+    let within : i < length c.args.gs.now = omega arith in
+    record {
+      value = value_any c.args.gs.now i c.g-item.result within c.g-item.is (λ g. AllAsked (hold_in c.args.visit.now) (wheres_of c.args.visit.now g)) (i + 1) c.loop-g.any c.in_ok-one.one (omega arith)
+          c.loop-g.invariant.value c.in_ok-one.ensures.value;
+      clean = value_clean c.args.gs.now i c.g-item.result within c.g-item.is (λ g. SeenInWheres c.args.visit.now (wheres_of c.args.visit.now g)) (i + 1) (omega arith) c.loop-g.invariant.clean c.in_ok-one.ensures.clean;
+    }
+
+pub any_partner-returns-clause-value : goal.any_partner-returns-clause-value
+any_partner-returns-clause-value t c =
+    values_any c.args.gs.now c.loop-g.g-index (omega arith) (λ g. AllAsked (hold_in c.args.visit.now) (wheres_of c.args.visit.now g)) c.loop-g.any c.loop-g.invariant.value
+
+pub any_partner-returns-clause-clean : goal.any_partner-returns-clause-clean
+any_partner-returns-clause-clean t c =
+    values_clean c.args.gs.now c.loop-g.g-index (omega arith) (λ g. SeenInWheres c.args.visit.now (wheres_of c.args.visit.now g)) c.loop-g.invariant.clean
+
+-- ---- bindings
+
+pub outcomes_of-loop-b-init : goal.outcomes_of-loop-b-init
+outcomes_of-loop-b-init t c = record { value = subst (AreOutcomes c.args.visit.now.program.now c.args.visit.now.models.now (left_of c.args.visit.now) c.args.visit.now.rel.now []) (sym c.new-outcomes.ensures) tt; clean = clean_no_values (SeenBy c.args.visit.now) }
+
+pub outcomes_of-outcome_of-requires : goal.outcomes_of-outcome_of-requires
+outcomes_of-outcome_of-requires t c =
+    let within : c.loop-b.b-index < length c.args.bs.now = omega arith in
+    (omega (arith, c.decreases), (c.requires.visit, c.requires.sources c.b-item.result.values (value_here c.args.bs.now c.loop-b.b-index c.b-item.result within c.b-item.is)))
+
+pub outcomes_of-returns-in_err-outcome-clause-fault : goal.outcomes_of-returns-in_err-outcome-clause-fault
+outcomes_of-returns-in_err-outcome-clause-fault t c =
+    let within : c.loop-b.b-index < length c.args.bs.now = omega arith in
+    let e = c.in_err-outcome.field-0.0 in
+    let p = err_from_is_err_and c.from_residual.result c.from_residual.ensures.1 in
+    ends_with (IsFault (SeenByAny c.args.visit.now (values_of c.args.bs.now))) c.from_residual.result e p.0 p.1 (cc p.2) (value_fault c.args.bs.now c.loop-b.b-index c.b-item.result within c.b-item.is (SeenBy c.args.visit.now) e c.in_err-outcome.ensures.fault)
+
+pub outcomes_of-returns-clause-value : goal.outcomes_of-returns-clause-value
+outcomes_of-returns-clause-value t c =
+    values_outcomes c.args.bs.now c.loop-b.b-index (omega arith) c.args.visit.now.program.now c.args.visit.now.models.now (left_of c.args.visit.now) c.args.visit.now.rel.now c.loop-b.outcomes c.loop-b.invariant.value
+
+pub outcomes_of-returns-clause-clean : goal.outcomes_of-returns-clause-clean
+outcomes_of-returns-clause-clean t c = values_clean c.args.bs.now c.loop-b.b-index (omega arith) (SeenBy c.args.visit.now) c.loop-b.invariant.clean
+
+-- ---- a call in a where clause
+
+-- ---- optional calls
+
+pub one_holds-called-requires : goal.one_holds-called-requires
+one_holds-called-requires t c = (omega (arith, c.decreases), (c.requires.visit, subst (λ o. AreBelow c.args.visit.now.program.now (suc c.args.visit.now.rel.now.stratum) (option_map call_named o ∷ [])) c.in-Some.is c.requires.below))
+
+pub is_partner-all_hold-requires : goal.is_partner-all_hold-requires
+is_partner-all_hold-requires t c =
+    let v = c.args.visit.now in
+    let same : calls_named c.as_slice-2.result.now ≡ wheres_of v c.args.g.now.values = ap calls_named c.as_slice-2.ensures ∙ c.in_ok-calls.ensures ∙ ap (calls_of v.program.now v.models.now c.args.g.now.values) c.as_slice.ensures in (
+      omega (arith, c.decreases),
+      (
+        c.requires.visit,
+        subst (AreBelow v.program.now (suc v.rel.now.stratum)) (sym same) (below_wheres v.program.now v.models.now c.requires.visit.formed v.plan.now.rel v.rel.now c.args.g.now.values c.requires.visit.planned.found),
+      ),
+    )
+
+-- ---- a visit
+
+pub explore-plan_of-requires : goal.explore-plan_of-requires
+explore-plan_of-requires t c = slice_get_within c.args.program.now.rels c.args.name.now.rel c.requires.askable.rel c.requires.askable.found
+
+pub explore-bindings-requires-clause-meant : goal.explore-bindings-requires-clause-meant
+explore-bindings-requires-clause-meant t c = c.requires.formed.1.relations
+
+pub explore-bindings-requires-clause-planned : goal.explore-bindings-requires-clause-planned
+explore-bindings-requires-clause-planned t c =
+    let a = c.requires.askable in
+    (a.rel, planned_at c.args.program.now c.args.name.now.rel a.rel c.in_ok-plan.plan c.in_ok-plan.ensures a.found, a.places, a.primitives)
+
+pub has_partner-target_bindings-requires-clause-meant : goal.has_partner-target_bindings-requires-clause-meant
+has_partner-target_bindings-requires-clause-meant t c = c.requires.visit.formed.1.relations
+
+pub has_partner-target_bindings-requires-clause-planned : goal.has_partner-target_bindings-requires-clause-planned
+has_partner-target_bindings-requires-clause-planned t c = (c.args.visit.now.rel.now, c.requires.visit.planned, c.requires.source.places, c.requires.source.universals)
+
+pub is_matched-all_match-requires : goal.is_matched-all_match-requires
+is_matched-all_match-requires t c =
+    let v = c.args.visit.now in
+    let same : calls_named c.as_slice-2.result.now ≡ whens_of v c.args.b.now.values = ap calls_named c.as_slice-2.ensures ∙ c.in_ok-calls.ensures ∙ ap (calls_of v.program.now v.models.now c.args.b.now.values) c.as_slice.ensures in (
+      omega (arith, c.decreases),
+      (
+        c.requires.visit,
+        subst (AreBelow v.program.now v.rel.now.stratum) (sym same) (below_whens v.program.now v.models.now c.requires.visit.formed v.plan.now.rel v.rel.now c.args.b.now.values c.requires.visit.planned.found),
+      ),
+    )
+
+pub outcome_of-returns-in_err-matched-clause-fault : goal.outcome_of-returns-in_err-matched-clause-fault
+outcome_of-returns-in_err-matched-clause-fault t c =
+    let v = c.args.visit.now in
+    let e = c.in_err-matched.field-0.0 in
+    let p = err_from_is_err_and c.from_residual.result c.from_residual.ensures.1 in
+    ends_with (IsFault (SeenBy v c.args.b.now.values)) c.from_residual.result e p.0 p.1 (cc p.2)
+    (fault_in (SeenInWhens v (whens_of v c.args.b.now.values)) (SeenBy v c.args.b.now.values) (λ chain seen. inl seen) e
+    c.in_err-matched.ensures.fault)
+
+-- ---- a call in a where clause
+
+pub called-longer_chain-requires : goal.called-longer_chain-requires
+called-longer_chain-requires t c = c.requires.visit.chain
+
+pub called-explore-requires : goal.called-explore-requires
+called-explore-requires t c =
+    let v = c.args.visit.now in
+    let d = call_named c.args.name.now in
+    let below = c.requires.below d (0, omega arith, refl) in
+    let long = length-map v.upto.now call_named in
+    let longer = length-map c.in_ok-upto.upto call_named in
+    let one_more = ap length c.in_ok-upto.ensures.longer in
+    let more = length_more (upto_of v) d in
+    let few = c.requires.visit.chain.few in
+    let names = ap (λ (ns : List CallName). length ns) c.as_slice.ensures in (
+      omega (arith, c.decreases, below.1, long, longer, one_more, more, few, names),
+      (
+        c.requires.visit.formed,
+        (below.0, subst (λ (ns : List CallName). IsChain (chain_named ns)) (sym c.as_slice.ensures) c.in_ok-upto.ensures.whole),
+      ),
+    )
+
+pub called-returns-in_err-upto-clause-fault : goal.called-returns-in_err-upto-clause-fault
+called-returns-in_err-upto-clause-fault t c =
+    let v = c.args.visit.now in
+    let d = call_named c.args.name.now in
+    let e = c.in_err-upto.field-0.0 in
+    let p = err_from_is_err_and c.from_residual.result c.from_residual.ensures.1 in
+    ends_with (IsFault (SeenBehind v.program.now v.models.now (upto_of v) d)) c.from_residual.result e p.0 p.1 (cc p.2)
+    (refused_fault v.program.now v.models.now (upto_of v) d e c.in_err-upto.ensures.fault)
+
+pub called-returns-in_err-found-clause-fault : goal.called-returns-in_err-found-clause-fault
+called-returns-in_err-found-clause-fault t c =
+    let v = c.args.visit.now in
+    let d = call_named c.args.name.now in
+    let e = c.in_err-found.field-0.0 in
+    let p = err_from_is_err_and c.from_residual-in_err-found.result c.from_residual-in_err-found.ensures.1 in
+    ends_with (IsFault (SeenBehind v.program.now v.models.now (upto_of v) d)) c.from_residual-in_err-found.result e p.0 p.1 (cc p.2)
+    (called_fault v.program.now v.models.now (upto_of v) d c.in_ok-upto.upto c.in_ok-upto.ensures.longer c.in_ok-upto.ensures.whole e
+    (subst (λ (ns : List CallName). IsFault (Seen v.program.now v.models.now (chain_named ns) d) e) c.as_slice.ensures c.in_err-found.ensures.fault))
+
+pub called-returns-clause-clean : goal.called-returns-clause-clean
+called-returns-clause-clean t c =
+    let v = c.args.visit.now in
+    let d = call_named c.args.name.now in
+    called_clean v.program.now v.models.now (upto_of v) d c.in_ok-upto.upto c.in_ok-upto.ensures.longer c.in_ok-upto.ensures.whole
+    (subst (λ (ns : List CallName). AreClean (Seen v.program.now v.models.now (chain_named ns) d)) c.as_slice.ensures c.in_ok-found.ensures.clean)
+
+pub called-returns-clause-value : goal.called-returns-clause-value
+called-returns-clause-value t c =
+    let v = c.args.visit.now in
+    let d = call_named c.args.name.now in
+    let below = c.requires.below d (0, omega arith, refl) in
+    let found = c.in_ok-found.found in
+    let of = subst (λ (ns : List CallName). IsFound v.program.now v.models.now (MAX_CALLS - length (chain_named ns)) below.0.rel d.roots found) c.as_slice.ensures (c.in_ok-found.ensures.value below.0.rel below.0.found) in
+    subst (λ x. IsTrue (not x) ↔ HoldsFor v.program.now v.models.now (left_of v) d) (sym (c.is_any_alone.ensures ∙ ap (list_any is_alone) c.as_slice-2.ensures))
+    (called_value v.program.now v.models.now (upto_of v) d c.in_ok-upto.upto c.in_ok-upto.ensures.longer c.in_ok-upto.ensures.whole below.0.rel found below.0.found of)
+
+pub one_holds-returns-in-Some-clause-value : goal.one_holds-returns-in-Some-clause-value
+one_holds-returns-in-Some-clause-value t c =
+    let v = c.args.visit.now in
+    let d = call_named c.in-Some.name in
+    IfOk-weaker c.called.result (λ one. IsTrue one ↔ hold_in v d) (λ one. IsTrue one ↔ AllAsked (hold_in v) (option_map call_named c.args.call.now ∷ []))
+    (λ one h. subst (λ o. IsTrue one ↔ AllAsked (hold_in v) (option_map call_named o ∷ [])) (sym c.in-Some.is)
+    (λ x. (asked_one (hold_in v) d).1 (h.0 x), λ y. h.1 ((asked_one (hold_in v) d).0 y)))
+    c.called.ensures.value
+
+pub one_holds-returns-in-Some-clause-clean : goal.one_holds-returns-in-Some-clause-clean
+one_holds-returns-in-Some-clause-clean t c =
+    let v = c.args.visit.now in
+    let d = call_named c.in-Some.name in
+    IfOk-weaker c.called.result (λ one. AreClean (SeenBehind v.program.now v.models.now (upto_of v) d)) (λ one. AreClean (SeenInWheres v (option_map call_named c.args.call.now ∷ [])))
+    (λ one h. subst (λ o. AreClean (SeenInWheres v (option_map call_named o ∷ []))) (sym c.in-Some.is)
+    (clean_from (SeenBehind v.program.now v.models.now (upto_of v) d) (SeenInWheres v (Some d ∷ [])) (λ chain. (by_one (SeenBehind v.program.now v.models.now (upto_of v)) d chain).0) h))
+    c.called.ensures.clean
+
+pub one_holds-returns-in-Some-clause-fault : goal.one_holds-returns-in-Some-clause-fault
+one_holds-returns-in-Some-clause-fault t c =
+    let v = c.args.visit.now in
+    let d = call_named c.in-Some.name in
+    IfErr-weaker c.called.result (IsFault (SeenBehind v.program.now v.models.now (upto_of v) d)) (IsFault (SeenInWheres v (option_map call_named c.args.call.now ∷ [])))
+    (λ e h. subst (λ o. IsFault (SeenInWheres v (option_map call_named o ∷ [])) e) (sym c.in-Some.is)
+    (fault_in (SeenBehind v.program.now v.models.now (upto_of v) d) (SeenInWheres v (Some d ∷ [])) (λ chain. (by_one (SeenBehind v.program.now v.models.now (upto_of v)) d chain).1) e h))
+    c.called.ensures.fault
+
+pub one_holds-returns-in-None-clause-value : goal.one_holds-returns-in-None-clause-value
+one_holds-returns-in-None-clause-value t c =
+    let v = c.args.visit.now in
+    subst (λ o. IsTrue false ↔ AllAsked (hold_in v) (option_map call_named o ∷ [])) (sym c.in-None.is) (λ h. absurd (true≢false (sym h)), λ h. absurd h)
+
+pub one_holds-returns-in-None-clause-clean : goal.one_holds-returns-in-None-clause-clean
+one_holds-returns-in-None-clause-clean t c =
+    let v = c.args.visit.now in
+    subst (λ o. AreClean (SeenInWheres v (option_map call_named o ∷ []))) (sym c.in-None.is) (by_none (SeenBehind v.program.now v.models.now (upto_of v)))
+
+pub one_matches-returns-in-None-clause-value : goal.one_matches-returns-in-None-clause-value
+one_matches-returns-in-None-clause-value t c =
+    let v = c.args.visit.now in
+    subst (λ o. IsTrue false ↔ AllAsked (match_in v) (option_map call_named o ∷ [])) (sym c.in-None.is) (λ h. absurd (true≢false (sym h)), λ h. absurd h)
+
+pub one_matches-returns-in-None-clause-clean : goal.one_matches-returns-in-None-clause-clean
+one_matches-returns-in-None-clause-clean t c =
+    let v = c.args.visit.now in
+    subst (λ o. AreClean (SeenInWhens v (option_map call_named o ∷ []))) (sym c.in-None.is) (by_none (Seen v.program.now v.models.now []))
+
+pub is_partner-returns-clause-value : goal.is_partner-returns-clause-value
+is_partner-returns-clause-value t c =
+    let v = c.args.visit.now in
+    let same : calls_named c.as_slice-2.result.now ≡ wheres_of v c.args.g.now.values = ap calls_named c.as_slice-2.ensures ∙ c.in_ok-calls.ensures ∙ ap (calls_of v.program.now v.models.now c.args.g.now.values) c.as_slice.ensures in
+    subst (λ cs. IfOk c.all_hold.result (λ one. IsTrue one ↔ AllAsked (hold_in v) cs)) same c.all_hold.ensures.value
+
+pub is_partner-returns-clause-clean : goal.is_partner-returns-clause-clean
+is_partner-returns-clause-clean t c =
+    let v = c.args.visit.now in
+    let same : calls_named c.as_slice-2.result.now ≡ wheres_of v c.args.g.now.values = ap calls_named c.as_slice-2.ensures ∙ c.in_ok-calls.ensures ∙ ap (calls_of v.program.now v.models.now c.args.g.now.values) c.as_slice.ensures in
+    subst (λ cs. IfOk c.all_hold.result (λ one. AreClean (SeenInWheres v cs))) same c.all_hold.ensures.clean
+
+pub is_partner-returns-clause-fault : goal.is_partner-returns-clause-fault
+is_partner-returns-clause-fault t c =
+    let v = c.args.visit.now in
+    let same : calls_named c.as_slice-2.result.now ≡ wheres_of v c.args.g.now.values = ap calls_named c.as_slice-2.ensures ∙ c.in_ok-calls.ensures ∙ ap (calls_of v.program.now v.models.now c.args.g.now.values) c.as_slice.ensures in
+    subst (λ cs. IfErr c.all_hold.result (IsFault (SeenInWheres v cs))) same c.all_hold.ensures.fault
+
+-- ---- a call in a when clause
+
+pub one_matches-explore-requires : goal.one_matches-explore-requires
+one_matches-explore-requires t c =
+    let v = c.args.visit.now in
+    let d = call_named c.in-Some.name in
+    let none : c.as_slice.result.now ≡ [] = c.as_slice.ensures ∙ c.new-none.ensures in
+    let below = c.requires.below d (subst (λ o. Contains (option_map call_named o ∷ []) (Some d)) (sym c.in-Some.is) (0, omega arith, refl)) in
+    (omega (arith, c.decreases, below.1), (c.requires.visit.formed, (below.0, subst (λ (ns : List CallName). IsChain (chain_named ns)) (sym none) no_chain)))
+
+pub one_matches-returns-in_ok-found-in-Some-clause-value : goal.one_matches-returns-in_ok-found-in-Some-clause-value
+one_matches-returns-in_ok-found-in-Some-clause-value t c =
+    let v = c.args.visit.now in
+    let d = call_named c.in-Some.name in
+    let none : c.as_slice.result.now ≡ [] = c.as_slice.ensures ∙ c.new-none.ensures in
+    let below = c.requires.below d (subst (λ o. Contains (option_map call_named o ∷ []) (Some d)) (sym c.in-Some.is) (0, omega arith, refl)) in
+    let found = c.in_ok-found-in-Some.found in
+    let by = match_value v.program.now v.models.now c.requires.visit.formed below.0.rel found d c.as_slice.result.now none below.0.found (c.in_ok-found-in-Some.ensures.value below.0.rel below.0.found) in
+    let asked = asked_one (match_in v) d in
+    subst (λ x. IsTrue x ↔ AllAsked (match_in v) (option_map call_named c.args.call.now ∷ [])) (sym (c.is_any_partnered.ensures ∙ ap (list_any is_partnered) c.as_slice-in-Some.ensures))
+    (subst (λ o. IsTrue (list_any is_partnered found.outcomes) ↔ AllAsked (match_in v) (option_map call_named o ∷ [])) (sym c.in-Some.is) (λ x. asked.1 (by.0 x), λ y. by.1 (asked.0 y)))
+
+pub one_matches-returns-in_ok-found-in-Some-clause-clean : goal.one_matches-returns-in_ok-found-in-Some-clause-clean
+one_matches-returns-in_ok-found-in-Some-clause-clean t c =
+    let v = c.args.visit.now in
+    let d = call_named c.in-Some.name in
+    let none : c.as_slice.result.now ≡ [] = c.as_slice.ensures ∙ c.new-none.ensures in
+    subst (λ o. AreClean (SeenInWhens v (option_map call_named o ∷ []))) (sym c.in-Some.is)
+    (clean_from (Seen v.program.now v.models.now [] d) (SeenInWhens v (Some d ∷ [])) (λ chain. (by_one (Seen v.program.now v.models.now []) d chain).0)
+    (match_clean v.program.now v.models.now d c.as_slice.result.now none c.in_ok-found-in-Some.ensures.clean))
+
+pub one_matches-returns-in_err-found-in-Some-clause-fault : goal.one_matches-returns-in_err-found-in-Some-clause-fault
+one_matches-returns-in_err-found-in-Some-clause-fault t c =
+    let v = c.args.visit.now in
+    let d = call_named c.in-Some.name in
+    let none : c.as_slice.result.now ≡ [] = c.as_slice.ensures ∙ c.new-none.ensures in
+    let e = c.in_err-found-in-Some.field-0.0 in
+    let p = err_from_is_err_and c.from_residual.result c.from_residual.ensures.1 in
+    ends_with (IsFault (SeenInWhens v (option_map call_named c.args.call.now ∷ []))) c.from_residual.result e p.0 p.1 (cc p.2)
+    (subst (λ o. IsFault (SeenInWhens v (option_map call_named o ∷ [])) e) (sym c.in-Some.is)
+    (fault_in (Seen v.program.now v.models.now [] d) (SeenInWhens v (Some d ∷ [])) (λ chain. (by_one (Seen v.program.now v.models.now []) d chain).1) e
+    (match_fault v.program.now v.models.now d c.as_slice.result.now e none c.in_err-found-in-Some.ensures.fault)))
+
+-- ---- partners that meet the target
+
+pub has_partner-returns-clause-value : goal.has_partner-returns-clause-value
+has_partner-returns-clause-value t c =
+    let v = c.args.visit.now in
+    let b = c.args.b.now.values in
+    let gs = values_of c.as_slice.result.now in
+    let exact : (g : Values) → Contains gs g ↔ Target v.program.now v.models.now v.rel.now b g =
+    subst (λ (bs : List Binding). (g : Values) → Contains (values_of bs) g ↔ Target v.program.now v.models.now v.rel.now b g) (sym c.as_slice.ensures) (c.in_ok-gs.ensures.exact v.rel.now c.requires.visit.planned) in
+    IfOk-weaker c.any_partner.result (λ any. IsTrue any ↔ ((g : Values) × Contains gs g × AllAsked (hold_in v) (wheres_of v g)))
+    (λ any. IsTrue any ↔ ((g : Values) × TargetHolds (hold_in v) v.program.now v.models.now v.rel.now b g))
+    (λ any h. partner_value v.program.now v.models.now (left_of v) v.rel.now b gs any exact h) c.any_partner.ensures.value
+
+pub has_partner-returns-clause-clean : goal.has_partner-returns-clause-clean
+has_partner-returns-clause-clean t c =
+    let v = c.args.visit.now in
+    let b = c.args.b.now.values in
+    let gs = values_of c.as_slice.result.now in
+    let exact : (g : Values) → Contains gs g ↔ Target v.program.now v.models.now v.rel.now b g =
+    subst (λ (bs : List Binding). (g : Values) → Contains (values_of bs) g ↔ Target v.program.now v.models.now v.rel.now b g) (sym c.as_slice.ensures) (c.in_ok-gs.ensures.exact v.rel.now c.requires.visit.planned) in
+    IfOk-weaker c.any_partner.result (λ _. AreClean (SeenByPartners v gs)) (λ _. AreClean (SeenByTargets v b))
+    (λ _ h. clean_from (SeenByPartners v gs) (SeenByTargets v b) (λ chain s. (partner_seen v.program.now v.models.now (upto_of v) v.rel.now b gs exact chain).0 s) h) c.any_partner.ensures.clean
+
+pub has_partner-returns-clause-fault : goal.has_partner-returns-clause-fault
+has_partner-returns-clause-fault t c =
+    let v = c.args.visit.now in
+    let b = c.args.b.now.values in
+    let gs = values_of c.as_slice.result.now in
+    let exact : (g : Values) → Contains gs g ↔ Target v.program.now v.models.now v.rel.now b g =
+    subst (λ (bs : List Binding). (g : Values) → Contains (values_of bs) g ↔ Target v.program.now v.models.now v.rel.now b g) (sym c.as_slice.ensures) (c.in_ok-gs.ensures.exact v.rel.now c.requires.visit.planned) in
+    IfErr-weaker c.any_partner.result (IsFault (SeenByPartners v gs)) (IsFault (SeenByTargets v b))
+    (λ e h. fault_in (SeenByPartners v gs) (SeenByTargets v b) (λ chain s. (partner_seen v.program.now v.models.now (upto_of v) v.rel.now b gs exact chain).1 s) e h) c.any_partner.ensures.fault
+
+-- ---- what comes of a binding
+
+pub is_matched-returns-clause-value : goal.is_matched-returns-clause-value
+is_matched-returns-clause-value t c =
+    let v = c.args.visit.now in
+    let same : calls_named c.as_slice-2.result.now ≡ whens_of v c.args.b.now.values = ap calls_named c.as_slice-2.ensures ∙ c.in_ok-calls.ensures ∙ ap (calls_of v.program.now v.models.now c.args.b.now.values) c.as_slice.ensures in
+    subst (λ cs. IfOk c.all_match.result (λ one. IsTrue one ↔ AllAsked (match_in v) cs)) same c.all_match.ensures.value
+
+pub is_matched-returns-clause-clean : goal.is_matched-returns-clause-clean
+is_matched-returns-clause-clean t c =
+    let v = c.args.visit.now in
+    let same : calls_named c.as_slice-2.result.now ≡ whens_of v c.args.b.now.values = ap calls_named c.as_slice-2.ensures ∙ c.in_ok-calls.ensures ∙ ap (calls_of v.program.now v.models.now c.args.b.now.values) c.as_slice.ensures in
+    subst (λ cs. IfOk c.all_match.result (λ one. AreClean (SeenInWhens v cs))) same c.all_match.ensures.clean
+
+pub is_matched-returns-clause-fault : goal.is_matched-returns-clause-fault
+is_matched-returns-clause-fault t c =
+    let v = c.args.visit.now in
+    let same : calls_named c.as_slice-2.result.now ≡ whens_of v c.args.b.now.values = ap calls_named c.as_slice-2.ensures ∙ c.in_ok-calls.ensures ∙ ap (calls_of v.program.now v.models.now c.args.b.now.values) c.as_slice.ensures in
+    subst (λ cs. IfErr c.all_match.result (IsFault (SeenInWhens v cs))) same c.all_match.ensures.fault
+
+pub outcome_of-has_partner-requires : goal.outcome_of-has_partner-requires
+outcome_of-has_partner-requires t c = (omega (arith, c.decreases), (c.requires.visit, c.requires.source))
+
+pub outcome_of-returns-in_err-partnered-clause-fault : goal.outcome_of-returns-in_err-partnered-clause-fault
+outcome_of-returns-in_err-partnered-clause-fault t c =
+    let v = c.args.visit.now in
+    let matched : AllAsked (match_in v) (whens_of v c.args.b.now.values) = c.in_ok-matched.ensures.value.0 c.if-not-matched.false in
+    let e = c.in_err-partnered.field-0.0 in
+    let p = err_from_is_err_and c.from_residual-in_err-partnered.result c.from_residual-in_err-partnered.ensures.1 in
+    ends_with (IsFault (SeenBy v c.args.b.now.values)) c.from_residual-in_err-partnered.result e p.0 p.1 (cc p.2)
+    (fault_in (SeenByTargets v c.args.b.now.values) (SeenBy v c.args.b.now.values) (λ chain seen. inr (matched, seen)) e c.in_err-partnered.ensures.fault)
+
+pub outcome_of-returns-then-not-matched-clause-value : goal.outcome_of-returns-then-not-matched-clause-value
+outcome_of-returns-then-not-matched-clause-value t c =
+    let v = c.args.visit.now in
+    λ all. true≢false (sym (c.in_ok-matched.ensures.value.1 all) ∙ c.if-not-matched.true)
+
+pub outcome_of-returns-then-not-matched-clause-clean : goal.outcome_of-returns-then-not-matched-clause-clean
+outcome_of-returns-then-not-matched-clause-clean t c =
+    let v = c.args.visit.now in
+    unmatched_clean v.program.now v.models.now (upto_of v) v.rel.now c.args.b.now.values
+    (λ all. true≢false (sym (c.in_ok-matched.ensures.value.1 all) ∙ c.if-not-matched.true))
+    c.in_ok-matched.ensures.clean
+
+pub outcome_of-returns-then-partnered-clause-value : goal.outcome_of-returns-then-partnered-clause-value
+outcome_of-returns-then-partnered-clause-value t c =
+    let v = c.args.visit.now in
+    let matched : AllAsked (match_in v) (whens_of v c.args.b.now.values) = c.in_ok-matched.ensures.value.0 c.if-not-matched.false in
+    let (g, partner) = c.in_ok-partnered.ensures.value.0 c.if-partnered.true in
+    (matched, g, partner)
+
+pub outcome_of-returns-then-partnered-clause-clean : goal.outcome_of-returns-then-partnered-clause-clean
+outcome_of-returns-then-partnered-clause-clean t c =
+    let v = c.args.visit.now in
+    matched_clean v.program.now v.models.now (upto_of v) v.rel.now c.args.b.now.values c.in_ok-matched.ensures.clean c.in_ok-partnered.ensures.clean
+
+pub outcome_of-returns-else-partnered-clause-value : goal.outcome_of-returns-else-partnered-clause-value
+outcome_of-returns-else-partnered-clause-value t c =
+    let v = c.args.visit.now in
+    let matched : AllAsked (match_in v) (whens_of v c.args.b.now.values) = c.in_ok-matched.ensures.value.0 c.if-not-matched.false in
+    (matched, λ g partner. true≢false (sym (c.in_ok-partnered.ensures.value.1 (g, partner)) ∙ c.if-partnered.false))
+
+pub outcome_of-returns-else-partnered-clause-clean : goal.outcome_of-returns-else-partnered-clause-clean
+outcome_of-returns-else-partnered-clause-clean t c =
+    let v = c.args.visit.now in
+    matched_clean v.program.now v.models.now (upto_of v) v.rel.now c.args.b.now.values c.in_ok-matched.ensures.clean c.in_ok-partnered.ensures.clean
+
+pub outcomes_of-loop-b-preserved : goal.outcomes_of-loop-b-preserved
+outcomes_of-loop-b-preserved t c =
+    let v = c.args.visit.now in
+    let i : ℕ = c.loop-b.b-index in
+    let within : i < length c.args.bs.now = omega arith in
+    record {
+      value = subst (AreOutcomes v.program.now v.models.now (left_of v) v.rel.now (values_of (take (i + 1) c.args.bs.now))) (sym c.in_ok-push.ensures.ok)
+          (value_outcomes c.args.bs.now i c.b-item.result within c.b-item.is v.program.now v.models.now (left_of v) v.rel.now c.loop-b.outcomes c.in_ok-outcome.outcome (i + 1) (omega arith) c.loop-b.invariant.value c.in_ok-outcome.ensures.value);
+      clean = value_clean c.args.bs.now i c.b-item.result within c.b-item.is (SeenBy v) (i + 1) (omega arith) c.loop-b.invariant.clean c.in_ok-outcome.ensures.clean;
+    }
+
+-- ---- a visit of a relation
+
+pub explore-bounds-as_slice-name : goal.explore-bounds-as_slice-name
+explore-bounds-as_slice-name t c =
+    let a = c.requires.askable in
+    subst (λ (rs : List Rel). c.args.name.now.rel < length rs) (sym c.as_slice.ensures) (slice_get_within c.args.program.now.rels c.args.name.now.rel a.rel a.found)
+
+pub explore-outcomes_of-requires : goal.explore-outcomes_of-requires
+explore-outcomes_of-requires t c =
+    let a = c.requires.askable in
+    let rel = c.index-as_slice-name.result in
+    let is = visited c.args.program.now c.args.name.now.rel a.rel rel c.as_slice.result.now c.as_slice.ensures a.found c.index-as_slice-name.is in
+    let planned = planned_at c.args.program.now c.args.name.now.rel rel c.in_ok-plan.plan c.in_ok-plan.ensures is in
+    let level = ap stratum_in is in (
+      omega (arith, c.decreases, level),
+      (
+        record { formed = c.requires.formed; planned = planned; chain = c.requires.chain },
+        λ b has. source_binding c.args.program.now c.args.models.now rel c.args.name.now.roots.values b
+            ((c.in_ok-bindings.ensures.exact rel planned b).0 (subst (λ (bs : List Binding). Contains (values_of bs) b) c.as_slice-2.ensures has)),
+      ),
+    )
+
+pub explore-returns-in_err-outcomes-clause-fault : goal.explore-returns-in_err-outcomes-clause-fault
+explore-returns-in_err-outcomes-clause-fault t c =
+    let a = c.requires.askable in
+    let rel = c.index-as_slice-name.result in
+    let is = visited c.args.program.now c.args.name.now.rel a.rel rel c.as_slice.result.now c.as_slice.ensures a.found c.index-as_slice-name.is in
+    let planned = planned_at c.args.program.now c.args.name.now.rel rel c.in_ok-plan.plan c.in_ok-plan.ensures is in
+    let exact = all_sources c.args.program.now c.args.models.now rel c.args.name.now.roots.values c.in_ok-bindings.bindings c.as_slice-2.result.now c.as_slice-2.ensures (c.in_ok-bindings.ensures.exact rel planned) in
+    let e = c.in_err-outcomes.field-0.0 in
+    let p = err_from_is_err_and c.from_residual-in_err-outcomes.result c.from_residual-in_err-outcomes.ensures.1 in
+    ends_with (IsFault (Seen c.args.program.now c.args.models.now (chain_named c.args.upto.now) (call_named c.args.name.now))) c.from_residual-in_err-outcomes.result e p.0 p.1 (cc p.2)
+    (fault_call c.args.program.now c.args.models.now (chain_named c.args.upto.now) rel (call_named c.args.name.now) (values_of c.as_slice-2.result.now) is exact e c.in_err-outcomes.ensures.fault)
+
+pub explore-returns-clause-clean : goal.explore-returns-clause-clean
+explore-returns-clause-clean t c =
+    let a = c.requires.askable in
+    let rel = c.index-as_slice-name.result in
+    let is = visited c.args.program.now c.args.name.now.rel a.rel rel c.as_slice.result.now c.as_slice.ensures a.found c.index-as_slice-name.is in
+    let planned = planned_at c.args.program.now c.args.name.now.rel rel c.in_ok-plan.plan c.in_ok-plan.ensures is in
+    let exact = all_sources c.args.program.now c.args.models.now rel c.args.name.now.roots.values c.in_ok-bindings.bindings c.as_slice-2.result.now c.as_slice-2.ensures (c.in_ok-bindings.ensures.exact rel planned) in
+    clean_call c.args.program.now c.args.models.now (chain_named c.args.upto.now) rel (call_named c.args.name.now) (values_of c.as_slice-2.result.now) is exact c.in_ok-outcomes.ensures.clean
+
+pub explore-returns-clause-value : goal.explore-returns-clause-value
+explore-returns-clause-value t c =
+    let a = c.requires.askable in
+    let rel = c.index-as_slice-name.result in
+    let is = visited c.args.program.now c.args.name.now.rel a.rel rel c.as_slice.result.now c.as_slice.ensures a.found c.index-as_slice-name.is in
+    λ r there.
+    let planned = planned_at c.args.program.now c.args.name.now.rel r c.in_ok-plan.plan c.in_ok-plan.ensures there in
+    found_all c.args.program.now c.args.models.now (MAX_CALLS - length (chain_named c.args.upto.now)) rel r (same_Some rel r (sym is ∙ there)) c.args.name.now.roots.values c.in_ok-bindings.bindings
+    c.as_slice-2.result.now c.as_slice-2.ensures c.in_ok-outcomes.outcomes (c.in_ok-bindings.ensures.exact r planned) (c.in_ok-bindings.ensures.sorted r planned) c.in_ok-outcomes.ensures.value

@@ -1,0 +1,31 @@
+ghost use Rattle.std.specs.Prelude.{◌≡◌, [], ◌∷◌, ◌++◌, IfOk, IfErr};
+ghost use Rattle.relation_calls.specs.Names.{call_named, chain_named};
+ghost use Rattle.relation_calls.specs.Faults.{IsFault};
+ghost use Rattle.relation_calls.specs.Visits.{IsChain};
+
+use crate::copying::{chain_with, is_among};
+use crate::error::CallError;
+use crate::name::CallName;
+use mof_metamodel::{MAX_CALLS, Seq};
+use std::alloc::Global;
+
+/// The chain with one call more. It is refused where the call is one of the chain, and where the chain has as many as there may be.
+pub(crate) fn longer_chain(
+    alloc: Global,
+    upto: &[CallName],
+    name: &CallName,
+) -> Result<Seq<CallName>, CallError>
+    requires { IsChain (chain_named upto.now) }
+    ensures longer { IfOk result (λ names. chain_named names ≡ chain_named upto.now ++ call_named name.now ∷ []) }
+    ensures whole { IfOk result (λ names. IsChain (chain_named names)) }
+    ensures fault { IfErr result (IsFault (λ chain. chain ≡ chain_named upto.now ++ call_named name.now ∷ [])) }
+{
+    let names = chain_with(alloc, upto, name)?;
+    if is_among(upto, name) {
+        return Err(CallError::Cycle(names));
+    }
+    if upto.len() >= MAX_CALLS {
+        return Err(CallError::Deep(names));
+    }
+    Ok(names)
+}
