@@ -93,7 +93,7 @@ CASES = [
     ('150,000 partners', lambda: many_partners(150_000)),
     ('150,000 values', lambda: many_values(150_000)),
     ('200,000 that refer to one', lambda: all_to_one(200_000)),
-    ('20,000 in one chain', lambda: chain(20_000)),
+    ('200,000 in one chain', lambda: chain(200_000)),
     ('1,200 with each of 1,200', lambda: each_with_each(1_200)),
     ('100,000 references to nothing', lambda: to_nothing(100_000)),
     ('200,000 chosen names', lambda: chosen_names(200_000)),
