@@ -14,9 +14,9 @@ use Rattle.qvtr_semantics.specs.Objects.{Setting}
 use Rattle.qvtr_semantics.specs.Iterators.{iterated}
 use Rattle.qvtr_semantics.specs.Expressions.{Scope, Meaning, meaning, query_value, queries_within, each, with_collection}
 use Rattle.ocl_eval.specs.declared.world.World.{World}
-use Rattle.ocl_values.specs.Progress.{begun, advanced, iterator_result}
+use Rattle.ocl_eval.specs.Progress.{begun, advanced, iterator_result}
 use Rattle.ocl_eval.specs.Worlds.{setting_of, queries_of, meaning_of, each_behind}
-use Rattle.ocl_values.proofs.ProgressLaws.{iterated_by_steps}
+use Rattle.ocl_eval.proofs.ProgressLaws.{iterated_by_steps}
 
 without_last : {X : Type 0} (xs : List X) (x : X) → take (length (xs ++ x ∷ []) - 1) (xs ++ x ∷ []) ≡ xs
 without_last xs x =

@@ -1,1 +1,10 @@
+pub mod Counted
+pub mod Lending
+pub mod Operations
+pub mod Order
+pub mod OrderLaws
+pub mod OutOrderLaws
+pub mod Progress
+pub mod Results
+pub mod Spellings
 pub mod Worlds

@@ -8,10 +8,11 @@ ghost use Rattle.qvtr_semantics.specs.Objects.{object_datum, is_kind_of, conform
 ghost use Rattle.qvtr_semantics.specs.Templates.{conforms};
 ghost use Rattle.ocl_eval.specs.Worlds.{setting_of, class_in};
 
+use crate::models::Models;
+use crate::outs::boolean;
 use crate::world::World;
 use mof_metamodel::{ClassId, MetaModel, NoMemory, Seq};
 use object_tables::{Model, ObjId};
-use ocl_values::{Models, boolean};
 use qv_syntax::{ClassOperation, Kind};
 use qvtr_semantics::{Datum, Out};
 use std::alloc::Global;

@@ -8,21 +8,25 @@ ghost use Rattle.qvtr_semantics.specs.Outs.{boolean_of};
 ghost use Rattle.qvtr_semantics.specs.Expressions.{on_collection as on_collection_of, with_variable, chosen, all_operated, all_called, in_scope, each, with_collection, bound_value, scope_of, value_for, is_true};
 ghost use Rattle.qvtr_semantics.specs.Equality.{is_known_true as known_true};
 ghost use Rattle.qvtr_semantics.specs.Iterators.{iterated};
-ghost use Rattle.ocl_values.specs.Progress.{advanced};
+ghost use Rattle.ocl_eval.specs.Progress.{advanced};
 ghost use Rattle.ocl_eval.specs.Worlds.{setting_of, queries_of, meaning_of, call_of, infix_of, postfix_of, each_behind};
 
 use crate::classes::{class_operation, extent};
+use crate::datum::duplicate_datum;
+use crate::integers::integer;
+use crate::kinds::literal;
+use crate::models::Models;
 use crate::navigation::{collect_property, property_of};
+use crate::on_collections::on_collection;
 use crate::operations::operation;
 use crate::operators::{negated, negation, operated};
+use crate::outs::{boolean, boolean_of};
+use crate::progress::{Progress, iterator_result};
+use crate::running::Running;
 use crate::scope::Scope;
 use crate::world::World;
 use mof_metamodel::{NoMemory, Seq};
 use object_tables::Value;
-use ocl_values::{
-    Models, Progress, Running, boolean, boolean_of, duplicate_datum, integer, iterator_result,
-    literal, on_collection,
-};
 use qv_syntax::{
     Call, CollectionOperation, IteratorKind, Literal, Node, Program, Query, Typed, TypedInfix,
     TypedPostfix,

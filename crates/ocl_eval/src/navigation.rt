@@ -4,13 +4,15 @@ ghost use Rattle.std.specs.List.{fold};
 ghost use Rattle.qvtr_semantics.specs.Iterators.{collect};
 ghost use Rattle.qvtr_semantics.specs.Objects.{object_datum, value_datum, held_by, held_at, single, navigated, property, meta_of};
 ghost use Rattle.qvtr_semantics.specs.Expressions.{setting, with_datum, with_collection};
-ghost use Rattle.ocl_values.specs.Progress.{advanced};
+ghost use Rattle.ocl_eval.specs.Progress.{advanced};
 ghost use Rattle.ocl_eval.specs.Worlds.{setting_of};
 
+use crate::models::Models;
+use crate::ordering::in_order;
+use crate::progress::{Progress, iterator_result};
 use crate::world::World;
 use mof_metamodel::{NoMemory, PropId, Seq};
 use object_tables::{Model, ObjId, Value};
-use ocl_values::{Models, Progress, in_order, iterator_result};
 use qv_syntax::{IteratorKind, Kind, Program, Values};
 use qvtr_semantics::{Datum, Out};
 use std::alloc::Global;
@@ -187,7 +189,7 @@ fn each_property(
 }
 
 /// `x.property` of each element of a collection: what `collect` gives.
-#[tactic(auto, using(crate::proofs::ProgressLaws::collected))]
+#[tactic(auto, using(crate::proofs::CollectLaws::collected))]
 pub(crate) fn collect_property(
     world: &World<'_, '_>,
     prop: PropId,

@@ -6,11 +6,12 @@ ghost use Rattle.qvtr_semantics.specs.Integers as integers;
 ghost use Rattle.qvtr_semantics.specs.Strings as strings;
 ghost use Rattle.qvtr_semantics.specs.Expressions.{argument, on_integers, on_strings, operation, is_undefined, is_invalid, singleton, substring, to_string, result as result_of};
 
+use crate::integers::{absolute, maximum, minimum, quotient, remainder};
+use crate::outs::{boolean, boolean_of, integer_of, string_of};
+use crate::running::Running;
+use crate::spelling::to_integer;
+use crate::strings::{boolean_text, integer_text, size, substring as part_of};
 use mof_metamodel::{NoMemory, Seq};
-use ocl_values::{
-    Running, absolute, boolean, boolean_of, boolean_text, integer_of, integer_text, maximum,
-    minimum, quotient, remainder, size, string_of, substring as part_of, to_integer,
-};
 use qv_syntax::{Kind, Operation};
 use qvtr_semantics::Out;
 use std::alloc::Global;

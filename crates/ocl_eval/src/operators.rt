@@ -3,11 +3,12 @@ ghost use Rattle.qv_syntax.specs.declared.operator.Operator.TheVariants.{Plus};
 ghost use Rattle.qvtr_semantics.specs.Integers as integers;
 ghost use Rattle.qvtr_semantics.specs.Expressions.{on_integers, operated, negation, negated, result as result_of};
 
+use crate::booleans::{and, implies, negation as not, or, xor};
+use crate::equality::{equal, unequal};
+use crate::integers::{minus, negated as opposite, times};
+use crate::outs::{boolean_of, integer_of, truth};
+use crate::running::Running;
 use mof_metamodel::NoMemory;
-use ocl_values::{
-    Running, and, boolean_of, equal, implies, integer_of, minus, negated as opposite,
-    negation as not, or, times, truth, unequal, xor,
-};
 use qv_syntax::Operator;
 use qvtr_semantics::Out;
 

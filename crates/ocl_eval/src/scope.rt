@@ -1,8 +1,8 @@
 ghost use Rattle.std.specs.Prelude.{◌≡◌, [], ◌∷◌, ◌++◌, ◌-◌, length, take, drop, IfOk, OnOk};
 ghost use Rattle.qvtr_semantics.specs.Expressions.{variable};
 
+use crate::datum::duplicate_out;
 use mof_metamodel::{NoMemory, Seq};
-use ocl_values::duplicate_out;
 use qvtr_semantics::Out;
 use std::alloc::Global;
 use std::marker::Model;

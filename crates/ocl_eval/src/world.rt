@@ -1,4 +1,4 @@
-use ocl_values::Models;
+use crate::models::Models;
 use qv_syntax::Program;
 use std::alloc::Global;
 

@@ -6,7 +6,7 @@ use Rattle.qv_syntax.specs.declared.typed.Typed.{size-Typed}
 use Rattle.qv_syntax.specs.declared.typed.TypedInfix.{size-TypedInfix}
 use Rattle.qv_syntax.specs.declared.typed.TypedPostfix.{size-TypedPostfix}
 use Rattle.qvtr_semantics.specs.Expressions.{all_operated, all_called, in_scope}
-use Rattle.ocl_values.specs.Progress.{advanced}
+use Rattle.ocl_eval.specs.Progress.{advanced}
 use Rattle.ocl_eval.specs.Worlds.{meaning_of, infix_of, postfix_of, each_behind}
 use Rattle.ocl_eval.proofs.Measures.{left_in}
 use Rattle.ocl_eval.proofs.evaluation.+evaluation.Given as goal

@@ -1,7 +1,7 @@
 use Rattle.std.proofs.lemmas.Result.{IfOk-weaker}
 use Rattle.qvtr_semantics.specs.Objects.{property}
 use Rattle.ocl_eval.specs.Worlds.{setting_of}
-use Rattle.ocl_eval.proofs.ProgressLaws.{collected}
+use Rattle.ocl_eval.proofs.CollectLaws.{collected}
 use Rattle.ocl_eval.proofs.navigation.collect_property.Goals as goal
 
 pub returns-in-Many : goal.returns-in-Many

@@ -1,7 +1,7 @@
 use Rattle.std.proofs.Common.{◌≡◌, map, drop}
 use Rattle.std.specs.List.{fold}
 use Rattle.qvtr_semantics.specs.Objects.{property}
-use Rattle.ocl_values.specs.Progress.{advanced}
+use Rattle.ocl_eval.specs.Progress.{advanced}
 use Rattle.ocl_eval.specs.Worlds.{setting_of}
 use Rattle.ocl_eval.proofs.navigation.each_property.Given as goal
 

@@ -1,0 +1,7 @@
+use Rattle.std.proofs.Common.{◌∙◌, ap}
+use Rattle.qvtr_semantics.specs.Outs.{boolean}
+use Rattle.ocl_eval.proofs.MetLaws.{all_as_met}
+use Rattle.ocl_eval.proofs.comparing.includes_all.Goals as goal
+
+pub returns : goal.returns
+returns c = c.boolean.ensures ∙ ap boolean (c.has_all.ensures ∙ all_as_met _ _ _ c.in_ok-met.ensures)

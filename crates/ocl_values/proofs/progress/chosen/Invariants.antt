@@ -1,6 +1,0 @@
-use Rattle.std.proofs.Common.{◌≡◌, ◌++◌, drop}
-use Rattle.std.specs.List.{items_where_true}
-use Rattle.ocl_values.proofs.progress.chosen.Given as goal
-
-abbrev pub invariant-loop-i : goal.invariant-loop-i
-invariant-loop-i l = l.list ++ items_where_true (drop l.i l.conditions) (drop l.i l.elements) ≡ items_where_true l.conditions l.elements
