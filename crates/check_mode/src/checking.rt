@@ -11,7 +11,7 @@ ghost use Rattle.relation_calls.specs.Memos.{IsTold};
 ghost use Rattle.check_mode.specs.Verdicts.{IsVerdict, IsVerdictOf, IsFoundOf, ChainOfTop};
 
 use crate::verdict::Verdict;
-use ocl_values::Models;
+use ocl_eval::Models;
 use qv_syntax::Program;
 use qvtr_semantics::Binding;
 use relation_calls::{CallError, Memo, failing_binding};

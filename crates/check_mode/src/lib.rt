@@ -3,7 +3,9 @@
 #![tactic(auto)]
 
 mod checking;
+mod laws;
 mod verdict;
 
 pub use checking::check;
+pub use laws::verdicts_are_one;
 pub use verdict::Verdict;

@@ -7,6 +7,7 @@ use Rattle.std.specs.declared.cmp.Ordering.{Ordering}
 use Rattle.std.specs.declared.cmp.Ordering.TheVariants.{Less, Equal, Greater}
 use Rattle.std.proofs.Common.{refl, sym, ap, subst, ◌∙◌, arith, inl, inr}
 use Rattle.std.proofs.lemmas.Bool.{true≢false}
+use Rattle.std.proofs.lemmas.Bool.Decides.{leb_tells, eqb_tells}
 use Rattle.std.proofs.lemmas.Option.{same_Some}
 use Rattle.mof_metamodel.specs.declared.limits.TheConstants.{MAX_CALLS}
 use Rattle.object_tables.specs.Models.{ModelData}
@@ -17,11 +18,12 @@ use Rattle.qvtr_semantics.specs.declared.binding.Binding.{Binding}
 use Rattle.qvtr_semantics.specs.Data.{is_before}
 use Rattle.qvtr_semantics.specs.Templates.{Values, value_at}
 use Rattle.qvtr_semantics.specs.Calls.{SourceMatches, TargetHolds, Match, Holds, free}
-use Rattle.qvtr_semantics.specs.Satisfaction.{IsTop, Failing, comes_before, IsLess}
-use Rattle.ocl_values.specs.Order.{datum_order}
-use Rattle.ocl_values.specs.OrderLaws.{before_by_order, order_total}
+use Rattle.qvtr_semantics.specs.Satisfaction.{IsTop, Failing, LeastFailing, comes_before, IsLess}
+use Rattle.ocl_eval.specs.Order.{datum_order}
+use Rattle.ocl_eval.specs.OrderLaws.{before_by_order, order_total}
 use Rattle.template_match.specs.Search.{values_of}
 use Rattle.template_match.proofs.ListLaws.{contains_first, contains_later}
+use Rattle.template_match.proofs.PublicLaws.{one_source_or_less}
 use Rattle.relation_calls.specs.declared.outcome.Outcome.{Outcome}
 use Rattle.relation_calls.specs.declared.outcome.Outcome.TheVariants as outcomes
 use Rattle.relation_calls.specs.declared.found.Found.{Found}
@@ -106,31 +108,66 @@ module _ (program : Program) (models : List ModelData) (n : ℕ) (rel : Rel) whe
 
 -- ---- a top relation
 
-module _ (program : Program) (models : List ModelData) (number : ℕ) (rel : Rel) (found : Found) (top : IsTop program number rel) (is : IsFound program models MAX_CALLS rel (free rel) found) where
+module _ (program : Program) (models : List ModelData) (number : ℕ) (rel : Rel) (top : IsTop program number rel) where
   matches_at : (c : Values) (f : Failing program models number c) → SourceMatches (Match program models) program models rel (free rel) c
   matches_at c f = subst (λ (r : Rel). SourceMatches (Match program models) program models r (free r) c) (same_Some f.rel rel (sym f.top.is ∙ top.is)) f.source
 
   alone_at : (c : Values) (f : Failing program models number c) → (g : Values) → ¬ TargetHolds (Holds program models) program models rel c g
   alone_at c f = subst (λ (r : Rel). (g : Values) → ¬ TargetHolds (Holds program models) program models r c g) (same_Some f.rel rel (sym f.top.is ∙ top.is)) f.alone
 
-  none_fails : first_alone (values_of found.bindings) found.outcomes ≡ None → (b : Values) → ¬ Failing program models number b
-  none_fails none b f =
-      let (g, partner) = none_alone program models MAX_CALLS rel (free rel) found is (none_first program models MAX_CALLS rel (values_of found.bindings) found.outcomes is.outcomes none) b (matches_at b f) in
-      alone_at b f g partner
+  module _ (found : Found) (is : IsFound program models MAX_CALLS rel (free rel) found) where
+    none_fails : first_alone (values_of found.bindings) found.outcomes ≡ None → (b : Values) → ¬ Failing program models number b
+    none_fails none b f =
+        let (g, partner) = none_alone program models MAX_CALLS rel (free rel) found is (none_first program models MAX_CALLS rel (values_of found.bindings) found.outcomes is.outcomes none) b (matches_at b f) in
+        alone_at b f g partner
 
-  least_fails : (b : Values) → first_alone (values_of found.bindings) found.outcomes ≡ Some b → IsLeastOf program models number b
-  least_fails b some =
-      let first = is_first program models MAX_CALLS rel (IsLess rel.universal) (values_of found.bindings) found.outcomes b is.sorted is.outcomes some in
-      record {
-        failing = record { rel = rel; top = top; source = record { source = (is.exact b).0 first.among; whens = first.alone.0 }; alone = first.alone.1 };
-        least = λ c f less. elim (first.others c ((is.exact c).1 (matches_at c f).source) ((matches_at c f).whens, alone_at c f)) [
-          | inl same ↦ let twice : IsLess rel.universal b b = subst (λ x. IsLess rel.universal x b) same less in less_twice rel.universal b b twice twice
-          | inr later ↦ less_twice rel.universal c b less later
-        ];
-      }
+    least_fails : (b : Values) → first_alone (values_of found.bindings) found.outcomes ≡ Some b → IsLeastOf program models number b
+    least_fails b some =
+        let first = is_first program models MAX_CALLS rel (IsLess rel.universal) (values_of found.bindings) found.outcomes b is.sorted is.outcomes some in
+        record {
+          failing = record { rel = rel; top = top; source = record { source = (is.exact b).0 first.among; whens = first.alone.0 }; alone = first.alone.1 };
+          least = λ c f less. elim (first.others c ((is.exact c).1 (matches_at c f).source) ((matches_at c f).whens, alone_at c f)) [
+            | inl same ↦ let twice : IsLess rel.universal b b = subst (λ x. IsLess rel.universal x b) same less in less_twice rel.universal b b twice twice
+            | inr later ↦ less_twice rel.universal c b less later
+          ];
+        }
 
-  -- what is found first of the bindings is the least that fails
-  pub failing_value : (o : Option Binding) → option_map (λ (b : Binding). b.values) o ≡ first_alone (values_of found.bindings) found.outcomes
-      → MatchOption o ((b : Values) → ¬ Failing program models number b) (λ b. IsLeastOf program models number b.values)
-  failing_value None e = none_fails (sym e)
-  failing_value (Some b) e = least_fails b.values (sym e)
+    -- what is found first of the bindings is the least that fails
+    pub failing_value : (o : Option Binding) → option_map (λ (b : Binding). b.values) o ≡ first_alone (values_of found.bindings) found.outcomes
+        → MatchOption o ((b : Values) → ¬ Failing program models number b) (λ b. IsLeastOf program models number b.values)
+    failing_value None e = none_fails (sym e)
+    failing_value (Some b) e = least_fails b.values (sym e)
+
+-- ---- at most one is the least
+
+-- two failing bindings of a relation are one, or one of them is less
+one_failing_or_less : (program : Program) (models : List ModelData) (number : ℕ) (b c : Values) (f : Failing program models number b) → Failing program models number c
+    → (b ≡ c) ⊎ (IsLess f.rel.universal b c ⊎ IsLess f.rel.universal c b)
+one_failing_or_less program models number b c f g =
+    one_source_or_less program models f.rel (free f.rel) b c f.source.source (matches_at program models number f.rel f.top c g).source
+
+-- of the failing bindings of one relation at most one is the least
+pub one_least : (program : Program) (models : List ModelData) (number : ℕ) (b c : Values) → IsLeastOf program models number b → IsLeastOf program models number c → b ≡ c
+one_least program models number b c one other = by (one_failing_or_less program models number b c one.failing other.failing)
+  where
+    same : one.failing.rel ≡ other.failing.rel
+    same = same_Some one.failing.rel other.failing.rel (sym one.failing.top.is ∙ other.failing.top.is)
+
+    by : (b ≡ c) ⊎ (IsLess one.failing.rel.universal b c ⊎ IsLess one.failing.rel.universal c b) → b ≡ c
+    by (inl is) = is
+    by (inr (inl less)) = absurd (other.least b one.failing (subst (λ (r : Rel). IsLess r.universal b c) same less))
+    by (inr (inr less)) = absurd (one.least c other.failing less)
+
+-- at most one relation is the first that fails
+pub first_is_one : (program : Program) (models : List ModelData) (number other : ℕ) (b c : Values) → LeastFailing program models number b → LeastFailing program models other c → number ≡ other
+first_is_one program models number other b c one two = elim (eqb_tells number other) [
+  | inl here ↦ here.1
+  | inr apart ↦ elim (leb_tells number other) [
+    | inl up ↦ absurd (two.first number b (omega (arith, up.1, apart.1)) one.failing)
+    | inr down ↦ absurd (one.first other c down.1 two.failing)
+  ]
+]
+
+pub least_is_one : (program : Program) (models : List ModelData) (number : ℕ) (b c : Values) → LeastFailing program models number b → LeastFailing program models number c → b ≡ c
+least_is_one program models number b c one other =
+    one_least program models number b c (record { failing = one.failing; least = one.least }) (record { failing = other.failing; least = other.least })

@@ -99,7 +99,7 @@ module _ (program : Program) (models : List ModelData) where
     top_value found o bs same os all of first =
         let by_roots = subst (λ (x : RelationCall). IsFound program models (MAX_CALLS - length (chain_named names)) rel x.roots found) is of in
         let by_length = subst (λ (ns : List CallName). IsFound program models (MAX_CALLS - length (chain_named ns)) rel (free rel) found) none by_roots in
-        failing_value program models number rel found top by_length o
+        failing_value program models number rel top found by_length o
         (first ∙ ap (λ (xs : List Binding). first_alone (values_of xs) os) same ∙ ap (first_alone (values_of found.bindings)) all)
 
     pub top_clean : AreClean (Seen program models (chain_named names) d) → AreClean (TopChain program models topmost)

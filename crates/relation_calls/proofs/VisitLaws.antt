@@ -185,7 +185,7 @@ pub source_binding : (program : Program) (models : List ModelData) (rel : Rel) (
 source_binding program models rel roots b source =
     record {
       places = source.places;
-      universals = λ v has. let val = valued program models rel rel.universal b v (meets_parts sides.Source program models rel b source.meets).have has in (val.value, val.at);
+      universals = λ v has. let val = valued program models rel rel.universal b v (meets_parts sides.Source rel.universal program models rel b source.meets).have has in (val.value, val.at);
     }
 
 -- the error with which a `?` ends

@@ -21,7 +21,7 @@ use crate::name::CallName;
 use crate::outcome::{Outcome, is_any_alone, is_any_partnered};
 use crate::visit::Visit;
 use mof_metamodel::Seq;
-use ocl_values::Models;
+use ocl_eval::Models;
 use qv_syntax::Program;
 use qvtr_semantics::Binding;
 use std::alloc::Global;

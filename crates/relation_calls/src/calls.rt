@@ -20,7 +20,7 @@ use crate::memo::Memo;
 use crate::name::CallName;
 use crate::outcome::{first_alone, is_any_alone, is_any_partnered};
 use mof_metamodel::{NoMemory, Seq};
-use ocl_values::Models;
+use ocl_eval::Models;
 use qv_syntax::Program;
 use qvtr_semantics::Binding;
 use std::alloc::Global;

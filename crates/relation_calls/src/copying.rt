@@ -3,7 +3,7 @@ ghost use Rattle.relation_calls.specs.Names.{call_named, chain_named};
 
 use crate::name::CallName;
 use mof_metamodel::{NoMemory, Seq};
-use ocl_values::{duplicate_datum, same_datum};
+use ocl_eval::{duplicate_datum, same_datum};
 use qvtr_semantics::{Binding, Datum};
 use std::alloc::Global;
 

@@ -5,6 +5,7 @@ ghost use Rattle.qv_syntax.specs.declared.program.Program.{Program};
 ghost use Rattle.qv_syntax.specs.declared.program.Rel.{Rel};
 ghost use Rattle.qvtr_semantics.specs.Templates.{Values};
 ghost use Rattle.qvtr_semantics.specs.Calls.{RelationCall, SourceMatches, TargetHolds, Match, HoldsFor};
+ghost use Rattle.qvtr_semantics.specs.Satisfaction.{LeastFailing};
 ghost use Rattle.qvtr_semantics.specs.Chains.{HoldsChain, MatchChain};
 ghost use Rattle.relation_calls.specs.Seen.{Seen, SeenBehind, TopChain};
 ghost use Rattle.relation_calls.specs.Askable.{IsFormed};
@@ -31,4 +32,12 @@ pub fn chains_are_seen()
     ensures matches { (program : Program) (models : List ModelData) (c : RelationCall) (chain : List RelationCall) → MatchChain program models c chain ↔ Seen program models [] c chain }
     ensures holds { (program : Program) (models : List ModelData) (c : RelationCall) (chain : List RelationCall) → HoldsChain program models c chain ↔ SeenBehind program models [] c chain }
     ensures tops { (program : Program) (models : List ModelData) (c : RelationCall) (chain : List RelationCall) → TopChain program models c chain ↔ Seen program models [] c chain }
+{}
+
+/// At most one relation is the first that fails, and of its failing bindings at most one is the least.
+pub fn least_is_one()
+    ensures first { (program : Program) (models : List ModelData) (number other : ℕ) (b c : Values)
+        → LeastFailing program models number b → LeastFailing program models other c → number ≡ other }
+    ensures least { (program : Program) (models : List ModelData) (number : ℕ) (b c : Values)
+        → LeastFailing program models number b → LeastFailing program models number c → b ≡ c }
 {}

@@ -18,6 +18,6 @@ mod visit;
 
 pub use calls::{failing_binding, holds_call, match_call};
 pub use error::CallError;
-pub use laws::{chains_are_seen, longest_chain_is_enough, matches_need_no_strata};
+pub use laws::{chains_are_seen, least_is_one, longest_chain_is_enough, matches_need_no_strata};
 pub use memo::Memo;
 pub use name::CallName;

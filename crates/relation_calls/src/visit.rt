@@ -1,5 +1,5 @@
 use crate::name::CallName;
-use ocl_values::Models;
+use ocl_eval::Models;
 use qv_syntax::{Program, Rel};
 use std::alloc::Global;
 use template_match::Plan;

@@ -1,6 +1,9 @@
 -- Sorted, each once, what the search finds is what is looked for; and what is looked for is what meets the source or the target.
-use Rattle.std.specs.Prelude.{◌≡◌, ◌↔◌, ℕ, List, [], ◌∷◌, map, length, Contains, AllPairs, IsTrue}
-use Rattle.std.proofs.Common.{refl, sym, ap, subst, ◌∙◌, arith, zero, suc}
+use Rattle.std.specs.Prelude.{◌≡◌, ◌⊎◌, ◌↔◌, ℕ, List, [], ◌∷◌, map, length, Contains, AllPairs, IsTrue}
+use Rattle.std.specs.Ordering.{ordering_reverse}
+use Rattle.std.specs.declared.cmp.Ordering.{Ordering}
+use Rattle.std.specs.declared.cmp.Ordering.TheVariants.{Less, Equal, Greater}
+use Rattle.std.proofs.Common.{refl, sym, ap, subst, ◌∙◌, arith, inl, inr, zero, suc}
 use Rattle.object_tables.specs.Models.{ModelData}
 use Rattle.qv_syntax.specs.declared.program.Program.{Program}
 use Rattle.qv_syntax.specs.declared.program.Rel.{Rel}
@@ -17,7 +20,7 @@ use Rattle.template_match.specs.Posed.{IsPosed, IsPartial, IsSought}
 use Rattle.template_match.proofs.ListLaws.{contains_map}
 use Rattle.template_match.proofs.ValueLaws.{same_values}
 use Rattle.template_match.proofs.SideLaws.{Meets, meets_parts, Valued, valued}
-use Rattle.template_match.proofs.OrderLaws.{AreBound, ties_are, in_pairs}
+use Rattle.template_match.proofs.OrderLaws.{AreBound, values_total, less_is, ties_are, in_pairs}
 use Rattle.template_match.proofs.SearchLaws.{exact, one_binding}
 
 -- a binding whose values are these
@@ -28,10 +31,19 @@ binding_of (b ∷ bs) v (suc k, within, is) =
     let more = binding_of bs v (k, omega (arith, within), is) in
     (more.0, contains_later more.0 b bs more.1, more.2)
 
-bound_in : (p : Problem) (roots b : Values) → IsSought p roots b → AreBound (sought p) b
+pub bound_in : (p : Problem) (roots b : Values) → IsSought p roots b → AreBound (sought p) b
 bound_in p roots b whole v c =
-    let val = valued p.program p.models p.rel (sought p) b v (meets_parts p.side p.program p.models p.rel b whole.meets).have c in
+    let val = valued p.program p.models p.rel (sought p) b v (meets_parts p.side (sought p) p.program p.models p.rel b whole.meets).have c in
     (val.value, val.at)
+
+-- two bindings that are looked for are one, or one of them is less
+pub one_or_less : (p : Problem) (roots a b : Values) → IsSought p roots a → IsSought p roots b → (a ≡ b) ⊎ (IsLess (sought p) a b ⊎ IsLess (sought p) b a)
+one_or_less p roots a b one other = by (values_order (sought p) a b) (values_order (sought p) b a) ((values_total (sought p)).antisymm a b) refl refl
+  where
+    by : (o r : Ordering) → o ≡ ordering_reverse r → values_order (sought p) a b ≡ o → values_order (sought p) b a ≡ r → (a ≡ b) ⊎ (IsLess (sought p) a b ⊎ IsLess (sought p) b a)
+    by o Less is e f = inr (inr (less_is (sought p) b a (bound_in p roots b other) (bound_in p roots a one) f))
+    by o Equal is e f = inl (one_binding p roots a b one other (ties_are (sought p) a b (e ∙ is)))
+    by o Greater is e f = inr (inl (less_is (sought p) a b (bound_in p roots a one) (bound_in p roots b other) (e ∙ is)))
 
 module _ (p : Problem) (roots : Values) (posed : IsPosed p roots) (places : length roots ≡ length p.rel.vars) (xs ys : List Binding)
     (is : values_of xs ≡ search_from p (length roots) roots) (each : IsEachOnce (binding_order (sought p)) xs ys) where

@@ -18,8 +18,8 @@ use Rattle.qvtr_semantics.specs.declared.binding.Binding.{Binding}
 use Rattle.qvtr_semantics.specs.Templates.{Values, value_at}
 use Rattle.qvtr_semantics.specs.Satisfaction.{comes_before, IsLess}
 use Rattle.template_match.proofs.ListLaws.{contains_first, contains_later}
-use Rattle.ocl_values.specs.Order.{datum_order}
-use Rattle.ocl_values.specs.OrderLaws.{before_by_order, order_total, ties_where_same, same_decides}
+use Rattle.ocl_eval.specs.Order.{datum_order}
+use Rattle.ocl_eval.specs.OrderLaws.{before_by_order, order_total, ties_where_same, same_decides}
 use Rattle.template_match.specs.Order.{values_order, binding_order}
 use Rattle.template_match.specs.Each.{IsEachOnce}
 

@@ -29,12 +29,12 @@ use Rattle.template_match.specs.declared.side.Side.{Side}
 use Rattle.template_match.specs.declared.side.Side.TheVariants.{Source, Target}
 use Rattle.template_match.specs.declared.link.Link.{Link}
 use Rattle.template_match.specs.declared.branch.Branch.{Branch}
-use Rattle.template_match.specs.Sides.{variables_of, clause_of, is_of_side}
+use Rattle.template_match.specs.Sides.{clause_of, is_of_side}
 use Rattle.template_match.specs.Ready.{is_ready}
 use Rattle.template_match.specs.Links.{side_links}
 use Rattle.template_match.specs.Problems.{Problem}
 use Rattle.template_match.specs.Search.{sought, conjuncts_in, is_open, usable_link, usable_saying, usable_conjunct, usable_variable, saying, extent_by, extent_for, slot_at, some_data, one_datum, objects_of, saying_branch, link_branch, object_branch, conjunct_branch, branch_by, branch, is_any_open}
-use Rattle.template_match.specs.Posed.{HasValue, HasRoots, IsPosed, IsPartial, IsSought}
+use Rattle.template_match.specs.Posed.{HasValue, HasRoots, SeeksSource, Seeks, IsPosed, IsPartial, IsSought}
 use Rattle.template_match.proofs.ListLaws.{all_at, list_all_at, any_from, find_none, find_some}
 use Rattle.template_match.proofs.LinkLaws.{Holds, domains_hold}
 use Rattle.template_match.proofs.NestedLaws.{alone_linked}
@@ -83,14 +83,14 @@ target_side : (program : Program) (rel : Rel) (dom : Dom) → IsTargetDomain pro
 target_side program rel dom target = ap (λ o. is_model o program.target) target.target ∙ eq-eqb program.target program.target refl
 
 -- a variable that the expression of a conjunct of the when clause names is universal
-named_universal : (program : Program) (rel : Rel) (c : Conj) (v : ℕ) (e : Typed) (w : ℕ) → Contains rel.whens c → Says c v e → Names e w → IsUniversal program rel w
+pub named_universal : (program : Program) (rel : Rel) (c : Conj) (v : ℕ) (e : Typed) (w : ℕ) → Contains rel.whens c → Says c v e → Names e w → IsUniversal program rel w
 named_universal program rel c v e w within says names =
     let at = says_names c v e w says names in
     IsUniversal.when (OccursInClause.expression c at.0 within at.1 at.2)
 
 module _ (p : Problem) (roots b a : Values) (posed : IsPosed p roots) (whole : IsSought p roots b) (long : length a ≡ length b) (from : Extends roots a) (more : Extends a b) where
-  abbrev parts : Meets p.side p.program p.models p.rel b
-  parts = meets_parts p.side p.program p.models p.rel b whole.meets
+  abbrev parts : Meets p.side (sought p) p.program p.models p.rel b
+  parts = meets_parts p.side (sought p) p.program p.models p.rel b whole.meets
 
   -- ---- what has a value
 
@@ -232,18 +232,18 @@ module _ (p : Problem) (roots b a : Values) (posed : IsPosed p roots) (whole : I
         variable_there p.rel.vars w (omega (arith, within, long, size))
 
     module _ (is : p.side ≡ Source) where
-      universal_sought : (v : ℕ) → IsUniversal p.program p.rel v → (var : Var) → slice_get p.rel.vars v ≡ Some var → Contains (sought p) v
-      universal_sought v u var found = subst (λ s. Contains (variables_of s p.rel) v) (sym is) ((posed.variables.universal v var found).1 u)
+      seeks_source : SeeksSource p
+      seeks_source = subst (λ s. Seeks s p) is posed.seeks
 
       sought_universal : (v : ℕ) → Contains (sought p) v → IsUniversal p.program p.rel v
-      sought_universal v c = let val = value_in v c in (posed.variables.universal v val.var val.found).0 (subst (λ s. Contains (variables_of s p.rel) v) is c)
+      sought_universal v c = let val = value_in v c in (posed.variables.universal v val.var val.found).0 (seeks_source.universal v c)
 
       when_known : (c : Conj) (v : ℕ) (e : Typed) → Contains p.rel.whens c → Says c v e → Contains (sought p) v
           → ((w : ℕ) → Names e w → IsDataVariable p.rel w → Contains (sought p) w → is_some (value_at a w) ≡ true) → is_some (value_at a v) ≡ true
       when_known c v e within says sought_v if_data =
           said_known c v e (subst (λ s. Contains (clause_of s p.rel) c) (sym is) within) says sought_v (λ w names small.
           let there = in_range w small in
-          let own = universal_sought w (named_universal p.program p.rel c v e w within says names) there.0 there.1 in
+          let own = seeks_source.named c v e w there.0 within says names there.1 in
           sought_known w own (λ of_data. if_data w names of_data own))
 
       source_known : (v : ℕ) → IsBound p.program p.rel v → Contains (sought p) v → is_some (value_at a v) ≡ true
@@ -257,8 +257,11 @@ module _ (p : Problem) (roots b a : Values) (posed : IsPosed p roots) (whole : I
       source_known v (IsBound.where_clause w k e not_u within says known) c = absurd (not_u (sought_universal v c))
 
     module _ (is : p.side ≡ Target) where
+      seeks_target : sought p ≡ p.rel.existential
+      seeks_target = subst (λ s. Seeks s p) is posed.seeks
+
       sought_other : (v : ℕ) → Contains (sought p) v → IsUniversal p.program p.rel v → ⊥
-      sought_other v c = let val = value_in v c in (posed.variables.existential v val.var val.found).0 (subst (λ s. Contains (variables_of s p.rel) v) is c)
+      sought_other v c = let val = value_in v c in (posed.variables.existential v val.var val.found).0 (subst (λ vs. Contains vs v) seeks_target c)
 
       -- a variable of the relation is universal, and has a value from the beginning, or it is sought
       any_known : (w : ℕ) (var : Var) → slice_get p.rel.vars w ≡ Some var → (Contains (sought p) w → is_some (value_at a w) ≡ true) → is_some (value_at a w) ≡ true
@@ -267,7 +270,7 @@ module _ (p : Problem) (roots b a : Values) (posed : IsPosed p roots) (whole : I
           by : (x : Bool) → is_number_among w p.rel.universal ≡ x → is_some (value_at a w) ≡ true
           by true e = root_known w (subst (λ s. HasRoots s p.rel roots) is posed.roots w (among_to w p.rel.universal e))
           by false e =
-              h (subst (λ s. Contains (variables_of s p.rel) w) (sym is)
+              h (subst (λ vs. Contains vs w) (sym seeks_target)
               ((posed.variables.existential w var found).1 (λ u. true≢false (sym (among_from w p.rel.universal ((posed.variables.universal w var found).1 u)) ∙ e))))
 
       where_known : (c : Conj) (v : ℕ) (e : Typed) → Contains p.rel.wheres c → Says c v e → Contains (sought p) v

@@ -170,9 +170,9 @@ module _ (p : Problem) (a b : Values) (long : length a ≡ length b) (more : Ext
   conjunct_may (conjuncts.Call number args) h = refl
 
   -- what meets the side is not dropped on the way
-  pub not_dropped : meets_side p.side p.program p.models p.rel b ≡ true → may_meet p a ≡ true
+  pub not_dropped : meets_side p.side p.variables p.program p.models p.rel b ≡ true → may_meet p a ≡ true
   not_dropped h =
-      let parts = meets_parts p.side p.program p.models p.rel b h in
+      let parts = meets_parts p.side p.variables p.program p.models p.rel b h in
       and_from (list_all (may_domain p a) p.rel.domains) (list_all (may_conjunct p a) (clause_of p.side p.rel))
       (list_all_more (domain_meets p.side p.program p.models b) (may_domain p a) p.rel.domains domain_may parts.domains)
       (list_all_more (conjunct_holds p.program p.models b) (may_conjunct p a) (clause_of p.side p.rel) conjunct_may parts.clause)

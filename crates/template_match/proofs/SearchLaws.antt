@@ -101,14 +101,14 @@ branch_open p a d c = by_link (find (usable_link p a) p.links) refl c
     by_link None e c = by_conjunct (find (usable_conjunct p a) (conjuncts_in p)) refl c
     by_link (Some l) e c = let f = find_some (usable_link p a) p.links l e in (and_parts (is_open p a l.variable) (is_some (value_at a l.holder)) f.1).0
 
-tested_sound : (p : Problem) (roots a b : Values) (m : Bool) → meets_side p.side p.program p.models p.rel a ≡ m → IsPartial p roots a → Contains (if m then a ∷ [] else []) b → IsSought p roots b
+tested_sound : (p : Problem) (roots a b : Values) (m : Bool) → meets_side p.side (sought p) p.program p.models p.rel a ≡ m → IsPartial p roots a → Contains (if m then a ∷ [] else []) b → IsSought p roots b
 tested_sound p roots a b true h part (zero, within, is) = subst (IsSought p roots) is (record { partial = part; meets = h })
 tested_sound p roots a b true h part (suc k, within, is) = absurd (omega (arith, within))
 tested_sound p roots a b false h part (k, within, is) = absurd (omega (arith, within))
 
 stopped_sound : (p : Problem) (roots a b : Values) (x : Bool) → IsPartial p roots a → Contains (if x then [] else tested p a) b → IsSought p roots b
 stopped_sound p roots a b true part (k, within, is) = absurd (omega (arith, within))
-stopped_sound p roots a b false part c = tested_sound p roots a b (meets_side p.side p.program p.models p.rel a) refl part c
+stopped_sound p roots a b false part c = tested_sound p roots a b (meets_side p.side (sought p) p.program p.models p.rel a) refl part c
 
 tried_among : (p : Problem) (a : Values) (d : Datum) (x : Bool) → Contains (if x then (branch p a).candidates else []) d → Contains (branch p a).candidates d
 tried_among p a d true c = c
@@ -121,7 +121,7 @@ stepped_sound p roots n a b true part more c =
     let found = from_flat_map (λ d. search_from p n (with_value a (branch p a).variable d)) (tried p a) b c in
     let opened = open_parts p a (branch p a).variable (branch_open p a found.0 (tried_among p a found.0 (may_meet p a) found.1)) in
     more (with_value a (branch p a).variable found.0) (partial_still p roots a (branch p a).variable found.0 part opened.0 opened.1) found.2
-stepped_sound p roots n a b false part more c = tested_sound p roots a b (meets_side p.side p.program p.models p.rel a) refl part c
+stepped_sound p roots n a b false part more c = tested_sound p roots a b (meets_side p.side (sought p) p.program p.models p.rel a) refl part c
 
 pub sound : (p : Problem) (roots : Values) (n : ℕ) (a b : Values) → IsPartial p roots a → Contains (search_from p n a) b → IsSought p roots b
 unfolding search_from
@@ -163,7 +163,7 @@ module _ (p : Problem) (roots b : Values) (posed : IsPosed p roots) (whole : IsS
   next_is a long from more any =
       let told = next_is_told p roots b a posed whole long from more any in
       let opened = open_parts p a (branch p a).variable told.open_variable in
-      let val = valued p.program p.models p.rel (sought p) b (branch p a).variable (meets_parts p.side p.program p.models p.rel b whole.meets).have opened.0 in
+      let val = valued p.program p.models p.rel (sought p) b (branch p a).variable (meets_parts p.side (sought p) p.program p.models p.rel b whole.meets).have opened.0 in
       record { value = val.value; at = val.at; among = told.named val.value val.at; none = opened.1 }
 
   stopped_complete : (a : Values) (x : Bool) → is_any_open p a ≡ x → missing a ≤ 0 → length a ≡ length b → Extends roots a → Extends a b → Contains (if x then [] else tested p a) b

@@ -25,25 +25,21 @@ use Rattle.qvtr_semantics.specs.Expressions.{setting}
 use Rattle.qvtr_semantics.specs.Templates.{Values, value_at, conforms, is_of_class}
 use Rattle.qvtr_semantics.specs.Bindings.{is_model, meta_of_type, is_value_of_type, is_object_for, is_datum_for, is_value_for, have_values, conjunct_holds}
 use Rattle.template_match.specs.declared.side.Side.{Side}
-use Rattle.template_match.specs.declared.side.Side.TheVariants.{Source, Target}
-use Rattle.template_match.specs.Sides.{variables_of, clause_of, domain_meets, meets_side}
+use Rattle.template_match.specs.Sides.{clause_of, domain_meets, meets_side}
 use Rattle.template_match.specs.Search.{extent_by, extent_for, objects_in, objects_of}
 use Rattle.template_match.proofs.ListLaws.{contains_map, list_all_at}
 
 -- the three things that a side asks
-pub record Meets (side : Side) (program : Program) (models : List ModelData) (rel : Rel) (b : Values) : Type 0 where
-  pub have : have_values program models rel (variables_of side rel) b ≡ true
+pub record Meets (side : Side) (variables : List ℕ) (program : Program) (models : List ModelData) (rel : Rel) (b : Values) : Type 0 where
+  pub have : have_values program models rel variables b ≡ true
   pub domains : list_all (domain_meets side program models b) rel.domains ≡ true
   pub clause : list_all (conjunct_holds program models b) (clause_of side rel) ≡ true
 
-pub meets_parts : (side : Side) (program : Program) (models : List ModelData) (rel : Rel) (b : Values) → meets_side side program models rel b ≡ true → Meets side program models rel b
-meets_parts Source program models rel b h =
-    let outer = and_parts (have_values program models rel rel.universal b && list_all (domain_meets Source program models b) rel.domains) (list_all (conjunct_holds program models b) rel.whens) h in
-    let inner = and_parts (have_values program models rel rel.universal b) (list_all (domain_meets Source program models b) rel.domains) outer.0 in
-    record { have = inner.0; domains = inner.1; clause = outer.1 }
-meets_parts Target program models rel b h =
-    let outer = and_parts (have_values program models rel rel.existential b && list_all (domain_meets Target program models b) rel.domains) (list_all (conjunct_holds program models b) rel.wheres) h in
-    let inner = and_parts (have_values program models rel rel.existential b) (list_all (domain_meets Target program models b) rel.domains) outer.0 in
+pub meets_parts : (side : Side) (variables : List ℕ) (program : Program) (models : List ModelData) (rel : Rel) (b : Values) → meets_side side variables program models rel b ≡ true
+    → Meets side variables program models rel b
+meets_parts side variables program models rel b h =
+    let outer = and_parts (have_values program models rel variables b && list_all (domain_meets side program models b) rel.domains) (list_all (conjunct_holds program models b) (clause_of side rel)) h in
+    let inner = and_parts (have_values program models rel variables b) (list_all (domain_meets side program models b) rel.domains) outer.0 in
     record { have = inner.0; domains = inner.1; clause = outer.1 }
 
 -- a variable with its value

@@ -33,7 +33,7 @@ use Rattle.qvtr_semantics.specs.Expressions.{Queries, Meaning, Operated, Called,
 use Rattle.qvtr_semantics.specs.Templates.{Values, value_at, has}
 use Rattle.qvtr_semantics.specs.Bindings.{are_one, conjunct_holds}
 use Rattle.qvtr_semantics.proofs.ExpressionLaws.{typed_is, node_of}
-use Rattle.ocl_values.specs.OrderLaws.{same_decides}
+use Rattle.ocl_eval.specs.OrderLaws.{same_decides}
 use Rattle.template_match.specs.Links.{variable_alone}
 use Rattle.template_match.specs.Search.{saying_by, saying_chain, saying_node, saying, some_data, one_datum}
 use Rattle.template_match.proofs.ListLaws.{any_from}

@@ -10,3 +10,4 @@ pub mod Order
 pub mod Each
 pub mod Posed
 pub mod Plans
+pub mod Sources

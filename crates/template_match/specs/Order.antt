@@ -6,7 +6,7 @@ use Rattle.std.specs.declared.cmp.Ordering.{Ordering}
 use Rattle.std.specs.declared.cmp.Ordering.TheVariants.{Equal}
 use Rattle.qvtr_semantics.specs.declared.binding.Binding.{Binding}
 use Rattle.qvtr_semantics.specs.Templates.{Values, value_at}
-use Rattle.ocl_values.specs.Order.{datum_order}
+use Rattle.ocl_eval.specs.Order.{datum_order}
 
 abbrev pub values_order : List ℕ → Values → Values → Ordering
 values_order [] = λ a b. Equal

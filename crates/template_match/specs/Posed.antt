@@ -1,7 +1,12 @@
--- What a search is given: the links of its side, and values of the roots.
-use Rattle.std.specs.Prelude.{◌≡◌, ◌⊎◌, ℕ, true, false, None, Some, length, Contains}
+-- What a search is given: the links of its side, the variables that are sought, and values of the roots.
+use Rattle.std.specs.Prelude.{◌≡◌, ◌⊎◌, ℕ, true, false, None, Some, length, slice_get, Contains}
 use Rattle.qv_syntax.specs.declared.program.Rel.{Rel}
 use Rattle.qv_syntax.specs.declared.program.Dom.{Dom}
+use Rattle.qv_syntax.specs.declared.program.Var.{Var}
+use Rattle.qv_syntax.specs.declared.program.Conj.{Conj}
+use Rattle.qv_syntax.specs.declared.typed.Typed.{Typed}
+use Rattle.qv_syntax.specs.Parts.{Names}
+use Rattle.qv_syntax.specs.Relations.{Says}
 use Rattle.qv_syntax.specs.Directions.{HasVariables}
 use Rattle.qvtr_semantics.specs.declared.datum.Datum.{Datum}
 use Rattle.qvtr_semantics.specs.Templates.{Values, value_at}
@@ -28,9 +33,20 @@ abbrev pub HasRoots : Side → Rel → Values → Type 0
 HasRoots Source rel roots = HasPrimitives rel roots
 HasRoots Target rel roots = HasUniversals rel roots
 
+-- in the source universal variables are sought, among them all that the equations of the when clause name
+pub record SeeksSource (p : Problem) : Type 0 where
+  pub universal : (v : ℕ) → Contains (sought p) v → Contains p.rel.universal v
+  pub named : (c : Conj) (v : ℕ) (e : Typed) (w : ℕ) (var : Var) → Contains p.rel.whens c → Says c v e → Names e w → slice_get p.rel.vars w ≡ Some var → Contains (sought p) w
+
+-- and in the target the existential ones
+abbrev pub Seeks : Side → Problem → Type 0
+Seeks Source p = SeeksSource p
+Seeks Target p = sought p ≡ p.rel.existential
+
 pub record IsPosed (p : Problem) (fixed : Values) : Type 0 where
   pub links : p.links ≡ side_links p.side p.program p.rel
   pub variables : HasVariables p.program p.rel
+  pub seeks : Seeks p.side p
   pub roots : HasRoots p.side p.rel fixed
 
 -- a binding on the way: the roots and values of variables that are sought
@@ -42,4 +58,4 @@ pub record IsPartial (p : Problem) (roots a : Values) : Type 0 where
 -- a binding that is looked for
 pub record IsSought (p : Problem) (roots b : Values) : Type 0 where
   pub partial : IsPartial p roots b
-  pub meets : meets_side p.side p.program p.models p.rel b ≡ true
+  pub meets : meets_side p.side p.variables p.program p.models p.rel b ≡ true

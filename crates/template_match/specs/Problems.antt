@@ -1,15 +1,16 @@
 -- What a search is for.
-use Rattle.std.specs.Prelude.{List}
+use Rattle.std.specs.Prelude.{ℕ, List}
 use Rattle.object_tables.specs.Models.{ModelData}
 use Rattle.qv_syntax.specs.declared.program.Program.{Program}
 use Rattle.qv_syntax.specs.declared.program.Rel.{Rel}
 use Rattle.template_match.specs.declared.side.Side.{Side}
 use Rattle.template_match.specs.declared.link.Link.{Link}
 
--- what is looked for: the bindings of a side of a relation, with the links of its templates
+-- what is looked for: the bindings of a side of a relation, with the links of its templates and the variables that get values
 pub record Problem : Type 0 where
   pub side : Side
   pub program : Program
   pub models : List ModelData
   pub rel : Rel
   pub links : List Link
+  pub variables : List ℕ

@@ -32,10 +32,10 @@ use Rattle.template_match.specs.Problems.{Problem}
 use Rattle.template_match.specs.Pruning.{may_meet}
 use Rattle.template_match.specs.Ready.{is_ready}
 use Rattle.template_match.specs.Links.{variable_alone}
-use Rattle.template_match.specs.Sides.{variables_of, clause_of, meets_side}
+use Rattle.template_match.specs.Sides.{clause_of, meets_side}
 
 abbrev pub sought : Problem → List ℕ
-sought p = variables_of p.side p.rel
+sought p = p.variables
 
 abbrev pub conjuncts_in : Problem → List Conj
 conjuncts_in p = clause_of p.side p.rel
@@ -144,7 +144,7 @@ with_value a v d = slice_set a v (Some d)
 
 -- the binding alone, if it meets the side
 abbrev pub tested : Problem → Values → List Values
-tested p a = if meets_side p.side p.program p.models p.rel a then a ∷ [] else []
+tested p a = if meets_side p.side p.variables p.program p.models p.rel a then a ∷ [] else []
 
 abbrev pub is_any_open : Problem → Values → Bool
 is_any_open p a = list_any (is_open p a) (sought p)

@@ -1,20 +1,16 @@
 -- The two sides of a relation: its source, which the universal variables, the when clause and the domains of other models make up, and its
 -- target (QVT 1.3, section 7.10.1).
-use Rattle.std.specs.Prelude.{ℕ, Bool, not, List}
+use Rattle.std.specs.Prelude.{ℕ, Bool, ◌&&◌, not, List}
+use Rattle.std.specs.List.{list_all}
 use Rattle.object_tables.specs.Models.{ModelData}
 use Rattle.qv_syntax.specs.declared.program.Program.{Program}
 use Rattle.qv_syntax.specs.declared.program.Rel.{Rel}
 use Rattle.qv_syntax.specs.declared.program.Dom.{Dom}
 use Rattle.qv_syntax.specs.declared.program.Conj.{Conj}
 use Rattle.qvtr_semantics.specs.Templates.{Values}
-use Rattle.qvtr_semantics.specs.Bindings.{is_target_domain, source_meets, target_meets, meets_source, meets_target}
+use Rattle.qvtr_semantics.specs.Bindings.{is_target_domain, have_values, source_meets, target_meets, conjunct_holds}
 use Rattle.template_match.specs.declared.side.Side.{Side}
 use Rattle.template_match.specs.declared.side.Side.TheVariants.{Source, Target}
-
--- the variables that get values
-abbrev pub variables_of : Side → Rel → List ℕ
-variables_of Source rel = rel.universal
-variables_of Target rel = rel.existential
 
 -- the clause that is asked
 abbrev pub clause_of : Side → Rel → List Conj
@@ -30,7 +26,9 @@ abbrev pub domain_meets : Side → Program → List ModelData → Values → Dom
 domain_meets Source = source_meets
 domain_meets Target = target_meets
 
--- the binding meets the side
-abbrev pub meets_side : Side → Program → List ModelData → Rel → Values → Bool
-meets_side Source = meets_source
-meets_side Target = meets_target
+-- the binding gives the variables values that they may have, and meets the side
+abbrev pub meets_side : Side → List ℕ → Program → List ModelData → Rel → Values → Bool
+meets_side side variables program models rel b =
+    have_values program models rel variables b
+    && list_all (domain_meets side program models b) rel.domains
+    && list_all (conjunct_holds program models b) (clause_of side rel)

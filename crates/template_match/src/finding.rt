@@ -9,16 +9,17 @@ ghost use Rattle.template_match.specs.Each.{IsEachOnce};
 ghost use Rattle.template_match.specs.Plans.{IsPlanOf};
 ghost use Rattle.template_match.specs.Posed.{HasPrimitives, HasUniversals, IsPosed, IsSought};
 ghost use Rattle.template_match.specs.Search.{values_of, search_from, sought};
+ghost use Rattle.template_match.specs.Sources.{source_variables, NamesNoTarget, SourceWithoutTarget};
 ghost use Rattle.template_match.specs.Tasks.{problem_of};
 
 use crate::order::each_once;
 use crate::plan::Plan;
 use crate::search::search_from;
 use crate::side::Side;
-use crate::sides::variables_of;
 use crate::task::Task;
+use crate::without_target::source_variables;
 use mof_metamodel::{NoMemory, Seq};
-use ocl_values::Models;
+use ocl_eval::Models;
 use qv_syntax::Program;
 use qvtr_semantics::Binding;
 use std::alloc::Global;
@@ -40,7 +41,7 @@ fn all_found(task: &Task<'_, '_>, roots: &Binding) -> Result<Seq<Binding>, NoMem
     ensures sorted { IfOk result (λ bs. AllPairs (IsLess (sought (problem_of task.now))) (values_of bs)) }
 {
     let found = found_from(task, roots)?;
-    Ok(each_once(variables_of(task.side, task.rel), found))
+    Ok(each_once(task.variables, found))
 }
 
 /// The bindings of the universal variables of a relation that extend `fixed` and meet the source, in the order of the values of these
@@ -58,13 +59,45 @@ pub fn bindings(
         → Contains (values_of bs) b ↔ Source program.now models.now rel fixed.now.values b) }
     ensures sorted { IfOk result (λ bs. (rel : Rel) → IsPlanOf program.now plan.now.rel rel plan.now → AllPairs (IsLess rel.universal) (values_of bs)) }
 {
+    let rel = &program.rels.as_slice()[plan.rel as usize];
     let task = Task {
         alloc,
         side: Side::Source,
         program,
         models,
-        rel: &program.rels.as_slice()[plan.rel as usize],
+        rel,
         links: plan.source.as_slice(),
+        variables: rel.universal.as_slice(),
+    };
+    all_found(&task, fixed)
+}
+
+/// The bindings of the universal variables of a relation but for those for objects of the target model, that extend `fixed` and meet the
+/// source, in the order of the values of these variables, each once (QVT 1.3, sections 7.10.1 and 7.11.1.4). What calls in the when clause
+/// ask is told apart; nothing else there names such an object.
+pub fn source_bindings(
+    alloc: Global,
+    program: &Program,
+    plan: &Plan,
+    models: &Models<'_>,
+    fixed: &Binding,
+) -> Result<Seq<Binding>, NoMemory>
+    requires meant { AreMeant program.now }
+    requires planned { (rel : Rel) × IsPlanOf program.now plan.now.rel rel plan.now × (length fixed.now.values ≡ length rel.vars) × HasPrimitives rel fixed.now.values × NamesNoTarget program.now rel }
+    ensures exact { IfOk result (λ bs. (rel : Rel) → IsPlanOf program.now plan.now.rel rel plan.now → (b : Values)
+        → Contains (values_of bs) b ↔ SourceWithoutTarget program.now models.now rel fixed.now.values b) }
+    ensures sorted { IfOk result (λ bs. (rel : Rel) → IsPlanOf program.now plan.now.rel rel plan.now → AllPairs (IsLess (source_variables program.now rel)) (values_of bs)) }
+{
+    let rel = &program.rels.as_slice()[plan.rel as usize];
+    let variables = source_variables(alloc, program, rel)?;
+    let task = Task {
+        alloc,
+        side: Side::Source,
+        program,
+        models,
+        rel,
+        links: plan.source.as_slice(),
+        variables: variables.as_slice(),
     };
     all_found(&task, fixed)
 }
@@ -84,13 +117,15 @@ pub fn target_bindings(
         → Contains (values_of gs) g ↔ Target program.now models.now rel b.now.values g) }
     ensures sorted { IfOk result (λ gs. (rel : Rel) → IsPlanOf program.now plan.now.rel rel plan.now → AllPairs (IsLess rel.existential) (values_of gs)) }
 {
+    let rel = &program.rels.as_slice()[plan.rel as usize];
     let task = Task {
         alloc,
         side: Side::Target,
         program,
         models,
-        rel: &program.rels.as_slice()[plan.rel as usize],
+        rel,
         links: plan.target.as_slice(),
+        variables: rel.existential.as_slice(),
     };
     all_found(&task, b)
 }

@@ -20,8 +20,9 @@ mod side;
 mod sides;
 mod task;
 mod values;
+mod without_target;
 
-pub use finding::{bindings, target_bindings};
+pub use finding::{bindings, source_bindings, target_bindings};
 pub use link::Link;
 pub use plan::{Plan, plan_of};
 pub use side::Side;

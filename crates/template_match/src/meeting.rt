@@ -9,14 +9,13 @@ ghost use Rattle.template_match.specs.Meeting.{item_of, slot_of};
 ghost use Rattle.template_match.specs.Sides.{domain_meets, meets_side};
 
 use crate::side::Side;
-use crate::sides::{clause_of, is_model, is_target_domain, variables_of};
+use crate::sides::{clause_of, is_model, is_target_domain};
 use crate::task::Task;
 use crate::values::value_at;
 use mof_metamodel::{NoMemory, Seq};
 use object_tables::Value;
-use ocl_eval::{eval, held_at, holds, is_of_class};
-use ocl_values::collections::is_among;
-use ocl_values::{datum_of, same_datum};
+use ocl_eval::collections::is_among;
+use ocl_eval::{datum_of, eval, held_at, holds, is_of_class, same_datum};
 use qv_syntax::{Conj, Dom, Item, ItemValue, Tmpl, Ty, Typed, Var};
 use qvtr_semantics::{Binding, Datum};
 
@@ -308,9 +307,9 @@ fn conjuncts_hold(
 
 /// Whether the binding meets the side of the relation.
 pub(crate) fn meets(task: &Task<'_, '_>, binding: &Binding) -> Result<bool, NoMemory>
-    ensures { IfOk result (λ b. b ≡ meets_side task.now.side task.now.program.now task.now.models.now task.now.rel.now binding.now.values) }
+    ensures { IfOk result (λ b. b ≡ meets_side task.now.side task.now.variables.now task.now.program.now task.now.models.now task.now.rel.now binding.now.values) }
 {
-    if !have_values(task, variables_of(task.side, task.rel), binding) {
+    if !have_values(task, task.variables, binding) {
         return Ok(false);
     }
     if !domains_meet(task, task.rel.domains.as_slice(), binding)? {

@@ -3,13 +3,13 @@ ghost use Rattle.std.specs.List.{dedup};
 ghost use Rattle.std.specs.List.Sorted.{IsPermutation, IsSorted};
 ghost use Rattle.std.specs.Option.{option_cmp, option_copied};
 ghost use Rattle.std.specs.Ordering.{eq_by_cmp};
-ghost use Rattle.ocl_values.specs.Order.{datum_order};
+ghost use Rattle.ocl_eval.specs.Order.{datum_order};
 ghost use Rattle.template_match.specs.Order.{binding_order};
 ghost use Rattle.template_match.specs.Each.{IsEachOnce};
 
 use crate::values::value_at;
 use mof_metamodel::Seq;
-use ocl_values::datum_order;
+use ocl_eval::datum_order;
 use qvtr_semantics::{Binding, Datum};
 use std::cmp::Ordering;
 

@@ -14,8 +14,7 @@ use crate::sides::{clause_of, is_of_side};
 use crate::task::Task;
 use crate::values::value_at;
 use mof_metamodel::{NoMemory, Seq};
-use ocl_eval::{eval, held_at, holds, is_of_class};
-use ocl_values::datum_of;
+use ocl_eval::{datum_of, eval, held_at, holds, is_of_class};
 use qv_syntax::{Conj, Dom, Item, ItemValue, Tmpl, Typed};
 use qvtr_semantics::{Binding, Datum};
 

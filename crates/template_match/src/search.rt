@@ -11,12 +11,11 @@ use crate::link::Link;
 use crate::meeting::meets;
 use crate::pruning::may_meet;
 use crate::readiness::is_ready;
-use crate::sides::{clause_of, variables_of};
+use crate::sides::clause_of;
 use crate::task::Task;
 use crate::values::{duplicate_binding, value_at, with_value};
 use mof_metamodel::{ClassId, NoMemory, Seq};
-use ocl_eval::{eval, extent_of, held_at};
-use ocl_values::{datum_of, duplicate_datum};
+use ocl_eval::{datum_of, duplicate_datum, eval, extent_of, held_at};
 use qv_syntax::{Conj, Rel, Ty, Typed};
 use qvtr_semantics::{Binding, Datum};
 use std::alloc::Global;
@@ -37,15 +36,14 @@ fn is_number_among(number: u32, numbers: &[u32]) -> bool
 fn is_open(task: &Task<'_, '_>, binding: &Binding, variable: u32) -> bool
     ensures { result ≡ is_open (problem_of task.now) binding.now.values variable }
 {
-    is_number_among(variable, variables_of(task.side, task.rel))
-        && value_at(binding, variable).is_none()
+    is_number_among(variable, task.variables) && value_at(binding, variable).is_none()
 }
 
 /// Whether a variable that is sought has no value yet.
 fn is_any_open(task: &Task<'_, '_>, binding: &Binding) -> bool
     ensures { result ≡ is_any_open (problem_of task.now) binding.now.values }
 {
-    for variable in variables_of(task.side, task.rel) {
+    for variable in task.variables {
         if is_open(task, binding, *variable) {
             return true;
         }
@@ -130,7 +128,7 @@ fn extent_for(rel: &Rel, variable: u32) -> Option<(u32, ClassId)>
 fn usable_variable(task: &Task<'_, '_>, binding: &Binding) -> Option<u32>
     ensures { result ≡ find (usable_variable (problem_of task.now) binding.now.values) (sought (problem_of task.now)) }
 {
-    for variable in variables_of(task.side, task.rel) {
+    for variable in task.variables {
         if is_open(task, binding, *variable) && extent_for(task.rel, *variable).is_some() {
             return Some(*variable);
         }

@@ -1,19 +1,9 @@
 ghost use Rattle.std.specs.Prelude.{◌≡◌};
 ghost use Rattle.qvtr_semantics.specs.Bindings.{is_model, is_target_domain};
-ghost use Rattle.template_match.specs.Sides.{variables_of, clause_of, is_of_side};
+ghost use Rattle.template_match.specs.Sides.{clause_of, is_of_side};
 
 use crate::side::Side;
 use qv_syntax::{Conj, Dom, Program, Rel};
-
-/// The variables that get values.
-pub(crate) fn variables_of(side: Side, rel: &Rel) -> &[u32]
-    ensures { result.now ≡ variables_of side rel.now }
-{
-    match side {
-        Side::Source => rel.universal.as_slice(),
-        Side::Target => rel.existential.as_slice(),
-    }
-}
 
 /// The clause that is asked.
 pub(crate) fn clause_of(side: Side, rel: &Rel) -> &[Conj]

@@ -1,10 +1,11 @@
 use crate::link::Link;
 use crate::side::Side;
-use ocl_values::Models;
+use ocl_eval::Models;
 use qv_syntax::{Program, Rel};
 use std::alloc::Global;
 
-/// What is looked for: the bindings of a side of a relation, with the links of the side's templates.
+/// What is looked for: the bindings of a side of a relation, with the links of the side's templates and the
+/// variables that get values.
 #[derive(Clone, Copy)]
 pub(crate) struct Task<'a, 'm> {
     pub(crate) alloc: Global,
@@ -13,4 +14,5 @@ pub(crate) struct Task<'a, 'm> {
     pub(crate) models: &'a Models<'m>,
     pub(crate) rel: &'a Rel,
     pub(crate) links: &'a [Link],
+    pub(crate) variables: &'a [u32],
 }

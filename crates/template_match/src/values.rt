@@ -4,7 +4,7 @@ ghost use Rattle.qvtr_semantics.specs.Templates.{value_at};
 ghost use Rattle.template_match.specs.Search.{with_value};
 
 use mof_metamodel::{NoMemory, Seq};
-use ocl_values::duplicate_datum;
+use ocl_eval::duplicate_datum;
 use qvtr_semantics::{Binding, Datum};
 use std::alloc::Global;
 
