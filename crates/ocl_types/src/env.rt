@@ -324,7 +324,7 @@ impl<'a> Env<'a> {
     }
 
     /// Numbers of metamodels are in range, and types are such that a variable may have them.
-    pub(crate) fn in_order(&self)
+    pub fn in_order(&self)
         ensures { IsInOrder self.now }
     {
         let _ = &self.metas;

@@ -18,24 +18,24 @@ use Rattle.qv_syntax.specs.declared.script.RelationTree.{RelationTree}
 use Rattle.ocl_types.specs.declared.fault.TypeFault.{TypeFault}
 use Rattle.ocl_types.specs.Environments.{Environment}
 use Rattle.qvtr_types.specs.declared.resolved_conjuncts.ClauseScope.{ClauseScope}
-use Rattle.qvtr_types.specs.ScriptNames.{each_once}
-use Rattle.qvtr_types.specs.Conjuncts.{clause_conjuncts, call_of}
-use Rattle.qvtr_types.specs.Occurrences.{relations_of, variables_of}
-use Rattle.qvtr_types.specs.UniversalNames.{universal_names}
-use Rattle.qvtr_types.specs.ObjectModels.{CallsWith}
-use Rattle.qvtr_types.specs.Directions.{IsRelationName}
-use Rattle.qvtr_types.specs.Divisions.{IsWhenEquation, IsWhereEquation, IsUniversal}
-use Rattle.qvtr_types.specs.Environments.{Setting, in_relation}
-use Rattle.qvtr_types.specs.Declarations.{relation_names, IsRepeated}
-use Rattle.qvtr_types.specs.Resolutions.{IsData, AreConjuncts}
-use Rattle.qvtr_types.specs.Faults.{AreVariables, IsRoot}
+use Rattle.script_scopes.specs.ScriptNames.{each_once}
+use Rattle.script_scopes.specs.Conjuncts.{clause_conjuncts, call_of}
+use Rattle.script_scopes.specs.Occurrences.{relations_of, variables_of}
+use Rattle.script_scopes.specs.UniversalNames.{universal_names}
+use Rattle.script_scopes.specs.ObjectModels.{CallsWith}
+use Rattle.script_scopes.specs.Directions.{IsRelationName}
+use Rattle.script_scopes.specs.Divisions.{IsWhenEquation, IsWhereEquation, IsUniversal}
+use Rattle.script_scopes.specs.Environments.{Setting, in_relation}
+use Rattle.script_scopes.specs.Declarations.{relation_names, IsRepeated}
+use Rattle.script_scopes.specs.Resolutions.{IsData, AreConjuncts}
+use Rattle.script_scopes.specs.Faults.{AreVariables, IsRoot}
 use Rattle.qvtr_types.specs.Expressions.{IsCondition, StandsInCondition, AreArguments, StandsInGiven, StandsInArguments}
 use Rattle.qvtr_types.specs.PlacedFaults.{AreRoots, IsClauseOf, StandsInClauses}
 use Rattle.qvtr_types.specs.Equations.{has_equation, equation_test, equation_behind, given_after}
-use Rattle.qvtr_types.specs.SettledRelations.{HaveOneType}
+use Rattle.script_variables.specs.SettledRelations.{HaveOneType}
 use Rattle.qvtr_types.specs.ResolvedConjuncts.{ClauseReach, reach_of, called_number, HasRootTypes, IsResolved, StandsInConjunct, AreResolved, StandsInOne}
 use Rattle.qvtr_types.specs.ClauseSettings.{vars_of, roots_of, IsClauseScopeOf}
-use Rattle.qvtr_types.proofs.CallRowLaws.{named_by, number_by, within_some, some_among, among_some}
+use Rattle.script_scopes.proofs.CallRowLaws.{named_by, number_by, within_some, some_among, among_some}
 use Rattle.qvtr_types.proofs.ZipLemmas.{zip_left, zip_right, zip_length}
 use Rattle.qvtr_types.proofs.DataNameLaws.{when_passes, when_passed, where_passes, where_passed}
 use Rattle.qvtr_types.proofs.ResolvedConjunctLaws.{reach_in, calls_number, calls_none, resolved_count, resolved_at, are_conjuncts}

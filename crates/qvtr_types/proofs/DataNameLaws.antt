@@ -1,6 +1,6 @@
 -- The names that have an equation in a clause: those of data variables that are universal, or else existential.
-use Rattle.std.proofs.Common.{◌≡◌, ◌<◌, ℕ, zero, suc, List, [], ◌∷◌, Bool, true, false, not, ◌&&◌, refl, sym, ◌∙◌, ap, subst, length, arith, true≢false}
-use Rattle.std.specs.Prelude.{Option, Some, None, Contains, is_some, position, slice_get}
+use Rattle.std.proofs.Common.{◌≡◌, ℕ, zero, suc, List, [], ◌∷◌, Bool, true, false, not, ◌&&◌, refl, sym, ◌∙◌, ap, subst, arith, true≢false}
+use Rattle.std.specs.Prelude.{Option, Some, None, is_some, position, slice_get}
 use Rattle.std.specs.List.{AllZip, position_or_len}
 use Rattle.std.specs.Option.{option_map_or}
 use Rattle.std.proofs.lemmas.Option.{same_Some, none-some, slice_get_within}
@@ -10,20 +10,19 @@ use Rattle.qv_syntax.specs.declared.ty.Ty.{Ty}
 use Rattle.qv_syntax.specs.declared.program.Var.{Var}
 use Rattle.qv_syntax.specs.declared.script.RelationTree.{RelationTree}
 use Rattle.ocl_types.specs.Environments.{class_of}
-use Rattle.qvtr_types.specs.ScriptNames.{each_once}
-use Rattle.qvtr_types.specs.Occurrences.{variables_of}
-use Rattle.qvtr_types.specs.Divisions.{IsUniversal}
-use Rattle.qvtr_types.specs.UniversalNames.{universal_names, is_among}
-use Rattle.qvtr_types.specs.Environments.{Setting, in_script}
-use Rattle.qvtr_types.specs.Declarations.{HasVariableType}
-use Rattle.qvtr_types.specs.Resolutions.{IsVariable, IsData}
-use Rattle.qvtr_types.specs.Faults.{AreVariables}
-use Rattle.qvtr_types.specs.Variables.{is_class}
+use Rattle.script_scopes.specs.ScriptNames.{each_once}
+use Rattle.script_scopes.specs.Occurrences.{variables_of}
+use Rattle.script_scopes.specs.Divisions.{IsUniversal}
+use Rattle.script_scopes.specs.UniversalNames.{universal_names, is_among}
+use Rattle.script_scopes.specs.Environments.{Setting, in_script}
+use Rattle.script_scopes.specs.Resolutions.{IsVariable, IsData}
+use Rattle.script_scopes.specs.Faults.{AreVariables}
+use Rattle.script_variables.specs.Variables.{is_class}
 use Rattle.qvtr_types.specs.Equations.{is_data_at, is_data_named, has_equation}
-use Rattle.qvtr_types.specs.SettledRelations.{HaveOneType}
-use Rattle.qvtr_types.proofs.CallRowLaws.{within_some}
-use Rattle.qvtr_types.proofs.BindingLaws.{number_at, number_had, among_universal, universal_among, among_existential, existential_among}
-use Rattle.qvtr_types.proofs.VariableLaws.{no_class, not_class}
+use Rattle.script_variables.specs.SettledRelations.{HasOneType, HaveOneType}
+use Rattle.script_scopes.proofs.CallRowLaws.{within_some}
+use Rattle.script_variables.proofs.BindingLaws.{number_at, number_had, among_universal, universal_among, among_existential, existential_among}
+use Rattle.script_variables.proofs.VariableLaws.{no_class, not_class}
 use Rattle.qvtr_types.proofs.OccurrenceLaws.{type_occurs}
 use Rattle.qvtr_types.proofs.ZipLemmas.{zip_length}
 
@@ -82,7 +81,7 @@ module _ (s : Setting) (r : RelationTree) (vars : List Var) (are : AreVariables 
       let below = slice_get_within (variables_of r) n v named in
       let long = zip_length (IsVariable s r) (variables_of r) vars are in
       let (var, found) = within_some vars n (omega (arith, below, long)) in
-      let same : d.ty ≡ var.ty = zip_here (λ w x. (ty : Ty) → HasVariableType s.metas s.script (in_script s) r w ty → ty ≡ x.ty) (variables_of r) vars n v var one named found d.ty d.has in
+      let same : d.ty ≡ var.ty = zip_here (HasOneType s r) (variables_of r) vars n v var one named found d.ty d.has in
       ap (is_data_at vars) at ∙ ap (λ (o : Option Var). option_map_or (λ x. not (is_class x.ty)) o false) found
       ∙ ap (λ (ty : Ty). not (is_class ty)) (sym same) ∙ ap (λ (o : Option (ℕ × ClassId)). not (is_some o)) (no_class d.ty d.data_type)
 

@@ -21,28 +21,28 @@ use Rattle.ocl_types.specs.HasType.{HasType, HasTree, Stands}
 use Rattle.ocl_types.specs.Typing.{typed}
 use Rattle.ocl_types.proofs.TypedParts.{contains_at}
 use Rattle.qvtr_types.specs.declared.domains.RelationScope.{RelationScope}
-use Rattle.qvtr_types.specs.ScriptNames.{model_names}
-use Rattle.qvtr_types.specs.Occurrences.{Piece, relations_of, variables_of, template_count}
-use Rattle.qvtr_types.specs.Divisions.{model_of, HasPiece}
-use Rattle.qvtr_types.specs.Environments.{Setting, in_relation, place_of, slots_of}
-use Rattle.qvtr_types.specs.Declarations.{meta_of}
-use Rattle.qvtr_types.specs.Refusals.{HasNamesInOrder}
-use Rattle.qvtr_types.specs.Faults.{StandsInExpressions, domain_models}
+use Rattle.script_scopes.specs.ScriptNames.{model_names}
+use Rattle.script_scopes.specs.Occurrences.{Piece, relations_of, variables_of, template_count}
+use Rattle.script_scopes.specs.Divisions.{model_of, HasPiece}
+use Rattle.script_scopes.specs.Environments.{Setting, in_relation, place_of, slots_of}
+use Rattle.script_scopes.specs.Declarations.{meta_of}
+use Rattle.script_scopes.specs.Refusals.{HasNamesInOrder}
+use Rattle.script_scopes.specs.Faults.{StandsInExpressions, domain_models}
 use Rattle.qvtr_types.specs.PlacedFaults.{StandsInItems}
-use Rattle.qvtr_types.specs.FirstEntries.{first_entries}
-use Rattle.qvtr_types.specs.VariableTypes.{metamodel_numbers}
-use Rattle.qvtr_types.specs.LocatedPieces.{located}
-use Rattle.qvtr_types.specs.ResolvedTemplates.{DomainReach, IsTemplate}
+use Rattle.script_scopes.specs.FirstEntries.{first_entries}
+use Rattle.script_scopes.specs.VariableTypes.{metamodel_numbers}
+use Rattle.script_scopes.specs.LocatedPieces.{located}
+use Rattle.script_scopes.specs.ResolvedTemplates.{DomainReach, IsTemplate}
 use Rattle.qvtr_types.specs.TemplatePieces.{IsMeant, StandsAtPiece}
-use Rattle.qvtr_types.specs.Resolutions.{domain_reach, model_number, marker_of, IsDomain, AreDomains}
+use Rattle.script_scopes.specs.Resolutions.{domain_reach, model_number, marker_of, IsDomain, AreDomains}
 use Rattle.qvtr_types.specs.ResolvedDomains.{RelationReach, shown_scope, domain_in, HasKnownModel, IsDomainIn, AreDomainsFrom, IsMeantIn, IsLocatedFault}
 use Rattle.qvtr_types.specs.RelationSettings.{IsReachOf}
-use Rattle.qvtr_types.proofs.MemberLemmas.{to_filter_map}
-use Rattle.qvtr_types.proofs.FirstEntryLemmas.{first_value}
-use Rattle.qvtr_types.proofs.LocatedLaws.{located_piece, piece_located}
-use Rattle.qvtr_types.proofs.DivisionLaws.{first, past}
-use Rattle.qvtr_types.proofs.PlaceLaws.{meta_found}
-use Rattle.qvtr_types.proofs.NameOrderLaws.{model_numbers}
+use Rattle.script_scopes.proofs.MemberLemmas.{to_filter_map}
+use Rattle.script_variables.proofs.FirstEntryLemmas.{first_value}
+use Rattle.script_variables.proofs.LocatedLaws.{located_piece, piece_located}
+use Rattle.script_scopes.proofs.DivisionLaws.{first, past}
+use Rattle.script_variables.proofs.PlaceLaws.{meta_found}
+use Rattle.script_variables.proofs.NameOrderLaws.{model_numbers}
 use Rattle.qvtr_types.proofs.PieceLaws.{piece_stands, items_faultless}
 
 -- ---- domains one behind the other

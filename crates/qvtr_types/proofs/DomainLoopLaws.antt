@@ -15,15 +15,15 @@ use Rattle.qv_syntax.specs.declared.program.Marker.{Marker}
 use Rattle.qv_syntax.specs.declared.program.Tmpl.{Tmpl}
 use Rattle.qv_syntax.specs.declared.program.Dom.{Dom}
 use Rattle.ocl_types.specs.declared.fault.TypeFault.{TypeFault}
-use Rattle.qvtr_types.specs.Occurrences.{Piece, begun, template_body, template_count}
-use Rattle.qvtr_types.specs.Occurrences.Piece.{begins}
-use Rattle.qvtr_types.specs.Environments.{place_of}
-use Rattle.qvtr_types.specs.Resolutions.{marker_of}
-use Rattle.qvtr_types.specs.ResolvedTemplates.{DomainReach, class_named, IsTemplate}
-use Rattle.qvtr_types.specs.LocatedPieces.{in_model, located_in, located_from}
+use Rattle.script_scopes.specs.Occurrences.{Piece, begun, template_body, template_count}
+use Rattle.script_scopes.specs.Occurrences.Piece.{begins}
+use Rattle.script_scopes.specs.Environments.{place_of}
+use Rattle.script_scopes.specs.Resolutions.{marker_of}
+use Rattle.script_scopes.specs.ResolvedTemplates.{DomainReach, class_named, IsTemplate}
+use Rattle.script_scopes.specs.LocatedPieces.{in_model, located_in, located_from}
 use Rattle.qvtr_types.specs.TemplatePieces.{IsUnknownClass, IsMeant, StandsAtPiece, IsPieceFault}
 use Rattle.qvtr_types.specs.ResolvedDomains.{RelationReach, domain_in, IsDomainIn, AreDomainsFrom, IsMeantIn, IsLocatedFault}
-use Rattle.qvtr_types.proofs.MemberLemmas.{from_map, to_map}
+use Rattle.script_scopes.proofs.MemberLemmas.{from_map, to_map}
 use Rattle.qvtr_types.proofs.ItemForms.{body_class}
 
 module _ (reach : RelationReach) where

@@ -26,7 +26,7 @@ use Rattle.ocl_types.specs.TypeRules.{IsFirstNamed, names_judged, operator_judge
 use Rattle.ocl_types.specs.HasType.{Judgment, LinkJudgment, linked, judgment, link_judgment, args_judgment, call_judgment, expr_rule, HasType, Stands}
 use Rattle.ocl_types.proofs.JudgmentLaws.{expr_unrolled, link_unrolled}
 use Rattle.qvtr_types.proofs.well_formed.Equations.{told_alone}
-use Rattle.qvtr_types.specs.Conjuncts.{one_name, alone_step, name_alone, equal_to, behind_equals, variable_with, equation_in, equation_of}
+use Rattle.script_scopes.specs.Conjuncts.{one_name, alone_step, name_alone, equal_to, behind_equals, variable_with, equation_in, equation_of}
 use Rattle.qvtr_types.specs.Expressions.{HasTyping, IsEquated}
 
 module _ (env : Environment) (f : TypeFault) where

@@ -1,7 +1,7 @@
 -- The faults that stand in conjuncts of a relation and in its items are those of its expressions, and no others.
 use Rattle.std.proofs.Common.{◌≡◌, ℕ, List, refl, sym, ap, subst, ◌∙◌, ⊎_elim, inl, inr, arith}
 use Rattle.std.specs.Prelude.{Option, Some, slice_get, Contains}
-use Rattle.std.proofs.lemmas.Option.{slice_get_within, slice_get-get_or, get_or_from_slice_get, slice_get_cases}
+use Rattle.std.proofs.lemmas.Option.{slice_get-get_or, slice_get_cases}
 use Rattle.qv_syntax.specs.declared.expr.Expr.{Expr}
 use Rattle.qv_syntax.specs.declared.typed.Typed.{Typed}
 use Rattle.qv_syntax.specs.declared.script.BlockTree.{BlockTree}
@@ -17,22 +17,20 @@ use Rattle.ocl_types.specs.Environments.{Environment}
 use Rattle.ocl_types.specs.TypedContext.{GivesTypedTree}
 use Rattle.ocl_types.specs.Outcomes.{wrong_type}
 use Rattle.ocl_types.specs.HasType.{Stands}
-use Rattle.qvtr_types.specs.Usages.{calls_in}
-use Rattle.qvtr_types.specs.Conjuncts.{clause_conjuncts}
-use Rattle.qvtr_types.specs.ObjectModels.{CallsWith}
-use Rattle.qvtr_types.specs.Directions.{IsRelationName, IsCalledWithin, IsMisplaced}
-use Rattle.qvtr_types.specs.Occurrences.{relations_of}
-use Rattle.qvtr_types.specs.Environments.{Setting, in_relation}
-use Rattle.qvtr_types.specs.Faults.{IsExpression, IsExpressionOf, IsRoot, StandsInPlace, StandsInExpressions}
+use Rattle.script_scopes.specs.Usages.{calls_in}
+use Rattle.script_scopes.specs.Conjuncts.{clause_conjuncts}
+use Rattle.script_scopes.specs.ObjectModels.{CallsWith}
+use Rattle.script_scopes.specs.Directions.{IsRelationName, IsCalledWithin, IsMisplaced}
+use Rattle.script_scopes.specs.Occurrences.{relations_of}
+use Rattle.script_scopes.specs.Environments.{Setting, in_relation}
+use Rattle.script_scopes.specs.Faults.{IsExpression, IsExpressionOf, IsRoot, StandsInPlace, StandsInExpressions}
 use Rattle.qvtr_types.specs.Expressions.{HasTyping, StandsInCondition, StandsInGiven, StandsInArguments}
-use Rattle.qvtr_types.specs.PlacedFaults.{AreRoots, IsClauseOf, CallsNone, StandsInClauses, StandsInItems}
+use Rattle.qvtr_types.specs.PlacedFaults.{AreRoots, IsClauseOf, CallsNone, AreAloneRelated, StandsInClauses, StandsInItems}
 use Rattle.qvtr_types.specs.VariableLists.{HaveOneList}
+use Rattle.script_scopes.proofs.CallRowLaws.{some_among}
 use Rattle.qvtr_types.proofs.InRelationLaws.{typing_expression, expression_typing}
 use Rattle.qvtr_types.proofs.RootLaws.{some_roots, one_root}
 use Rattle.qvtr_types.proofs.ZipLemmas.{zip_left, zip_right, zip_length}
-
-at_contained : (es : List Expr) (place : ℕ) (e : Expr) → slice_get es place ≡ Some e → Contains es e
-at_contained es place e found = (place, slice_get_within es place e found, get_or_from_slice_get es place e e found)
 
 module _ (s : Setting) (r : RelationTree) (vars : List Var) where
   -- ---- where no relation's name is called in a wrong place
@@ -59,8 +57,8 @@ module _ (s : Setting) (r : RelationTree) (vars : List Var) where
           → IsClauseOf r clause → CallsWith s.script clause called args → slice_get args place ≡ Some e → slice_get called.domains place ≡ Some domain → IsRoot s called domain (typing_of root)
           → StandsInGiven (in_relation s r vars) (typing_of root) called.name.text e f → StandsInExpressions s r vars f
       given_stands clause called args place e domain root f of call at_arg at_domain is_root (StandsInGiven.typing stands) =
-          StandsInExpressions.typing e f (IsExpressionOf.argument clause called args of call (at_contained args place e at_arg))
-          (argument_placed clause called args e of call (at_contained args place e at_arg)) stands
+          StandsInExpressions.typing e f (IsExpressionOf.argument clause called args of call (some_among args place e at_arg))
+          (argument_placed clause called args e of call (some_among args place e at_arg)) stands
       given_stands clause called args place e domain root f of call at_arg at_domain is_root (StandsInGiven.type tree t has apart same) =
           subst (StandsInExpressions s r vars) (sym same)
           (StandsInExpressions.argument clause called args place e domain t (typing_of root) (wrong_type s.metas root.ty t.ty) of call at_arg at_domain (told e tree t has) is_root (StandsInPlace.type apart))
@@ -85,7 +83,8 @@ module _ (s : Setting) (r : RelationTree) (vars : List Var) where
   module _ (told : (e : Expr) (t : Typing) → IsExpression s r vars e t → (tree : Typed) × HasTyping (in_relation s r vars) e tree t)
       (some_roots : (called : RelationTree) → Contains (relations_of s.script) called → (roots : List Var) × AreRoots s called roots)
       (one_root : (called : RelationTree) (domain : DomainTree) (t u : Typing) → Contains (relations_of s.script) called → IsRoot s called domain t → IsRoot s called domain u → t ≡ u)
-      (clauses : (f : TypeFault) → StandsInClauses s r vars f → ⊥) (items : (f : TypeFault) → StandsInItems s r vars f → ⊥) where
+      (clauses : (f : TypeFault) → StandsInClauses s r vars f → ⊥) (items : (f : TypeFault) → StandsInItems s r vars f → ⊥)
+      (alone : AreAloneRelated s r vars) where
     typing_faultless : (e : Expr) (f : TypeFault) → IsExpressionOf s r e → Stands (in_relation s r vars) e f → ⊥
     typing_faultless e f (IsExpressionOf.item domain at piece) stands = items f (StandsInItems.typing domain at e f piece stands)
     typing_faultless e f (IsExpressionOf.condition clause of among none) stands = clauses f (StandsInClauses.condition clause e of among none (StandsInCondition.typing stands))
@@ -120,6 +119,8 @@ module _ (s : Setting) (r : RelationTree) (vars : List Var) where
         let (tree, has) = told e given expr in
         clauses f (StandsInClauses.call clause called args roots of call are (StandsInArguments.argument place root e at_root at_arg
         (given_back e tree (typing_of root) given called.name.text f has (subst (λ (w : Typing). StandsInPlace s w given called.name.text f) same stands))))
+    expressions_faultless _ (StandsInExpressions.alone clause called args place e domain number v var wanted of call at_arg at_domain is named found is_root apart) =
+        apart (alone clause called args place e domain number v var wanted of call at_arg at_domain is named found is_root)
 
 -- ---- over what is in reach in the relation
 
@@ -127,9 +128,9 @@ pub clauses_told : (s : Setting) (r : RelationTree) (vars : List Var) → ((name
 clauses_told s r vars placed f = clause_stands s r vars placed (typing_expression s r vars) f
 
 pub none_told : (env : Environment) → ((e : Expr) (p : TypedPart) → GivesTypedTree env e p) → (s : Setting) (r : RelationTree) (vars : List Var) → in_relation s r vars ≡ env → HaveOneList s
-    → ((f : TypeFault) → StandsInClauses s r vars f → ⊥) → ((f : TypeFault) → StandsInItems s r vars f → ⊥) → (f : TypeFault) → StandsInExpressions s r vars f → ⊥
-none_told env trees s r vars is lists clauses items f =
+    → ((f : TypeFault) → StandsInClauses s r vars f → ⊥) → ((f : TypeFault) → StandsInItems s r vars f → ⊥) → AreAloneRelated s r vars → (f : TypeFault) → StandsInExpressions s r vars f → ⊥
+none_told env trees s r vars is lists clauses items alone f =
     expressions_faultless s r vars (expression_typing s r vars (subst (λ (x : Environment). (e : Expr) (p : TypedPart) → GivesTypedTree x e p) (sym is) trees))
     (λ called among. let (vs, are, one) = lists called among in some_roots s called vs are)
     (λ called d t u among. let (vs, are, one) = lists called among in one_root s called (λ a b of_a of_b. one a of_a ∙ sym (one b of_b)) d t u)
-    clauses items f
+    clauses items alone f

@@ -8,11 +8,11 @@ use Rattle.mof_metamodel.specs.Characters.{same_name}
 use Rattle.qv_syntax.specs.declared.expr.Expr.{Expr}
 use Rattle.qv_syntax.specs.declared.script.BlockTree.{BlockTree}
 use Rattle.qv_syntax.specs.declared.script.RelationTree.{RelationTree}
-use Rattle.qvtr_types.specs.Usages.{variables_in}
-use Rattle.qvtr_types.specs.Conjuncts.{clause_conjuncts, equation_of}
-use Rattle.qvtr_types.specs.Divisions.{IsGivenAt, IsEquation}
+use Rattle.script_scopes.specs.Usages.{variables_in}
+use Rattle.script_scopes.specs.Conjuncts.{clause_conjuncts, equation_of}
+use Rattle.script_scopes.specs.Divisions.{IsGivenAt, IsEquation}
 use Rattle.qvtr_types.specs.Equations.{unless_named, given_by, with_given, given_after, first_given, equation_behind, IsSaid}
-use Rattle.qvtr_types.proofs.NameLemmas.{has_name, name_had, lacks_name}
+use Rattle.script_scopes.proofs.NameLemmas.{has_name, name_had, lacks_name}
 
 -- ---- what a conjunct gives
 

@@ -14,9 +14,9 @@ use Rattle.ocl_types.specs.Parts.{tree_of}
 use Rattle.ocl_types.specs.Typing.{typed}
 use Rattle.ocl_types.specs.TypedContext.{GivesTypedTree, typing_of}
 use Rattle.ocl_types.proofs.JudgedLaws.{ok_err}
-use Rattle.qvtr_types.specs.Environments.{Setting, in_relation}
+use Rattle.script_scopes.specs.Environments.{Setting, in_relation}
 use Rattle.qvtr_types.specs.Expressions.{HasTyping}
-use Rattle.qvtr_types.specs.Faults.{IsExpression}
+use Rattle.script_scopes.specs.Faults.{IsExpression}
 use Rattle.qvtr_types.proofs.ExpressionLaws.{typing_had}
 
 module _ (s : Setting) (r : RelationTree) (vars : List Var) where

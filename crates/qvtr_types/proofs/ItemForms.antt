@@ -19,10 +19,10 @@ use Rattle.qv_syntax.specs.declared.program.ItemValue.TheOpen as layers
 use Rattle.qv_syntax.specs.declared.program.ItemValue.{ItemValue}
 use Rattle.qv_syntax.specs.declared.program.ItemValue.TheVariants as items
 use Rattle.ocl_types.specs.declared.fault.TypeFault.{TypeFault}
-use Rattle.qvtr_types.specs.Occurrences.{Piece, BodyPieces, template_body, item_pieces, variable_text, property_of}
-use Rattle.qvtr_types.specs.Occurrences.Piece.{begins, asks}
-use Rattle.qvtr_types.specs.ResolvedTemplates.{DomainReach, class_named, IsTemplate, AreItems, IsItem}
-use Rattle.qvtr_types.specs.Environments.{place_of}
+use Rattle.script_scopes.specs.Occurrences.{Piece, BodyPieces, template_body, item_pieces, variable_text, property_of}
+use Rattle.script_scopes.specs.Occurrences.Piece.{begins, asks}
+use Rattle.script_scopes.specs.ResolvedTemplates.{DomainReach, class_named, IsTemplate, AreItems, IsItem}
+use Rattle.script_scopes.specs.Environments.{place_of}
 use Rattle.qvtr_types.specs.TemplatePieces.{IsItemProperty, LacksProperty, IsValueOf, HasValue, StandsInValue, IsNested, StandsInNested, IsMeant, StandsAtPiece, IsPieceFault}
 use Rattle.qvtr_types.proofs.PieceForms.{written, body_is, expr_item, nested_item}
 use Rattle.qvtr_types.proofs.ItemLaws.{pieces_from, pieces_count}

@@ -8,8 +8,8 @@ use Rattle.qv_syntax.specs.declared.name.Path.{Path}
 use Rattle.qv_syntax.specs.declared.script.ItemTree.{ItemTree}
 use Rattle.qv_syntax.specs.declared.program.Item.{Item}
 use Rattle.ocl_types.specs.declared.fault.TypeFault.{TypeFault}
-use Rattle.qvtr_types.specs.Occurrences.{Piece, in_turn, item_pieces}
-use Rattle.qvtr_types.specs.ResolvedTemplates.{DomainReach, AreItems, IsItem}
+use Rattle.script_scopes.specs.Occurrences.{Piece, in_turn, item_pieces}
+use Rattle.script_scopes.specs.ResolvedTemplates.{DomainReach, AreItems, IsItem}
 use Rattle.qvtr_types.specs.TemplatePieces.{IsMeant, IsPieceFault}
 
 -- the pieces of items from a number on

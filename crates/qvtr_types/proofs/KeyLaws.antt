@@ -17,8 +17,8 @@ use Rattle.ocl_types.specs.Environments.{Environment, no_meta}
 use Rattle.ocl_types.specs.Classifiers.{named_class}
 use Rattle.ocl_types.proofs.ClassifierLaws.{class_there}
 use Rattle.ocl_types.proofs.TypeLaws.{both_true, and_true}
-use Rattle.qvtr_types.specs.Declarations.{key_class}
-use Rattle.qvtr_types.specs.Keys.{IsKey, StandsInKey, IsSecondKey, AreKeys, StandsInKeys}
+use Rattle.script_scopes.specs.Declarations.{key_class}
+use Rattle.script_scopes.specs.Keys.{IsKey, StandsInKey, IsSecondKey, AreKeys, StandsInKeys}
 use Rattle.qvtr_types.specs.ClassPlaces.{IsClassAt}
 use Rattle.qvtr_types.specs.KeySearches.{IsLacking, AreEachKeys, StandsInOneKey, IsSecond, IsSecondFault}
 use Rattle.qvtr_types.specs.ClassSets.{one_class, has_key}

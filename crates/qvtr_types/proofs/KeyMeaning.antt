@@ -21,8 +21,8 @@ use Rattle.ocl_types.specs.declared.fault.TypeFault.{TypeFault}
 use Rattle.ocl_types.specs.Environments.{Environment, meta_at, no_meta}
 use Rattle.ocl_types.specs.Naming.{names_of, texts_of}
 use Rattle.ocl_types.proofs.ClassifierLaws.{class_there}
-use Rattle.qvtr_types.specs.Declarations.{key_property}
-use Rattle.qvtr_types.specs.Keys.{IsKey, IsShaped, StandsInKey, AreKeys, StandsInKeys}
+use Rattle.script_scopes.specs.Declarations.{key_property}
+use Rattle.script_scopes.specs.Keys.{IsKey, IsShaped, StandsInKey, AreKeys, StandsInKeys}
 use Rattle.qvtr_types.specs.KeySearches.{AreEachKeys}
 use Rattle.qvtr_types.proofs.ZipLemmas.{zip_left, zip_right}
 

@@ -5,9 +5,9 @@ use Rattle.std.proofs.lemmas.Option.{slice_get_within, get_or_from_slice_get}
 use Rattle.std.proofs.lemmas.Bool.{cases_order}
 use Rattle.std.proofs.lemmas.List.{get_or-take, length-take}
 use Rattle.qv_syntax.specs.declared.script.ModelTree.{ModelTree}
-use Rattle.qvtr_types.specs.declared.name_fault.NameFault.{NameFault}
-use Rattle.qvtr_types.specs.declared.name_fault.NameFault.TheVariants.{Target, Extra, Missing}
-use Rattle.qvtr_types.specs.ScriptNames.{IsNameFault, AreNamesOf, IsFirstLacking, script_names}
+use Rattle.script_scopes.specs.declared.name_fault.NameFault.{NameFault}
+use Rattle.script_scopes.specs.declared.name_fault.NameFault.TheVariants.{Target, Extra, Missing}
+use Rattle.script_scopes.specs.ScriptNames.{IsNameFault, AreNamesOf, IsFirstLacking, script_names}
 
 -- before the first one that is lacking none is lacking
 not_before : (others names : List (List ℕ)) (i j : ℕ) → IsFirstLacking others names i → IsFirstLacking others names j → i < j → ⊥

@@ -36,9 +36,9 @@ use Rattle.ocl_types.specs.TypingCollections.{element_of, gathered, gathered_by}
 use Rattle.ocl_types.specs.Judged.{Judged}
 use Rattle.ocl_types.specs.TypeRules.{IsFirstNamed, variable_judged, exact_judged, operation_judged, class_operation_judged, summed_judged, collection_operation_judged, condition_judged, iterator_judged, property_judged_by, property_judged}
 use Rattle.ocl_types.proofs.TypedParts.{finds_has}
-use Rattle.qvtr_types.specs.declared.usage.Usage.{Usage}
-use Rattle.qvtr_types.specs.declared.usage.Usage.TheVariants as usages_of
-use Rattle.qvtr_types.specs.Usages.{is_of, without, variable_in}
+use Rattle.script_scopes.specs.declared.usage.Usage.{Usage}
+use Rattle.script_scopes.specs.declared.usage.Usage.TheVariants as usages_of
+use Rattle.script_scopes.specs.Usages.{is_of, without, variable_in}
 use Rattle.qvtr_types.specs.TypedUsages.{HasNumber}
 use Rattle.qvtr_types.proofs.NamedVariables.{AreSame, only_in, alone, none_in, beside, out_variable}
 

@@ -38,13 +38,13 @@ use Rattle.ocl_types.specs.HasType.{Judgment, LinkJudgment, CallJudgment, ArgsJu
 use Rattle.ocl_types.proofs.JudgmentLaws.{expr_unrolled, link_unrolled, call_unrolled, args_unrolled}
 use Rattle.ocl_types.proofs.TypedParts.{finds_has}
 use Rattle.ocl_types.proofs.TypeLaws.{both_true}
-use Rattle.qvtr_types.specs.declared.usage.Usage.{Usage}
-use Rattle.qvtr_types.specs.declared.usage.Usage.TheVariants as usages_of
-use Rattle.qvtr_types.specs.Usages.{ExprUsages, CallUsages, ArgsUsages, without, variable_in, named_usages, is_extent, calls_usages, expr_step, infix_step, postfix_step, args_step, expr_usages, infix_usages, postfix_usages, args_usages, usages, variables_in}
-use Rattle.qvtr_types.specs.Usages as usage
+use Rattle.script_scopes.specs.declared.usage.Usage.{Usage}
+use Rattle.script_scopes.specs.declared.usage.Usage.TheVariants as usages_of
+use Rattle.script_scopes.specs.Usages.{ExprUsages, CallUsages, ArgsUsages, without, variable_in, named_usages, is_extent, calls_usages, expr_step, infix_step, postfix_step, args_step, expr_usages, infix_usages, postfix_usages, args_usages, usages, variables_in}
+use Rattle.script_scopes.specs.Usages as usage
 use Rattle.qvtr_types.specs.TypedUsages.{HasNumber, NamesThose}
-use Rattle.qvtr_types.proofs.UsageLemmas.{all_instances_alike}
-use Rattle.qvtr_types.proofs.MemberLemmas.{from_filter_map, to_filter_map}
+use Rattle.script_scopes.proofs.UsageLemmas.{all_instances_alike}
+use Rattle.script_scopes.proofs.MemberLemmas.{from_filter_map, to_filter_map}
 use Rattle.qvtr_types.proofs.NamedVariables.{AreSame, is_variable, only_in, alone, first_or, further, no_names, beside, by_parts}
 use Rattle.qvtr_types.proofs.NamedForms.{variable_named, outside_named, called_parts, CallsMore, property_calls, operation_calls, class_operation_calls, collection_operation_calls, iterator_calls}
 

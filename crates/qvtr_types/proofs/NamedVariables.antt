@@ -1,45 +1,21 @@
 -- The variables in reach that an expression names are those that its typed tree names. By induction on the expression.
-use Rattle.std.proofs.Common.{◌≡◌, ◌<◌, ℕ, zero, suc, ◌+◌, Bool, true, false, ◌&&◌, not, if◌then◌else◌, List, [], ◌∷◌, ◌++◌, Option, None, Some, map, filter, length, refl, sym, ◌∙◌, ap, subst, arith, inl, inr, append_assoc, append-nil, length-append}
-use Rattle.std.specs.Prelude.{◌≢◌, ◌⊎◌, Contains, is_some, slice_get, encode_utf8_all}
-use Rattle.std.specs.List.{flat_map, filter_map}
+use Rattle.std.proofs.Common.{◌≡◌, ◌<◌, ℕ, zero, suc, Bool, true, false, List, [], ◌∷◌, ◌++◌, length, refl, sym, ◌∙◌, ap, subst, arith, inl, inr}
+use Rattle.std.specs.Prelude.{◌≢◌, ◌⊎◌, Contains}
 use Rattle.std.proofs.lemmas.Bool.{false≢true}
-use Rattle.std.proofs.lemmas.Option.{none-some}
-use Rattle.std.proofs.lemmas.Grind.{flat_map-append}
-use Rattle.std.proofs.lemmas.List.{map-append}
 use Rattle.std.proofs.lemmas.List.Elements.{Contains-append_left, Contains-append_right, Contains-append_cases}
-use Rattle.mof_metamodel.specs.declared.desc.MetaDesc.{MetaDesc}
 use Rattle.qv_syntax.specs.declared.ty.Ty.{Ty}
-use Rattle.qv_syntax.specs.declared.ty.Ty.TheVariants as types
-use Rattle.qv_syntax.specs.declared.name.Path.{Path}
-use Rattle.qv_syntax.specs.declared.operator.Operator.{Operator}
-use Rattle.qv_syntax.specs.declared.operation.CollectionOperation.{CollectionOperation}
-use Rattle.qv_syntax.specs.declared.operation.CollectionOperation.TheVariants as collections
-use Rattle.qv_syntax.specs.declared.type_tree.Kind.{Kind}
-use Rattle.qv_syntax.specs.declared.expr.Expr.{Expr, roll-Expr, map-Expr, ind-Expr, fold-roll-Expr}
-use Rattle.qv_syntax.specs.declared.expr.Infix.{Infix, roll-Infix, map-Infix, fold-roll-Infix}
-use Rattle.qv_syntax.specs.declared.expr.Postfix.{Postfix, roll-Postfix, map-Postfix, fold-roll-Postfix}
-use Rattle.qv_syntax.specs.declared.expr.Args.{Args, roll-Args, map-Args, fold-roll-Args}
-use Rattle.qv_syntax.specs.declared.expr.Args.TheOpen as of
 use Rattle.qv_syntax.specs.declared.typed.Typed.{Typed}
-use Rattle.qv_syntax.specs.declared.typed.Node.{Node, out-Node, roll-Node, out-roll-Node}
+use Rattle.qv_syntax.specs.declared.typed.Node.{Node, out-Node, out-roll-Node}
 use Rattle.qv_syntax.specs.declared.typed.Node.TheVariants as nodes
-use Rattle.qv_syntax.specs.declared.typed.Call.{Call, out-Call, roll-Call, out-roll-Call}
-use Rattle.qv_syntax.specs.declared.typed.Call.TheVariants as calls
+use Rattle.qv_syntax.specs.declared.typed.Call.{Call}
 use Rattle.qv_syntax.specs.declared.typed.Call.TheOpen as layers
 use Rattle.qv_syntax.specs.declared.typed.TypedInfix.{TypedInfix}
 use Rattle.qv_syntax.specs.declared.typed.TypedPostfix.{TypedPostfix}
-use Rattle.qv_syntax.specs.Parts.{IsWithin, Names, parts_of, node_parts, call_parts, parts_of_call}
-use Rattle.ocl_types.specs.declared.part.TypedPart.{TypedPart}
-use Rattle.ocl_types.specs.declared.part.CallsSoFar.{CallsSoFar}
-use Rattle.ocl_types.specs.declared.part.Chained.{Chained}
-use Rattle.ocl_types.specs.declared.variable.Variable.{Variable}
-use Rattle.ocl_types.specs.Environments.{Environment, is_bound, with_variable}
-use Rattle.ocl_types.specs.Parts.{tree_of, trees_of, plain_part, and_called, uncalled}
-use Rattle.ocl_types.specs.TypeRules.{IsFirstNamed, variable_judged}
-use Rattle.qvtr_types.specs.declared.usage.Usage.{Usage}
-use Rattle.qvtr_types.specs.declared.usage.Usage.TheVariants as usages_of
-use Rattle.qvtr_types.specs.Usages.{is_of, without, variable_in}
-use Rattle.qvtr_types.specs.TypedUsages.{HasNumber, NamesThose}
+use Rattle.qv_syntax.specs.Parts.{IsWithin, Names, parts_of, node_parts}
+use Rattle.ocl_types.specs.Environments.{Environment}
+use Rattle.script_scopes.specs.declared.usage.Usage.{Usage}
+use Rattle.script_scopes.specs.declared.usage.Usage.TheVariants as usages_of
+use Rattle.qvtr_types.specs.TypedUsages.{HasNumber}
 
 -- ---- lists
 

@@ -9,8 +9,8 @@ use Rattle.qv_syntax.specs.declared.script.ItemTree.{ItemTree, fold-roll-ItemTre
 use Rattle.qv_syntax.specs.declared.script.ItemValueTree.{ItemValueTree, fold-roll-ItemValueTree}
 use Rattle.qv_syntax.specs.declared.script.ItemValueTree.TheOpen as of
 use Rattle.qv_syntax.specs.declared.script.ItemValueTree.TheVariants as values
-use Rattle.qvtr_types.specs.Occurrences.{WrittenProperty, Piece, ValuePieces, ItemPieces, BodyPieces, in_turn, begun, with_variable, value_step, item_step, template_step, template_body, item_pieces, value_pieces, variable_text}
-use Rattle.qvtr_types.specs.Occurrences.Piece.{begins, asks}
+use Rattle.script_scopes.specs.Occurrences.{WrittenProperty, Piece, ValuePieces, ItemPieces, BodyPieces, in_turn, begun, with_variable, value_step, item_step, template_step, template_body, item_pieces, value_pieces, variable_text}
+use Rattle.script_scopes.specs.Occurrences.Piece.{begins, asks}
 
 pub body_is : (tree : TemplateTree) → template_body tree ≡ record { class = (out-TemplateTree tree).class; items = in_turn (map item_pieces (out-TemplateTree tree).items) }
 body_is tree = ap template_body (sym (roll-out-TemplateTree tree)) ∙ fold-roll-TemplateTree ValuePieces ItemPieces BodyPieces value_step item_step template_step (out-TemplateTree tree)

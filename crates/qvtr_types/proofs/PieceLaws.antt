@@ -28,18 +28,18 @@ use Rattle.ocl_types.specs.HasType.{HasType, HasTree, Stands}
 use Rattle.ocl_types.specs.Outcomes.{wrong_type}
 use Rattle.ocl_types.specs.Typing.{typed}
 use Rattle.ocl_types.proofs.LayerLaws.{class_of_class}
-use Rattle.qvtr_types.specs.ScriptNames.{model_names}
-use Rattle.qvtr_types.specs.Conjuncts.{is_null}
-use Rattle.qvtr_types.specs.Occurrences.{WrittenProperty, Piece, property_of}
-use Rattle.qvtr_types.specs.Occurrences.Piece.{begins, asks}
-use Rattle.qvtr_types.specs.Divisions.{model_of, HasPiece}
-use Rattle.qvtr_types.specs.Directions.{IsMisplaced}
-use Rattle.qvtr_types.specs.Environments.{Setting, in_relation}
-use Rattle.qvtr_types.specs.Resolutions.{domain_reach}
+use Rattle.script_scopes.specs.ScriptNames.{model_names}
+use Rattle.script_scopes.specs.Conjuncts.{is_null}
+use Rattle.script_scopes.specs.Occurrences.{WrittenProperty, Piece, property_of}
+use Rattle.script_scopes.specs.Occurrences.Piece.{begins, asks}
+use Rattle.script_scopes.specs.Divisions.{model_of, HasPiece}
+use Rattle.script_scopes.specs.Directions.{IsMisplaced}
+use Rattle.script_scopes.specs.Environments.{Setting, in_relation}
+use Rattle.script_scopes.specs.Resolutions.{domain_reach}
 use Rattle.qvtr_types.specs.Expressions.{HasTyping, StandsInGiven}
-use Rattle.qvtr_types.specs.Faults.{IsProperty, IsExpressionOf, StandsAt, StandsInPlace, StandsInDeclarations, StandsInExpressions}
+use Rattle.script_scopes.specs.Faults.{IsProperty, IsExpressionOf, StandsAt, StandsInPlace, StandsInDeclarations, StandsInExpressions}
 use Rattle.qvtr_types.specs.PlacedFaults.{StandsInItems}
-use Rattle.qvtr_types.specs.ResolvedTemplates.{DomainReach, class_named}
+use Rattle.script_scopes.specs.ResolvedTemplates.{DomainReach, class_named}
 use Rattle.qvtr_types.specs.TemplatePieces.{IsItemProperty, LacksProperty, IsValueOf, StandsInValue, StandsInNested, IsMeant, StandsAtPiece}
 use Rattle.qvtr_types.proofs.InRelationLaws.{typing_expression, same_typing, none_stands}
 

@@ -1,5 +1,5 @@
 -- The calls and the strata of the relations that a script resolves to are those of its own relations.
-use Rattle.std.proofs.Common.{◌≡◌, ℕ, zero, suc, List, [], ◌∷◌, refl, sym, ◌∙◌, ap, subst, arith}
+use Rattle.std.proofs.Common.{◌≡◌, ℕ, List, refl, sym, ◌∙◌, ap, subst, arith}
 use Rattle.std.specs.Prelude.{Option, Some, Contains, position, slice_get}
 use Rattle.std.specs.List.{AllZip}
 use Rattle.std.proofs.lemmas.Option.{same_Some, none-some, slice_get_within, slice_get-get_or}
@@ -18,30 +18,15 @@ use Rattle.qv_syntax.specs.declared.program.Conj.{Conj}
 use Rattle.qv_syntax.specs.declared.program.Conj.TheVariants as conjs
 use Rattle.qv_syntax.specs.Relations as programs
 use Rattle.qv_syntax.specs.Directions as meant
-use Rattle.qvtr_types.specs.Conjuncts.{clause_conjuncts, call_of, equation_of, call_in, equation_in}
-use Rattle.qvtr_types.specs.Divisions.{IsWhenEquation, IsWhereEquation}
-use Rattle.qvtr_types.specs.Occurrences.{relations_of}
-use Rattle.qvtr_types.specs.Declarations.{relation_names, IsRepeated}
-use Rattle.qvtr_types.specs.Directions.{CallsIn, IsPath}
-use Rattle.qvtr_types.specs.Environments.{Setting}
-use Rattle.qvtr_types.specs.Resolutions.{IsData, IsConjunct, AreConjuncts, IsRelation}
-use Rattle.qvtr_types.proofs.CallRowLaws.{within_some, some_among, among_some, named_by, number_by}
-
--- ---- lists item by item
-
-pub zip_left : {A B : Type 0} (R : A → B → Type 0) (xs : List A) (ys : List B) → AllZip R xs ys → (k : ℕ) (x : A) → slice_get xs k ≡ Some x → (y : B) × (slice_get ys k ≡ Some y) × R x y
-zip_left R [] [] all k x found = absurd (none-some x found)
-zip_left R [] (y ∷ ys) all k x found = absurd (none-some x found)
-zip_left R (z ∷ xs) [] all k x found = absurd all
-zip_left R (z ∷ xs) (y ∷ ys) all zero x found = (y, refl, subst (λ w. R w y) (same_Some z x found) all.0)
-zip_left R (z ∷ xs) (y ∷ ys) all (suc k) x found = zip_left R xs ys all.1 k x found
-
-pub zip_right : {A B : Type 0} (R : A → B → Type 0) (xs : List A) (ys : List B) → AllZip R xs ys → (k : ℕ) (y : B) → slice_get ys k ≡ Some y → (x : A) × (slice_get xs k ≡ Some x) × R x y
-zip_right R [] [] all k y found = absurd (none-some y found)
-zip_right R (z ∷ xs) [] all k y found = absurd (none-some y found)
-zip_right R [] (z ∷ ys) all k y found = absurd all
-zip_right R (x ∷ xs) (z ∷ ys) all zero y found = (x, refl, subst (λ w. R x w) (same_Some z y found) all.0)
-zip_right R (x ∷ xs) (z ∷ ys) all (suc k) y found = zip_right R xs ys all.1 k y found
+use Rattle.script_scopes.specs.Conjuncts.{clause_conjuncts, call_of, equation_of, call_in, equation_in}
+use Rattle.script_scopes.specs.Divisions.{IsWhenEquation, IsWhereEquation}
+use Rattle.script_scopes.specs.Occurrences.{relations_of}
+use Rattle.script_scopes.specs.Declarations.{relation_names, IsRepeated}
+use Rattle.script_scopes.specs.Directions.{CallsIn, IsPath}
+use Rattle.script_scopes.specs.Environments.{Setting}
+use Rattle.script_scopes.specs.Resolutions.{IsData, IsConjunct, AreConjuncts, IsRelation}
+use Rattle.script_scopes.proofs.CallRowLaws.{within_some, some_among, among_some, named_by, number_by}
+use Rattle.qvtr_types.proofs.ZipLemmas.{zip_left, zip_right}
 
 -- ---- conjuncts
 
@@ -121,13 +106,13 @@ module _ (s : Setting) (once : (name : List ℕ) → IsRepeated (relation_names 
   path_from : (number count : ℕ) → programs.IsCallPath program number count → (r : RelationTree) → slice_get (relations_of s.script) number ≡ Some r → (last : RelationTree) × IsPath s.script r last count
   path_from _ _ (programs.IsCallPath.end number) r found = (r, IsPath.end r (some_among (relations_of s.script) number r found))
   path_from _ _ (programs.IsCallPath.by_when number rel called count at calls path) r found =
-      let there = zip_left (IsRelation s) (relations_of s.script) program.rels are number r found in
+      let there = zip_right (IsRelation s) (relations_of s.script) program.rels number r are found in
       let same : there.0 ≡ rel = same_Some there.0 rel (sym there.1 ∙ at) in
       let call = when_from r rel (subst (IsRelation s r) same there.2) called calls in
       let rest = path_from called count path call.0 call.1 in
       (rest.0, IsPath.by_when r call.0 rest.0 count (some_among (relations_of s.script) number r found) call.2 rest.1)
   path_from _ _ (programs.IsCallPath.by_where number rel called count at calls path) r found =
-      let there = zip_left (IsRelation s) (relations_of s.script) program.rels are number r found in
+      let there = zip_right (IsRelation s) (relations_of s.script) program.rels number r are found in
       let same : there.0 ≡ rel = same_Some there.0 rel (sym there.1 ∙ at) in
       let call = where_from r rel (subst (IsRelation s r) same there.2) called calls in
       let rest = path_from called count path call.0 call.1 in
@@ -136,18 +121,18 @@ module _ (s : Setting) (once : (name : List ℕ) → IsRepeated (relation_names 
   path_to : (r last : RelationTree) (count : ℕ) → IsPath s.script r last count → (number : ℕ) → slice_get (relations_of s.script) number ≡ Some r → programs.IsCallPath program number count
   path_to _ _ _ (IsPath.end r among) number found = programs.IsCallPath.end number
   path_to _ _ _ (IsPath.by_when r called last count among calls path) number found =
-      let there = zip_left (IsRelation s) (relations_of s.script) program.rels are number r found in
+      let there = zip_right (IsRelation s) (relations_of s.script) program.rels number r are found in
       let next = among_some (relations_of s.script) called calls.1.relation in
       programs.IsCallPath.by_when number there.0 next.0 count there.1 (when_to r there.0 there.2 next.0 called next.1 calls) (path_to called last count path next.0 next.1)
   path_to _ _ _ (IsPath.by_where r called last count among calls path) number found =
-      let there = zip_left (IsRelation s) (relations_of s.script) program.rels are number r found in
+      let there = zip_right (IsRelation s) (relations_of s.script) program.rels number r are found in
       let next = among_some (relations_of s.script) called calls.1.relation in
       programs.IsCallPath.by_where number there.0 next.0 count there.1 (where_to r there.0 there.2 next.0 called next.1 calls) (path_to called last count path next.0 next.1)
 
   -- the stratum that a relation of the program has is its stratum there
   pub program_stratum : (number : ℕ) (rel : Rel) → slice_get program.rels number ≡ Some rel → meant.IsStratum program number rel.stratum
   program_stratum number rel at =
-      let there = zip_right (IsRelation s) (relations_of s.script) program.rels are number rel at in
+      let there = zip_left (IsRelation s) (relations_of s.script) program.rels number rel are at in
       let is = there.2.stratum in
       record {
         reached = path_to there.0 is.reached.0 rel.stratum is.reached.1 number there.1;

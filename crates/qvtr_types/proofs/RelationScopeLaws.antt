@@ -10,9 +10,9 @@ use Rattle.mof_metamodel.specs.Characters.{same_name}
 use Rattle.mof_metamodel.specs.NameTables.{NamesWith, value_of}
 use Rattle.qv_syntax.specs.declared.program.Var.{Var}
 use Rattle.ocl_types.specs.declared.variable.Variable.{Variable}
-use Rattle.qvtr_types.specs.Declarations.{IsRepeated}
-use Rattle.qvtr_types.specs.Environments.{named_variables}
-use Rattle.qvtr_types.proofs.NameLemmas.{has_name}
+use Rattle.script_scopes.specs.Declarations.{IsRepeated}
+use Rattle.script_scopes.specs.Environments.{named_variables}
+use Rattle.script_scopes.proofs.NameLemmas.{has_name}
 
 abbrev variable_of : Var → Variable
 variable_of v = record { ty = v.ty; model = v.model }

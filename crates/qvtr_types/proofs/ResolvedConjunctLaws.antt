@@ -17,21 +17,21 @@ use Rattle.qv_syntax.specs.declared.script.RelationTree.{RelationTree}
 use Rattle.qv_syntax.specs.TypedTrees.{Typing}
 use Rattle.ocl_types.specs.Environments.{Environment}
 use Rattle.ocl_types.specs.HasType.{HasTree}
-use Rattle.qvtr_types.specs.Conjuncts.{clause_conjuncts, call_of}
-use Rattle.qvtr_types.specs.Occurrences.{variables_of}
-use Rattle.qvtr_types.specs.Declarations.{relation_names}
-use Rattle.qvtr_types.specs.Divisions.{IsEquation}
-use Rattle.qvtr_types.specs.Directions.{IsRelationName}
-use Rattle.qvtr_types.specs.Environments.{Setting, in_relation, place_of}
-use Rattle.qvtr_types.specs.CallRows.{number_in}
-use Rattle.qvtr_types.specs.Resolutions.{IsData, IsConjunct, AreConjuncts}
+use Rattle.script_scopes.specs.Conjuncts.{clause_conjuncts, call_of}
+use Rattle.script_scopes.specs.Occurrences.{variables_of}
+use Rattle.script_scopes.specs.Declarations.{relation_names}
+use Rattle.script_scopes.specs.Divisions.{IsEquation}
+use Rattle.script_scopes.specs.Directions.{IsRelationName}
+use Rattle.script_scopes.specs.Environments.{Setting, in_relation, place_of}
+use Rattle.script_scopes.specs.CallRows.{number_in}
+use Rattle.script_scopes.specs.Resolutions.{IsData, IsConjunct, AreConjuncts}
 use Rattle.qvtr_types.specs.Equations.{with_given, given_by, given_after, equation_behind}
 use Rattle.qvtr_types.specs.Expressions.{HaveTypes, AreArguments, HasTyping, IsCondition}
 use Rattle.qvtr_types.specs.declared.resolved_conjuncts.ClauseScope.{ClauseScope}
 use Rattle.qvtr_types.specs.ResolvedConjuncts.{ClauseReach, reach_of, HasRootTypes, called_number, IsResolved, AreResolved}
-use Rattle.qvtr_types.proofs.CallRowLaws.{within_some, some_among}
-use Rattle.qvtr_types.proofs.CallLaws.{relation_named}
-use Rattle.qvtr_types.proofs.BindingLaws.{number_had}
+use Rattle.script_scopes.proofs.CallRowLaws.{within_some, some_among}
+use Rattle.script_scopes.proofs.CallLaws.{relation_named}
+use Rattle.script_variables.proofs.BindingLaws.{number_had}
 use Rattle.qvtr_types.proofs.GivenLaws.{equation_from, equation_to}
 
 -- ---- roots

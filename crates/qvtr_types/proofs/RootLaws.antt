@@ -1,9 +1,8 @@
 -- The roots of the domains of a relation are among its variables: there is one variable for each, and it has one type.
-use Rattle.std.proofs.Common.{◌≡◌, ℕ, zero, suc, ◌+◌, List, [], ◌∷◌, ◌++◌, refl, sym, ap, subst, ◌∙◌, arith, false, true≢false}
+use Rattle.std.proofs.Common.{◌≡◌, ℕ, zero, suc, List, [], ◌∷◌, refl, sym, ap, ◌∙◌, arith, false, true≢false}
 use Rattle.std.specs.Prelude.{Some, slice_get, Contains}
-use Rattle.std.specs.List.{AllZip, AllByRecursion, IsDistinct, flat_map}
+use Rattle.std.specs.List.{AllZip, AllByRecursion, IsDistinct}
 use Rattle.std.proofs.lemmas.Option.{same_Some, none-some, slice_get-get_or}
-use Rattle.std.proofs.lemmas.List.Elements.{Contains-append_left, Contains-append_right}
 use Rattle.std.proofs.lemmas.Map.Keys.{IsDistinct-head, IsDistinct-tail}
 use Rattle.mof_metamodel.specs.Characters.{same_name}
 use Rattle.qv_syntax.specs.declared.script.RelationTree.{RelationTree}
@@ -11,34 +10,19 @@ use Rattle.qv_syntax.specs.declared.script.DomainTree.{DomainTree}
 use Rattle.qv_syntax.specs.declared.program.Var.{Var}
 use Rattle.qv_syntax.specs.TypedTrees.{Typing}
 use Rattle.qv_syntax.specs.ProgramTypes.{typing_of}
-use Rattle.qvtr_types.specs.Occurrences.{template_count, declared_names, domain_variables, domains_variables, clause_variables, occurrences, variables_of, root_of}
-use Rattle.qvtr_types.specs.Environments.{Setting}
-use Rattle.qvtr_types.specs.Resolutions.{IsVariable}
-use Rattle.qvtr_types.specs.Faults.{AreVariables, IsRoot}
+use Rattle.script_scopes.specs.Occurrences.{occurrences, variables_of, root_of}
+use Rattle.script_scopes.specs.Environments.{Setting}
+use Rattle.script_scopes.specs.Resolutions.{IsVariable}
+use Rattle.script_scopes.specs.Faults.{AreVariables, IsRoot}
 use Rattle.qvtr_types.specs.PlacedFaults.{AreRoots}
-use Rattle.qvtr_types.proofs.NameLemmas.{is_same}
-use Rattle.qvtr_types.proofs.OnceLemmas.{new_names-distinct}
-use Rattle.qvtr_types.proofs.MemberLemmas.{once_has}
+use Rattle.script_scopes.proofs.NameLemmas.{is_same}
+use Rattle.script_scopes.proofs.OnceLemmas.{new_names-distinct}
+use Rattle.script_scopes.proofs.CallRowLaws.{among_some}
+use Rattle.qvtr_types.proofs.OccurrenceLaws.{root_occurs}
 use Rattle.qvtr_types.proofs.ZipLemmas.{zip_right}
 
-first_of : (x : List ℕ) (xs : List (List ℕ)) → Contains (x ∷ xs) x
-first_of x xs = (0, omega arith, refl)
-
-root_occurs : (k : ℕ) (ds : List DomainTree) (d : DomainTree) → Contains ds d → Contains (domains_variables k ds) (root_of d)
-root_occurs k [] d (i, l, at) = absurd (omega arith)
-root_occurs k (e ∷ more) d (zero, l, at) = subst (λ (x : DomainTree). Contains (domains_variables k (e ∷ more)) (root_of x)) at
-    (Contains-append_left (domain_variables k e) (domains_variables (k + template_count e) more) (root_of e) (first_of (root_of e) _))
-root_occurs k (e ∷ more) d (suc i, l, at) =
-    Contains-append_right (domain_variables k e) (domains_variables (k + template_count e) more) (root_of d) (root_occurs (k + template_count e) more d (i, omega arith, at))
-
 pub root_among : (r : RelationTree) (d : DomainTree) → Contains r.domains d → Contains (variables_of r) (root_of d)
-root_among r d among =
-    let declared : List (List ℕ) = flat_map declared_names r.vars in
-    let inner : List (List ℕ) = domains_variables 1 r.domains in
-    let x : List ℕ = root_of d in
-    once_has (occurrences r) x
-    (Contains-append_left (declared ++ inner ++ clause_variables r.when) (clause_variables r.wheres) x
-    (Contains-append_left (declared ++ inner) (clause_variables r.when) x (Contains-append_right declared inner x (root_occurs 1 r.domains d among))))
+root_among r d among = let (place, found) = among_some r.domains d among in root_occurs r (root_of d) place d found refl
 
 -- ---- where the relation has variables
 
@@ -71,7 +55,7 @@ all_other y (z ∷ ys) (suc j) x all at = all_other y ys j x all.1 at
 not_there : (y : List ℕ) (ys : List (List ℕ)) (j : ℕ) (x : List ℕ) → AllByRecursion (λ z. same_name y z ≡ false) ys → y ≡ x → slice_get ys j ≡ Some x → ⊥
 not_there y ys j x all same at = true≢false (sym (is_same y x same) ∙ all_other y ys j x all at)
 
-one_place : (xs : List (List ℕ)) (i j : ℕ) (x : List ℕ) → IsDistinct same_name xs → slice_get xs i ≡ Some x → slice_get xs j ≡ Some x → i ≡ j
+pub one_place : (xs : List (List ℕ)) (i j : ℕ) (x : List ℕ) → IsDistinct same_name xs → slice_get xs i ≡ Some x → slice_get xs j ≡ Some x → i ≡ j
 one_place [] i j x apart one other = absurd (none-some x one)
 one_place (y ∷ ys) zero zero x apart one other = refl
 one_place (y ∷ ys) zero (suc j) x apart one other = absurd (not_there y ys j x (IsDistinct-head same_name y ys apart) (same_Some y x one) other)

@@ -13,7 +13,7 @@ use Rattle.ocl_types.specs.QueryCalls.{rows_of, IsCycleFault}
 use Rattle.qv_syntax.specs.QueryCalls.{Reaches, AreAcyclic}
 use Rattle.ocl_types.proofs.CycleLaws.{cycle_reached}
 use Rattle.ocl_types.proofs.JudgedLaws.{ok_err, ok_ok}
-use Rattle.qvtr_types.specs.ScriptQueries.{StandsInQueries}
+use Rattle.script_scopes.specs.ScriptQueries.{StandsInQueries}
 
 pub ok_weaker : {X E : Type 0} (r : Result X E) (P Q : X → Type 0) → ((x : X) → P x → Q x) → IfOk r P → IfOk r Q
 ok_weaker (Ok x) P Q tells is = tells x is

@@ -18,14 +18,14 @@ use Rattle.ocl_types.specs.Environments.{no_meta, meta_at, is_over}
 use Rattle.ocl_types.specs.Navigation.{value_type, values_of}
 use Rattle.ocl_types.specs.Naming.{names_of}
 use Rattle.ocl_types.specs.TypeRules.{HasPropertyNamed}
-use Rattle.ocl_types.specs.TypingSteps.{described, class_property}
+use Rattle.ocl_types.specs.TypingSteps.{described}
 use Rattle.ocl_types.proofs.NumberLaws.{class_property_is}
 use Rattle.ocl_types.proofs.RangeLaws.{true_lt, property_over, over_class}
 use Rattle.ocl_types.proofs.TypeLaws.{and_true}
-use Rattle.qvtr_types.specs.Occurrences.{WrittenProperty}
-use Rattle.qvtr_types.specs.Declarations.{template_class}
+use Rattle.script_scopes.specs.Occurrences.{WrittenProperty}
+use Rattle.script_scopes.specs.Declarations.{template_class}
 use Rattle.qvtr_types.specs.ClassPlaces.{IsClassAt}
-use Rattle.qvtr_types.specs.ResolvedTemplates.{DomainReach, class_named}
+use Rattle.script_scopes.specs.ResolvedTemplates.{DomainReach, class_named}
 use Rattle.qvtr_types.specs.TemplatePieces.{IsItemProperty}
 
 -- ---- classes

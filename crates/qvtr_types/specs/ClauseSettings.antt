@@ -6,15 +6,15 @@ use Rattle.qv_syntax.specs.declared.program.Var.{Var}
 use Rattle.qv_syntax.specs.declared.script.DomainTree.{DomainTree}
 use Rattle.qv_syntax.specs.declared.script.RelationTree.{RelationTree}
 use Rattle.qvtr_types.specs.declared.resolved_conjuncts.ClauseScope.{ClauseScope}
-use Rattle.qvtr_types.specs.ScriptNames.{each_once}
-use Rattle.qvtr_types.specs.Occurrences.{relations_of, variables_of}
-use Rattle.qvtr_types.specs.UniversalNames.{universal_names}
-use Rattle.qvtr_types.specs.Environments.{Setting, in_relation}
-use Rattle.qvtr_types.specs.Declarations.{relation_names, IsRepeated}
-use Rattle.qvtr_types.specs.Faults.{AreVariables, IsRoot}
+use Rattle.script_scopes.specs.ScriptNames.{each_once}
+use Rattle.script_scopes.specs.Occurrences.{relations_of, variables_of}
+use Rattle.script_scopes.specs.UniversalNames.{universal_names}
+use Rattle.script_scopes.specs.Environments.{Setting, in_relation}
+use Rattle.script_scopes.specs.Declarations.{relation_names, IsRepeated}
+use Rattle.script_scopes.specs.Faults.{AreVariables, IsRoot}
 use Rattle.qvtr_types.specs.Expressions.{HaveTypes}
 use Rattle.qvtr_types.specs.PlacedFaults.{AreRoots}
-use Rattle.qvtr_types.specs.SettledRelations.{HaveOneType}
+use Rattle.script_variables.specs.SettledRelations.{HaveOneType}
 
 -- the variables, as the code has them
 abbrev pub vars_of : ClauseScope → List Var

@@ -7,10 +7,10 @@ use Rattle.mof_metamodel.specs.Characters.{same_name}
 use Rattle.qv_syntax.specs.declared.expr.Expr.{Expr}
 use Rattle.qv_syntax.specs.declared.program.Var.{Var}
 use Rattle.qvtr_types.specs.declared.equations.Variables.{Variables}
-use Rattle.qvtr_types.specs.Usages.{variables_in}
-use Rattle.qvtr_types.specs.Conjuncts.{equation_of}
-use Rattle.qvtr_types.specs.UniversalNames.{is_among}
-use Rattle.qvtr_types.specs.Variables.{is_class}
+use Rattle.script_scopes.specs.Usages.{variables_in}
+use Rattle.script_scopes.specs.Conjuncts.{equation_of}
+use Rattle.script_scopes.specs.UniversalNames.{is_among}
+use Rattle.script_variables.specs.Variables.{is_class}
 
 -- ---- what a conjunct gives
 

@@ -9,8 +9,8 @@ use Rattle.ocl_types.specs.declared.fault.TypeFault.{TypeFault}
 use Rattle.ocl_types.specs.declared.fault.TypeFault.TheVariants.{UnknownName, KeyShape}
 use Rattle.ocl_types.specs.Environments.{Environment}
 use Rattle.ocl_types.specs.Naming.{path_text, texts_of}
-use Rattle.qvtr_types.specs.Declarations.{key_property}
-use Rattle.qvtr_types.specs.Keys.{IsKey, IsShaped, StandsInKey}
+use Rattle.script_scopes.specs.Declarations.{key_property}
+use Rattle.script_scopes.specs.Keys.{IsKey, IsShaped, StandsInKey}
 
 -- the fault has one of the names, of which the class has no property
 pub record IsLacking (env : Environment) (class : ℕ × ClassId) (names : List Name) (fault : TypeFault) : Type 0 where

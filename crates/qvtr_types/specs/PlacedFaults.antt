@@ -1,6 +1,6 @@
 -- The faults of the expressions of a relation by where they stand: in items of its templates, or in conjuncts of its clauses (QVT 1.3, sections
 -- 7.11.1.4 and 7.11.2).
-use Rattle.std.specs.Prelude.{◌≡◌, ◌⊎◌, ℕ, List, Option, None, Some, false, Contains}
+use Rattle.std.specs.Prelude.{◌≡◌, ◌⊎◌, ℕ, List, Option, None, Some, false, Contains, slice_get}
 use Rattle.std.specs.List.{AllZip}
 use Rattle.mof_metamodel.specs.declared.desc.ClassId.{ClassId}
 use Rattle.mof_metamodel.specs.Metamodels.{prop_number}
@@ -20,16 +20,16 @@ use Rattle.ocl_types.specs.declared.fault.TypeFault.TheVariants.{UnknownName, Wr
 use Rattle.ocl_types.specs.Environments.{meta_at}
 use Rattle.ocl_types.specs.HasType.{Stands}
 use Rattle.ocl_types.specs.Naming.{names_of, type_text}
-use Rattle.qvtr_types.specs.Conjuncts.{clause_conjuncts, call_of, is_null}
-use Rattle.qvtr_types.specs.Occurrences.{WrittenProperty, Piece}
-use Rattle.qvtr_types.specs.Occurrences.Piece.{begins, asks}
-use Rattle.qvtr_types.specs.Divisions.{HasPiece}
-use Rattle.qvtr_types.specs.ObjectModels.{CallsWith}
-use Rattle.qvtr_types.specs.Directions.{IsRelationName}
-use Rattle.qvtr_types.specs.Environments.{Setting, in_relation, metamodel_names}
-use Rattle.qvtr_types.specs.Declarations.{template_class, meta_of}
-use Rattle.qvtr_types.specs.Resolutions.{model_number}
-use Rattle.qvtr_types.specs.Faults.{IsExpression, IsProperty, IsRoot, StandsAt, StandsInPlace}
+use Rattle.script_scopes.specs.Conjuncts.{clause_conjuncts, name_alone, call_of, is_null}
+use Rattle.script_scopes.specs.Occurrences.{WrittenProperty, Piece, variables_of}
+use Rattle.script_scopes.specs.Occurrences.Piece.{begins, asks}
+use Rattle.script_scopes.specs.Divisions.{HasPiece}
+use Rattle.script_scopes.specs.ObjectModels.{CallsWith}
+use Rattle.script_scopes.specs.Directions.{IsRelationName}
+use Rattle.script_scopes.specs.Environments.{Setting, in_relation, metamodel_names}
+use Rattle.script_scopes.specs.Declarations.{template_class, meta_of}
+use Rattle.script_scopes.specs.Resolutions.{model_number}
+use Rattle.script_scopes.specs.Faults.{IsExpression, IsProperty, IsRoot, StandsAt, StandsInPlace}
 use Rattle.qvtr_types.specs.Expressions.{StandsInCondition, StandsInArguments}
 
 -- ---- clauses
@@ -51,6 +51,12 @@ pub data StandsInClauses (s : Setting) (r : RelationTree) (vars : List Var) (f :
       → StandsInCondition (in_relation s r vars) e f → StandsInClauses s r vars f
   call : (clause : Option BlockTree) (called : RelationTree) (args : List Expr) (roots : List Var) → IsClauseOf r clause → CallsWith s.script clause called args
       → AreRoots s called roots → StandsInArguments (in_relation s r vars) called.name.text roots args f → StandsInClauses s r vars f
+
+-- where a variable stands alone as an argument, its type is that of the root in whose place it stands, or a related class
+abbrev pub AreAloneRelated : Setting → RelationTree → List Var → Type 0
+AreAloneRelated s r vars = (clause : Option BlockTree) (called : RelationTree) (args : List Expr) (place : ℕ) (e : Expr) (domain : DomainTree) (number : ℕ) (v : List ℕ) (var : Var) (wanted : Typing)
+    → IsClauseOf r clause → CallsWith s.script clause called args → slice_get args place ≡ Some e → slice_get called.domains place ≡ Some domain
+    → name_alone e ≡ Some v → slice_get (variables_of r) number ≡ Some v → slice_get vars number ≡ Some var → IsRoot s called domain wanted → AreRelated s.metas var.ty wanted.ty
 
 -- ---- items
 

@@ -4,13 +4,13 @@ use Rattle.qv_syntax.specs.declared.program.Var.{Var}
 use Rattle.qv_syntax.specs.declared.script.RelationTree.{RelationTree}
 use Rattle.ocl_types.specs.declared.fault.TypeFault.{TypeFault}
 use Rattle.qvtr_types.specs.declared.domains.RelationScope.{RelationScope}
-use Rattle.qvtr_types.specs.Occurrences.{relations_of, variables_of}
-use Rattle.qvtr_types.specs.Directions.{IsMisplaced}
-use Rattle.qvtr_types.specs.Environments.{Setting, in_relation, slots_of, metamodel_names}
-use Rattle.qvtr_types.specs.Refusals.{AreInOrder}
-use Rattle.qvtr_types.specs.Faults.{StandsInDeclarations, AreVariables}
-use Rattle.qvtr_types.specs.FirstEntries.{first_entries}
-use Rattle.qvtr_types.specs.VariableTypes.{metamodel_numbers}
+use Rattle.script_scopes.specs.Occurrences.{relations_of, variables_of}
+use Rattle.script_scopes.specs.Directions.{IsMisplaced}
+use Rattle.script_scopes.specs.Environments.{Setting, in_relation, slots_of, metamodel_names}
+use Rattle.script_scopes.specs.Refusals.{AreInOrder}
+use Rattle.script_scopes.specs.Faults.{StandsInDeclarations, AreVariables}
+use Rattle.script_scopes.specs.FirstEntries.{first_entries}
+use Rattle.script_scopes.specs.VariableTypes.{metamodel_numbers}
 
 -- the relation is one of the setting's script, in which no fault stands in declarations or by calls in wrong places, these are its
 -- variables, and what is in reach is that of the setting

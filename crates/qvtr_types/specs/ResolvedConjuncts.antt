@@ -10,9 +10,9 @@ use Rattle.ocl_types.specs.declared.fault.TypeFault.{TypeFault}
 use Rattle.ocl_types.specs.Environments.{Environment}
 use Rattle.ocl_types.specs.HasType.{HasTree}
 use Rattle.qvtr_types.specs.declared.resolved_conjuncts.ClauseScope.{ClauseScope}
-use Rattle.qvtr_types.specs.Conjuncts.{call_of}
-use Rattle.qvtr_types.specs.Environments.{place_of}
-use Rattle.qvtr_types.specs.CallRows.{number_in}
+use Rattle.script_scopes.specs.Conjuncts.{call_of}
+use Rattle.script_scopes.specs.Environments.{place_of}
+use Rattle.script_scopes.specs.CallRows.{number_in}
 use Rattle.qvtr_types.specs.Equations.{with_given, given_by, equation_behind}
 use Rattle.qvtr_types.specs.Expressions.{HaveTypes, IsCondition, StandsInCondition, AreArguments, StandsInArguments}
 

@@ -11,12 +11,12 @@ use Rattle.qv_syntax.specs.declared.program.Tmpl.{Tmpl}
 use Rattle.ocl_types.specs.declared.fault.TypeFault.{TypeFault}
 use Rattle.ocl_types.specs.Environments.{Environment}
 use Rattle.qvtr_types.specs.declared.domains.RelationScope.{RelationScope}
-use Rattle.qvtr_types.specs.Occurrences.{Piece, template_count}
-use Rattle.qvtr_types.specs.Divisions.{model_of}
-use Rattle.qvtr_types.specs.Environments.{place_of}
-use Rattle.qvtr_types.specs.ResolvedTemplates.{DomainReach, IsTemplate}
+use Rattle.script_scopes.specs.Occurrences.{Piece, template_count}
+use Rattle.script_scopes.specs.Divisions.{model_of}
+use Rattle.script_scopes.specs.Environments.{place_of}
+use Rattle.script_scopes.specs.ResolvedTemplates.{DomainReach, IsTemplate}
 use Rattle.qvtr_types.specs.TemplatePieces.{IsMeant, StandsAtPiece}
-use Rattle.qvtr_types.specs.Resolutions.{marker_of}
+use Rattle.script_scopes.specs.Resolutions.{marker_of}
 
 -- what is in reach in a relation: what expressions may name, the names of its variables, and the models, each with the number of its metamodel
 pub record RelationReach : Type 0 where

@@ -1,5 +1,5 @@
 -- When a piece of a template is as its place asks, and which faults stand at it (QVT 1.3, sections 7.11.2.2 and 7.11.2.3).
-use Rattle.std.specs.Prelude.{◌≡◌, ℕ, true, false, List, Option, None, Some, Contains}
+use Rattle.std.specs.Prelude.{◌≡◌, ℕ, true, false, List, None, Some, Contains}
 use Rattle.mof_metamodel.specs.declared.desc.ClassId.{ClassId}
 use Rattle.mof_metamodel.specs.declared.desc.PropId.{PropId}
 use Rattle.mof_metamodel.specs.Metamodels.{prop_number}
@@ -20,11 +20,11 @@ use Rattle.ocl_types.specs.Environments.{meta_at}
 use Rattle.ocl_types.specs.HasType.{HasTree, Stands}
 use Rattle.ocl_types.specs.Naming.{path_text}
 use Rattle.ocl_types.specs.Outcomes.{wrong_type}
-use Rattle.qvtr_types.specs.Conjuncts.{is_null}
-use Rattle.qvtr_types.specs.Occurrences.{WrittenProperty, Piece, property_of}
-use Rattle.qvtr_types.specs.Occurrences.Piece.{begins, asks}
+use Rattle.script_scopes.specs.Conjuncts.{is_null}
+use Rattle.script_scopes.specs.Occurrences.{WrittenProperty, Piece, property_of}
+use Rattle.script_scopes.specs.Occurrences.Piece.{begins, asks}
 use Rattle.qvtr_types.specs.Expressions.{HasTyping, IsGiven, StandsInGiven}
-use Rattle.qvtr_types.specs.ResolvedTemplates.{DomainReach, class_named}
+use Rattle.script_scopes.specs.ResolvedTemplates.{DomainReach, class_named}
 
 module _ (reach : DomainReach) where
   -- a property of a template's class: its number, and the type of its values

@@ -2,9 +2,9 @@
 use Rattle.std.specs.Prelude.{◌≡◌, List, Contains}
 use Rattle.qv_syntax.specs.declared.script.RelationTree.{RelationTree}
 use Rattle.qv_syntax.specs.declared.program.Var.{Var}
-use Rattle.qvtr_types.specs.Occurrences.{relations_of}
-use Rattle.qvtr_types.specs.Environments.{Setting}
-use Rattle.qvtr_types.specs.Faults.{AreVariables}
+use Rattle.script_scopes.specs.Occurrences.{relations_of}
+use Rattle.script_scopes.specs.Environments.{Setting}
+use Rattle.script_scopes.specs.Faults.{AreVariables}
 
 -- with their types and models, as they are where no fault stands in declarations
 abbrev pub HaveOneList : Setting → Type 0

@@ -2,10 +2,10 @@
 ghost use Rattle.std.specs.Prelude.{◌≡◌, IfOk, OnOk};
 ghost use Rattle.ocl_types.specs.declared.fault.TypeFault.{TypeFault as Fault};
 ghost use Rattle.ocl_types.specs.Written.{IfFault};
-ghost use Rattle.qvtr_types.specs.Conjuncts.{clause_conjuncts};
-ghost use Rattle.qvtr_types.specs.Divisions.{IsWhenEquation, IsWhereEquation};
-ghost use Rattle.qvtr_types.specs.Environments.{Setting};
-ghost use Rattle.qvtr_types.specs.Resolutions.{IsData, AreConjuncts};
+ghost use Rattle.script_scopes.specs.Conjuncts.{clause_conjuncts};
+ghost use Rattle.script_scopes.specs.Divisions.{IsWhenEquation, IsWhereEquation};
+ghost use Rattle.script_scopes.specs.Environments.{Setting};
+ghost use Rattle.script_scopes.specs.Resolutions.{IsData, AreConjuncts};
 ghost use Rattle.qvtr_types.specs.PlacedFaults.{StandsInClauses};
 ghost use Rattle.qvtr_types.specs.ClauseSettings.{vars_of, IsClauseScopeOf};
 

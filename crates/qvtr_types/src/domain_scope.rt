@@ -4,18 +4,15 @@ ghost use Rattle.mof_metamodel.specs.Metamodels.{prop_number, type_of};
 ghost use Rattle.ocl_types.specs.Environments.{meta_at};
 ghost use Rattle.ocl_types.specs.Navigation.{value_type};
 ghost use Rattle.qvtr_types.specs.ClassPlaces.{IsClassAt};
-ghost use Rattle.qvtr_types.specs.Environments.{place_of as place};
-ghost use Rattle.qvtr_types.specs.Occurrences.{variable_text as text_of_variable};
-ghost use Rattle.qvtr_types.specs.ResolvedTemplates.{class_named as class_of_path};
+ghost use Rattle.script_scopes.specs.Environments.{place_of as place};
+ghost use Rattle.script_scopes.specs.Occurrences.{variable_text as text_of_variable};
+ghost use Rattle.script_scopes.specs.ResolvedTemplates.{class_named as class_of_path};
 
-use crate::occurrences::variable_text;
-use crate::pieces::variable_of;
 use crate::properties::typed_prop;
-use crate::script_names::place_of;
-use crate::template_classes::template_class;
 use mof_metamodel::{ClassId, NameTable, NoMemory, PropId, Text};
 use ocl_types::Env;
 use qv_syntax::{Name, Path, Ty};
+use script_scopes::{place_of, template_class, variable_of, variable_text};
 use std::alloc::Global;
 use std::marker::Model;
 
@@ -34,7 +31,7 @@ impl<'a> Model for DomainScope<'a> {
     ghost use Rattle.std.specs.Prelude.{◌≡◌, map};
     ghost use Rattle.std.specs.Coded.{codes};
     ghost use Rattle.qv_syntax.specs.contracts.ty.Ty as ty;
-    ghost use Rattle.qvtr_types.specs.ResolvedTemplates.{DomainReach};
+    ghost use Rattle.script_scopes.specs.ResolvedTemplates.{DomainReach};
 
     ghost Value = { DomainReach };
 

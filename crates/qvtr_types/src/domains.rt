@@ -4,30 +4,30 @@ ghost use Rattle.mof_metamodel.specs.NameTables.{value_of};
 ghost use Rattle.ocl_types.specs.declared.fault.TypeFault.{TypeFault as Fault};
 ghost use Rattle.ocl_types.specs.Written.{IfFault};
 ghost use Rattle.qv_syntax.specs.declared.name.Name.{Name as NameTree};
-ghost use Rattle.qvtr_types.specs.Environments.{place_of as place};
-ghost use Rattle.qvtr_types.specs.Occurrences.{template_body, template_count, begun};
-ghost use Rattle.qvtr_types.specs.ResolvedTemplates.{IsTemplate};
+ghost use Rattle.script_scopes.specs.Environments.{place_of as place};
+ghost use Rattle.script_scopes.specs.Occurrences.{template_body, template_count, begun};
+ghost use Rattle.script_scopes.specs.ResolvedTemplates.{IsTemplate};
 ghost use Rattle.qvtr_types.specs.TemplatePieces.{IsMeant, IsPieceFault};
-ghost use Rattle.qvtr_types.specs.LocatedPieces.{located_in, located_from};
-ghost use Rattle.qvtr_types.specs.Resolutions.{marker_of as marker, AreDomains};
-ghost use Rattle.qvtr_types.specs.Environments.{Setting};
-ghost use Rattle.qvtr_types.specs.Faults.{StandsInExpressions};
+ghost use Rattle.script_scopes.specs.LocatedPieces.{located_in, located_from};
+ghost use Rattle.script_scopes.specs.Resolutions.{marker_of as marker, AreDomains};
+ghost use Rattle.script_scopes.specs.Environments.{Setting};
+ghost use Rattle.script_scopes.specs.Faults.{StandsInExpressions};
 ghost use Rattle.qvtr_types.specs.PlacedFaults.{StandsInItems};
 ghost use Rattle.qvtr_types.specs.RelationSettings.{IsReachOf};
 ghost use Rattle.qvtr_types.specs.ResolvedDomains.{shown_scope, domain_in, HasKnownModel, IsDomainIn, AreDomainsFrom, IsMeantIn, IsLocatedFault};
 
 use crate::domain_scope::DomainScope;
 use crate::items::template_class_of;
-use crate::script_names::place_of;
-use crate::template_classes::ModelNames;
 use crate::templates::resolve_template;
 use mof_metamodel::{NameTable, NoMemory, Seq, Text};
 use ocl_types::{Env, TypeError, one_type_is_had, typing_is_told};
 use qv_syntax::{Dom, DomainMark, DomainTree, Marker, RelationTree, TemplateTree, Tmpl};
+use script_scopes::{ModelNames, place_of};
 use std::alloc::Global;
 
 /// What is in reach in a relation (QVT 1.3, section 7.11.1.4): what its expressions may name, the models and metamodels of the script,
 /// and its variables by their numbers.
+#[derive(Clone, Copy)]
 pub struct RelationScope<'a> {
     pub env: &'a Env<'a>,
     pub names: &'a ModelNames,

@@ -3,17 +3,12 @@ ghost use Rattle.std.specs.Prelude.{◌≡◌, ◌&&◌, not, Some, map, IfOk, O
 ghost use Rattle.std.specs.Option.{option_map};
 ghost use Rattle.std.specs.Set.{is_member};
 ghost use Rattle.mof_metamodel.specs.Characters.{same_name};
-ghost use Rattle.qvtr_types.specs.Usages.{variables_in};
+ghost use Rattle.script_scopes.specs.Usages.{variables_in};
 ghost use Rattle.qvtr_types.specs.Equations.{unless_named as unnamed, given_by as given, with_given, taken, first_given as first, equation_behind as behind, is_data_named as data_named, equation_test};
 
-use crate::conjuncts::equation_of;
-use crate::distinct::add_new;
-use crate::divisions::is_sought;
-use crate::names::is_given;
-use crate::object_models::is_class;
-use crate::occurrences::add_variables;
 use mof_metamodel::{NameTable, NoMemory, Seq, Text};
 use qv_syntax::{Expr, Var};
+use script_scopes::{add_new, add_variables, equation_of, is_class, is_given, is_sought};
 use std::alloc::Global;
 
 /// The variables of a relation: their numbers by their names, themselves by their numbers, and the names of the universal ones.

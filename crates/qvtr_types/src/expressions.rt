@@ -3,7 +3,7 @@ ghost use Rattle.qv_syntax.specs.declared.ty.Ty.TheVariants as types;
 ghost use Rattle.qv_syntax.specs.declared.typed.Typed.{Typed as Tree};
 ghost use Rattle.qv_syntax.specs.Types.{AreRelated};
 ghost use Rattle.ocl_types.specs.HasType.{HasTree};
-ghost use Rattle.qvtr_types.specs.Conjuncts.{equation_of};
+ghost use Rattle.script_scopes.specs.Conjuncts.{equation_of};
 ghost use Rattle.ocl_types.specs.declared.fault.TypeFault.TheVariants.{WrongCount, ModelMix};
 ghost use Rattle.ocl_types.specs.Environments.{AreWell, is_over};
 ghost use Rattle.ocl_types.specs.Outcomes.{wrong_type as wrong};

@@ -1,17 +1,16 @@
 ghost use Rattle.std.specs.Prelude.{◌≡◌, Some, IsTrue, IfOk, OnOk};
 ghost use Rattle.ocl_types.specs.Environments.{is_over};
 ghost use Rattle.ocl_types.specs.Written.{IfFault};
-ghost use Rattle.qvtr_types.specs.BorrowedPieces.{shown_property};
-ghost use Rattle.qvtr_types.specs.ResolvedTemplates.{class_named as class_of_path};
+ghost use Rattle.script_scopes.specs.BorrowedPieces.{shown_property};
+ghost use Rattle.script_scopes.specs.ResolvedTemplates.{class_named as class_of_path};
 ghost use Rattle.qvtr_types.specs.TemplatePieces.{IsItemProperty, LacksProperty, IsUnknownClass, IsValueOf, HasValue, StandsInValue, IsNested, StandsInNested};
 
-use crate::conjuncts::is_null;
 use crate::domain_scope::DomainScope;
 use crate::expressions::{WantedValue, refuse_unrelated, type_given};
-use crate::piece::BorrowedProperty;
 use mof_metamodel::{ClassId, PropId, Text};
 use ocl_types::{TypeError, TypeFault, path_text, type_whole};
 use qv_syntax::{Expr, ItemValue, Path, Ty};
+use script_scopes::{BorrowedProperty, is_null};
 use std::alloc::Global;
 
 /// The property of an item, of a template of this class, and the type of its values.

@@ -7,18 +7,17 @@ ghost use Rattle.ocl_types.specs.declared.fault.TypeFault.TheVariants.{UnknownNa
 ghost use Rattle.ocl_types.specs.Environments.{Environment};
 ghost use Rattle.ocl_types.specs.Naming.{texts_of};
 ghost use Rattle.ocl_types.specs.Written.{IfFault};
-ghost use Rattle.qvtr_types.specs.Declarations.{key_class as class_of_key, key_property as property_number, keys_of as keys_in_script};
-ghost use Rattle.qvtr_types.specs.Keys.{IsKey, IsShaped, StandsInKey, AreKeys, StandsInKeys};
+ghost use Rattle.script_scopes.specs.Declarations.{key_class as class_of_key, key_property as property_number, keys_of as keys_in_script};
+ghost use Rattle.script_scopes.specs.Keys.{IsKey, IsShaped, StandsInKey, AreKeys, StandsInKeys};
 ghost use Rattle.qvtr_types.specs.ClassPlaces.{IsClassAt};
 ghost use Rattle.qvtr_types.specs.KeySearches.{IsLacking, IsSecond, IsSecondFault, AreEachKeys, StandsInOneKey};
 
-use crate::declared::keys_of;
 use crate::met_classes::MetClasses;
 use crate::properties::prop_named;
-use crate::repeats::first_repeat;
 use mof_metamodel::{ClassId, NoMemory, PropId, Seq, Text};
 use ocl_types::{Env, TypeError, TypeFault, path_text};
 use qv_syntax::{Key, KeyTree, Name, Script};
+use script_scopes::{first_repeat, keys_of};
 use std::alloc::Global;
 
 /// The class of a key, with the number of its metamodel.

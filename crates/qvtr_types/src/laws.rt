@@ -6,17 +6,17 @@ ghost use Rattle.qv_syntax.specs.TypedTrees.{Typing};
 ghost use Rattle.ocl_types.specs.declared.fault.TypeFault.{TypeFault};
 ghost use Rattle.ocl_types.specs.HasType.{HasTree};
 ghost use Rattle.qv_syntax.specs.declared.script.RelationTree.{RelationTree};
-ghost use Rattle.qvtr_types.specs.Directions.{IsMisplaced};
-ghost use Rattle.qvtr_types.specs.Environments.{Setting, in_relation};
-ghost use Rattle.qvtr_types.specs.Faults.{StandsInExpressions};
-ghost use Rattle.qvtr_types.specs.PlacedFaults.{StandsInClauses, StandsInItems};
+ghost use Rattle.script_scopes.specs.Directions.{IsMisplaced};
+ghost use Rattle.script_scopes.specs.Environments.{Setting, in_relation};
+ghost use Rattle.script_scopes.specs.Faults.{StandsInExpressions};
+ghost use Rattle.qvtr_types.specs.PlacedFaults.{AreAloneRelated, StandsInClauses, StandsInItems};
 ghost use Rattle.qvtr_types.specs.VariableLists.{HaveOneList};
 ghost use Rattle.qvtr_types.specs.Expressions.{IsCondition, StandsInCondition, IsGiven, StandsInGiven, AreArguments, StandsInArguments};
-ghost use Rattle.qvtr_types.specs.Usages.{variables_in};
+ghost use Rattle.script_scopes.specs.Usages.{variables_in};
 ghost use Rattle.qvtr_types.specs.TypedUsages.{NamesThose};
 ghost use Rattle.qv_syntax.specs.declared.script.ModelTree.{ModelTree};
-ghost use Rattle.qvtr_types.specs.declared.name_fault.NameFault.{NameFault};
-ghost use Rattle.qvtr_types.specs.ScriptNames.{AreNamesOf, IsNameFault};
+ghost use Rattle.script_scopes.specs.declared.name_fault.NameFault.{NameFault};
+ghost use Rattle.script_scopes.specs.ScriptNames.{AreNamesOf, IsNameFault};
 
 use ocl_types::{Env, one_type_is_had, trees_are_typed, typing_is_told};
 
@@ -45,12 +45,12 @@ pub fn places_are_told(env: &Env<'_>)
 }
 
 /// A fault that stands in a conjunct of a relation stands among those of its expressions, where no relation's name is called in a wrong place.
-/// Where none stands in conjuncts or in items, none stands in expressions, if each relation has one list of variables (QVT 1.3, section
-/// 7.11.1.4).
+/// Where none stands in conjuncts or in items, none stands in expressions, if each relation has one list of variables, and variables that
+/// stand alone as arguments are related to the roots in whose places they stand (QVT 1.3, section 7.11.1.4).
 pub fn expression_faults_are_told(env: &Env<'_>)
     ensures stands { (s : Setting) (r : RelationTree) (vars : List Var) → ((name : List ℕ) → ¬ IsMisplaced s.script r name) → (f : TypeFault) → StandsInClauses s r vars f → StandsInExpressions s r vars f }
     ensures none { (s : Setting) (r : RelationTree) (vars : List Var) → in_relation s r vars ≡ env.now → HaveOneList s → ((f : TypeFault) → ¬ StandsInClauses s r vars f)
-        → ((f : TypeFault) → ¬ StandsInItems s r vars f) → (f : TypeFault) → ¬ StandsInExpressions s r vars f }
+        → ((f : TypeFault) → ¬ StandsInItems s r vars f) → AreAloneRelated s r vars → (f : TypeFault) → ¬ StandsInExpressions s r vars f }
 {
     trees_are_typed(env);
 }

@@ -1,7 +1,7 @@
 ghost use Rattle.std.specs.Prelude.{◌≡◌, [], ℕ, List, All, length, map, IsTrue, OnOk, OnErr, IfOk, false};
 ghost use Rattle.ocl_types.specs.Environments.{is_bound as bound, is_variable, with_variable, without_variables};
-ghost use Rattle.qvtr_types.specs.Declarations.{IsRepeated};
-ghost use Rattle.qvtr_types.specs.Environments.{named_variables};
+ghost use Rattle.script_scopes.specs.Declarations.{IsRepeated};
+ghost use Rattle.script_scopes.specs.Environments.{named_variables};
 
 use mof_metamodel::{NoMemory, Text};
 use ocl_types::Env;

@@ -2,17 +2,16 @@
 ghost use Rattle.std.specs.Prelude.{◌≡◌, ◌<◌, [], map, length, Some, None, IfOk, OnOk};
 ghost use Rattle.std.specs.Option.{option_map};
 ghost use Rattle.ocl_types.specs.Written.{IfFault};
-ghost use Rattle.qvtr_types.specs.Conjuncts.{call_of as called, equation_of, clause_conjuncts as all_conjuncts};
+ghost use Rattle.script_scopes.specs.Conjuncts.{call_of as called, equation_of, clause_conjuncts as all_conjuncts};
 ghost use Rattle.qvtr_types.specs.Equations.{equation_test, with_given, given_by as given, equation_behind, IsSaid};
 ghost use Rattle.qvtr_types.specs.ResolvedConjuncts.{reach_of, called_number, HasRootTypes, IsCallWith, StandsInCallWith, IsResolved, StandsInConjunct, AreResolved, StandsInOne};
 
-use crate::conjuncts::{call_of, clause_conjuncts};
 use crate::equations::{Variables, next_equation};
 use crate::expressions::{type_arguments, type_condition, type_equation};
-use crate::script_names::{numbered, place_of};
 use mof_metamodel::{NameTable, Seq, Text};
 use ocl_types::{Env, TypeError};
 use qv_syntax::{BlockTree, Conj, Expr, Var};
+use script_scopes::{call_of, clause_conjuncts, numbered, place_of};
 use std::alloc::Global;
 
 /// What a clause of a relation is resolved over: what its expressions may name, the variables of the relation, the relations of the script

@@ -7,15 +7,15 @@ ghost use Rattle.ocl_types.specs.Queries.{AreQueries};
 ghost use Rattle.ocl_types.specs.QueryTyping.{signed};
 ghost use Rattle.ocl_types.specs.TypedContext.{IsTypedQuery};
 ghost use Rattle.ocl_types.specs.Written.{IfFault};
-ghost use Rattle.qvtr_types.specs.Declarations.{queries_of as queries_in_script};
-ghost use Rattle.qvtr_types.specs.ScriptQueries.{StandsInQueries};
+ghost use Rattle.script_scopes.specs.Declarations.{queries_of as queries_in_script};
+ghost use Rattle.script_scopes.specs.ScriptQueries.{StandsInQueries};
 
-use crate::declared::queries_of;
 use mof_metamodel::Seq;
 use ocl_types::{
     Env, TypeError, calls_are_told, queries_are_typed, query_typing_is_told, type_queries,
 };
 use qv_syntax::{Query, QueryTree, Script};
+use script_scopes::queries_of;
 use std::alloc::Global;
 
 /// Queries, typed and brought into reach, where none is so far.

@@ -2,18 +2,17 @@ ghost use Rattle.std.specs.Prelude.{◌≡◌, ◌+◌, map, All, Option, Some, 
 ghost use Rattle.qv_syntax.specs.declared.script.TemplateTree.{out-TemplateTree};
 ghost use Rattle.ocl_types.specs.Written.{IfFault};
 ghost use Rattle.qv_syntax.specs.declared.name.Name.{Name as NameTree};
-ghost use Rattle.qvtr_types.specs.Environments.{place_of as place};
-ghost use Rattle.qvtr_types.specs.Occurrences.{variable_text as text_of_variable, in_turn, template_body, item_pieces};
-ghost use Rattle.qvtr_types.specs.ResolvedTemplates.{class_named as class_of_path, IsTemplate, AreItems, IsItem};
+ghost use Rattle.script_scopes.specs.Environments.{place_of as place};
+ghost use Rattle.script_scopes.specs.Occurrences.{variable_text as text_of_variable, in_turn, template_body, item_pieces};
+ghost use Rattle.script_scopes.specs.ResolvedTemplates.{class_named as class_of_path, IsTemplate, AreItems, IsItem};
 ghost use Rattle.qvtr_types.specs.TemplatePieces.{IsMeant, IsPieceFault};
 
 use crate::domain_scope::DomainScope;
 use crate::items::{item_property, item_value, nested_class};
-use crate::piece::BorrowedProperty;
-use crate::pieces::next;
 use mof_metamodel::{ClassId, Seq};
 use ocl_types::TypeError;
 use qv_syntax::{Item, ItemTree, ItemValue, ItemValueTree, Path, TemplateTree, Tmpl};
+use script_scopes::{BorrowedProperty, next};
 use std::alloc::Global;
 
 /// A template, which has this number, and the number of the next one (QVT 1.3, section 7.11.2). `head` has the number of its variable and

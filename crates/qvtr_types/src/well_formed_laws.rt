@@ -4,11 +4,11 @@ ghost use Rattle.qv_syntax.specs.declared.program.Program.{Program};
 ghost use Rattle.qv_syntax.specs.WellFormed.{IsWellFormed};
 ghost use Rattle.ocl_types.specs.declared.fault.TypeFault.{TypeFault};
 ghost use Rattle.ocl_types.specs.Environments.{IsInOrder};
-ghost use Rattle.qvtr_types.specs.Occurrences.{relations_of};
-ghost use Rattle.qvtr_types.specs.Environments.{Setting, in_script};
-ghost use Rattle.qvtr_types.specs.Resolutions.{IsProgramOf};
-ghost use Rattle.qvtr_types.specs.Faults.{StandsInScript};
-ghost use Rattle.qvtr_types.specs.SettledRelations.{IsSettled};
+ghost use Rattle.script_scopes.specs.Occurrences.{relations_of};
+ghost use Rattle.script_scopes.specs.Environments.{Setting, in_script};
+ghost use Rattle.script_scopes.specs.Resolutions.{IsProgramOf};
+ghost use Rattle.script_scopes.specs.Faults.{StandsInScript};
+ghost use Rattle.script_variables.specs.SettledRelations.{IsSettled};
 
 /// What a script resolves to is well formed, where no fault stands in the script: its numbers name what is there, the rules on types hold,
 /// its queries call each other without a cycle, its relations are as a transformation means them, and its keys are keys (QVT 1.3, section

@@ -1,12 +1,12 @@
 -- Where no fault stands in a script its names are distinct.
 use Rattle.std.proofs.Common.{◌++◌, map}
 use Rattle.ocl_types.specs.declared.fault.TypeFault.{TypeFault}
-use Rattle.qvtr_types.specs.ScriptNames.{model_names}
-use Rattle.qvtr_types.specs.Environments.{Setting, metamodel_names}
-use Rattle.qvtr_types.specs.Declarations.{relation_names, queries_of, global_names}
-use Rattle.qvtr_types.specs.Faults.{StandsInScript}
-use Rattle.qvtr_types.proofs.CallRowLaws.{relations_once}
-use Rattle.qvtr_types.proofs.NameOrderLaws.{repeated_left}
+use Rattle.script_scopes.specs.ScriptNames.{model_names}
+use Rattle.script_scopes.specs.Environments.{Setting, metamodel_names}
+use Rattle.script_scopes.specs.Declarations.{relation_names, queries_of, global_names}
+use Rattle.script_scopes.specs.Faults.{StandsInScript}
+use Rattle.script_scopes.proofs.CallRowLaws.{relations_once}
+use Rattle.script_variables.proofs.NameOrderLaws.{repeated_left}
 use Rattle.qvtr_types.proofs.well_formed.Numbers.{AreApart}
 
 module _ (s : Setting) (none : (f : TypeFault) → StandsInScript s f → ⊥) where

@@ -19,16 +19,16 @@ use Rattle.qv_syntax.specs.declared.program.Conj.TheVariants as conjs
 use Rattle.qv_syntax.specs.Parts.{Names}
 use Rattle.qv_syntax.specs.Relations.{InConjunct, IsSubject, OccursInClause}
 use Rattle.ocl_types.specs.HasType.{HasTree}
-use Rattle.qvtr_types.specs.declared.usage.Usage.{Usage}
-use Rattle.qvtr_types.specs.declared.usage.Usage.TheVariants as usages_of
-use Rattle.qvtr_types.specs.Usages.{ExprUsages, CallUsages, ArgsUsages, expr_step, infix_step, postfix_step, args_step, infix_usages, usages, variables_in}
-use Rattle.qvtr_types.specs.Conjuncts.{behind, conjuncts, clause_conjuncts, equation_of}
-use Rattle.qvtr_types.specs.Occurrences.{clause_variables, variables_of}
-use Rattle.qvtr_types.specs.Environments.{Setting, in_relation, place_of}
-use Rattle.qvtr_types.specs.Resolutions.{IsConjunct, AreConjuncts}
-use Rattle.qvtr_types.proofs.ConjunctLemmas.{by_layer, conjuncts_behind}
-use Rattle.qvtr_types.proofs.CallRowLaws.{within_some, some_among, among_some}
-use Rattle.qvtr_types.proofs.ProgramCallLaws.{zip_left, zip_right}
+use Rattle.script_scopes.specs.declared.usage.Usage.{Usage}
+use Rattle.script_scopes.specs.declared.usage.Usage.TheVariants as usages_of
+use Rattle.script_scopes.specs.Usages.{ExprUsages, CallUsages, ArgsUsages, expr_step, infix_step, postfix_step, args_step, infix_usages, usages, variables_in}
+use Rattle.script_scopes.specs.Conjuncts.{behind, conjuncts, clause_conjuncts, equation_of}
+use Rattle.script_scopes.specs.Occurrences.{clause_variables, variables_of}
+use Rattle.script_scopes.specs.Environments.{Setting, in_relation, place_of}
+use Rattle.script_scopes.specs.Resolutions.{IsConjunct, AreConjuncts}
+use Rattle.script_scopes.proofs.ConjunctLemmas.{by_layer, conjuncts_behind}
+use Rattle.script_scopes.proofs.CallRowLaws.{within_some, some_among, among_some}
+use Rattle.qvtr_types.proofs.ZipLemmas.{zip_left, zip_right}
 use Rattle.qvtr_types.proofs.well_formed.Numbers.{place_at, name_at, variables_apart}
 use Rattle.qvtr_types.proofs.well_formed.Equations.{uses_of, in_uses, uses_in, equation_subject, equation_part, equation_names, call_part, call_names}
 use Rattle.qvtr_types.proofs.well_formed.Domains.{tree_names, names_tree}
@@ -157,13 +157,13 @@ module _ (s : Setting) (r : RelationTree) (vars : List Var) (IsEquation : ℕ �
   pub tree_among : (es : List Expr) (ts : List Typed) → AllZip (HasTree (in_relation s r vars)) es ts → (t : Typed) → Contains ts t → (e : Expr) × Contains es e × HasTree (in_relation s r vars) e t
   tree_among es ts all t c =
       let at = among_some ts t c in
-      let e = zip_right (HasTree (in_relation s r vars)) es ts all at.0 t at.1 in
+      let e = zip_left (HasTree (in_relation s r vars)) es ts at.0 t all at.1 in
       (e.0, some_among es at.0 e.0 e.1, e.2)
 
   pub among_trees : (es : List Expr) (ts : List Typed) → AllZip (HasTree (in_relation s r vars)) es ts → (e : Expr) → Contains es e → (t : Typed) × Contains ts t × HasTree (in_relation s r vars) e t
   among_trees es ts all e c =
       let at = among_some es e c in
-      let t = zip_left (HasTree (in_relation s r vars)) es ts all at.0 e at.1 in
+      let t = zip_right (HasTree (in_relation s r vars)) es ts at.0 e all at.1 in
       (t.0, some_among ts at.0 t.0 t.1, t.2)
 
   module _ (v : ℕ) (name : List ℕ) (at : slice_get (variables_of r) v ≡ Some name) (var : Var) (at_var : slice_get vars v ≡ Some var)

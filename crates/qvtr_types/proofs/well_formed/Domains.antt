@@ -1,9 +1,9 @@
 -- Domains of a relation as they are written, and what they resolve to: templates, and the variables that occur in them.
-use Rattle.std.proofs.Common.{◌≡◌, ◌<◌, ℕ, zero, suc, ◌+◌, List, [], ◌∷◌, ◌++◌, Bool, true, false, cond, take, length, refl, sym, ◌∙◌, ap, subst, arith, inl, inr}
+use Rattle.std.proofs.Common.{◌≡◌, ◌<◌, ℕ, List, [], ◌∷◌, Bool, true, false, cond, length, refl, sym, ◌∙◌, ap, subst, arith, inl, inr}
 use Rattle.std.specs.Prelude.{Some, None, Contains, slice_get}
-use Rattle.std.specs.List.{flat_map, sum_by}
+use Rattle.std.specs.List.{flat_map}
 use Rattle.std.proofs.lemmas.Option.{same_Some, none-some, slice_get_within}
-use Rattle.std.proofs.lemmas.List.Elements.{Contains-append_left, Contains-append_right}
+use Rattle.std.proofs.lemmas.List.Elements.{Contains-append_right}
 use Rattle.mof_metamodel.proofs.PropLemmas.{to_flat_map, from_flat_map}
 use Rattle.qv_syntax.specs.declared.name.Name.{Name}
 use Rattle.qv_syntax.specs.declared.name.Path.{Path}
@@ -22,60 +22,21 @@ use Rattle.qv_syntax.specs.declared.program.ItemValue.TheVariants as items
 use Rattle.qv_syntax.specs.Parts.{Names}
 use Rattle.qv_syntax.specs.Relations.{IsTemplateOf, OccursInTemplates}
 use Rattle.ocl_types.specs.HasType.{HasTree}
-use Rattle.qvtr_types.specs.ScriptNames.{model_names}
-use Rattle.qvtr_types.specs.Conjuncts.{is_null}
-use Rattle.qvtr_types.specs.Usages.{variables_in}
-use Rattle.qvtr_types.specs.Occurrences.{Piece, pieces_of, template_count, piece_variables, item_variables, root_of, domain_variables, domains_variables, clause_variables, declared_names, occurrences, variables_of}
-use Rattle.qvtr_types.specs.Occurrences.Piece.{begins, asks}
-use Rattle.qvtr_types.specs.Divisions.{model_of, first_template}
-use Rattle.qvtr_types.specs.Environments.{Setting, in_relation, place_of}
-use Rattle.qvtr_types.specs.ResolvedTemplates.{DomainReach, IsTemplate}
-use Rattle.qvtr_types.specs.Resolutions.{model_number, domain_reach, IsDomain, AreDomains}
-use Rattle.qvtr_types.proofs.MemberLemmas.{once_has}
-use Rattle.qvtr_types.proofs.DivisionLaws.{first, past}
-use Rattle.qvtr_types.proofs.CallRowLaws.{within_some, among_some}
+use Rattle.script_scopes.specs.ScriptNames.{model_names}
+use Rattle.script_scopes.specs.Conjuncts.{is_null}
+use Rattle.script_scopes.specs.Usages.{variables_in}
+use Rattle.script_scopes.specs.Occurrences.{Piece, pieces_of, piece_variables, item_variables, root_of, domain_variables, variables_of}
+use Rattle.script_scopes.specs.Occurrences.Piece.{begins, asks}
+use Rattle.script_scopes.specs.Divisions.{model_of, first_template}
+use Rattle.script_scopes.specs.Environments.{Setting, in_relation, place_of}
+use Rattle.script_scopes.specs.ResolvedTemplates.{DomainReach, IsTemplate}
+use Rattle.script_scopes.specs.Resolutions.{model_number, domain_reach, IsDomain, AreDomains}
+use Rattle.script_scopes.proofs.CallRowLaws.{within_some, among_some}
+use Rattle.qvtr_types.proofs.OccurrenceLaws.{domain_variable}
 use Rattle.qvtr_types.proofs.NamedVariables.{none_in, first_or, only_in}
 use Rattle.qvtr_types.proofs.NamedTrees.{variables_told}
 use Rattle.qvtr_types.proofs.well_formed.Numbers.{place_at, name_at, at_named, variables_apart, number_at, number_is}
 use Rattle.qvtr_types.proofs.well_formed.Templates.{whole_of, IsTold, IsItemTold, IsShown, template_told, template_shown, null_no_expr, nested_no_expr, same_expr}
-
--- ---- what occurs is a variable of the relation
-
-in_domains : (v : List ℕ) (k : ℕ) (doms : List DomainTree) (place : ℕ) (domain : DomainTree) → slice_get doms place ≡ Some domain
-    → Contains (domain_variables (k + sum_by template_count (take place doms)) domain) v → Contains (domains_variables k doms) v
-in_domains v k [] place domain found has = absurd (none-some domain found)
-in_domains v k (d ∷ more) zero domain found has =
-    let same : d ≡ domain = same_Some d domain found in
-    let here : Contains (domain_variables k d) v = subst (λ (n : ℕ). Contains (domain_variables n d) v) (sym (first k)) (subst (λ (x : DomainTree). Contains (domain_variables (k + 0) x) v) (sym same) has) in
-    Contains-append_left (domain_variables k d) (domains_variables (k + template_count d) more) v here
-in_domains v k (d ∷ more) (suc place) domain found has =
-    Contains-append_right (domain_variables k d) (domains_variables (k + template_count d) more) v
-    (in_domains v (k + template_count d) more place domain found (subst (λ (n : ℕ). Contains (domain_variables n domain) v) (sym (past k d more place)) has))
-
-module _ (r : RelationTree) (v : List ℕ) where
-  abbrev declared : List (List ℕ)
-  declared = flat_map declared_names r.vars
-
-  abbrev in_all_domains : List (List ℕ)
-  in_all_domains = domains_variables 1 r.domains
-
-  abbrev in_when : List (List ℕ)
-  in_when = clause_variables r.when
-
-  abbrev in_where : List (List ℕ)
-  in_where = clause_variables r.wheres
-
-  pub domain_variable : (place : ℕ) (domain : DomainTree) → slice_get r.domains place ≡ Some domain → Contains (domain_variables (first_template r place) domain) v → Contains (variables_of r) v
-  domain_variable place domain found has = once_has (occurrences r) v
-      (Contains-append_left ((declared ++ in_all_domains) ++ in_when) in_where v
-      (Contains-append_left (declared ++ in_all_domains) in_when v
-      (Contains-append_right declared in_all_domains v (in_domains v 1 r.domains place domain found has))))
-
-  pub when_variable : Contains (clause_variables r.when) v → Contains (variables_of r) v
-  when_variable has = once_has (occurrences r) v (Contains-append_left ((declared ++ in_all_domains) ++ in_when) in_where v (Contains-append_right (declared ++ in_all_domains) in_when v has))
-
-  pub where_variable : Contains (clause_variables r.wheres) v → Contains (variables_of r) v
-  where_variable has = once_has (occurrences r) v (Contains-append_right ((declared ++ in_all_domains) ++ in_when) in_where v has)
 
 -- ---- domains, one for each
 

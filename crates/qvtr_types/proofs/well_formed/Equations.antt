@@ -32,11 +32,11 @@ use Rattle.ocl_types.specs.Naming.{texts_of}
 use Rattle.ocl_types.specs.TypingOperators.{unchained, and_linked, chain_part}
 use Rattle.ocl_types.specs.HasType.{Judgment, LinkJudgment, linked, judgment, link_judgment, HasType}
 use Rattle.ocl_types.proofs.JudgmentLaws.{expr_unrolled, link_unrolled}
-use Rattle.qvtr_types.specs.declared.usage.Usage.{Usage}
-use Rattle.qvtr_types.specs.declared.usage.Usage.TheVariants as usages_of
-use Rattle.qvtr_types.specs.Usages.{ExprUsages, CallUsages, ArgsUsages, variable_in, expr_step, infix_step, postfix_step, args_step, expr_usages, infix_usages, postfix_usages, args_usages, usages, variables_in}
-use Rattle.qvtr_types.specs.Conjuncts.{one_name, alone_step, name_alone, equal_to, variable_with, equation_in, equation_of, called_with, call_in, call_of, null_step, is_null}
-use Rattle.qvtr_types.proofs.MemberLemmas.{from_filter_map, to_filter_map}
+use Rattle.script_scopes.specs.declared.usage.Usage.{Usage}
+use Rattle.script_scopes.specs.declared.usage.Usage.TheVariants as usages_of
+use Rattle.script_scopes.specs.Usages.{ExprUsages, CallUsages, ArgsUsages, variable_in, expr_step, infix_step, postfix_step, args_step, expr_usages, infix_usages, postfix_usages, args_usages, usages, variables_in}
+use Rattle.script_scopes.specs.Conjuncts.{one_name, alone_step, name_alone, equal_to, variable_with, equation_in, equation_of, called_with, call_in, call_of, null_step, is_null}
+use Rattle.script_scopes.proofs.MemberLemmas.{from_filter_map, to_filter_map}
 use Rattle.qvtr_types.proofs.NamedVariables.{first_or}
 
 abbrev Layer : Type 0

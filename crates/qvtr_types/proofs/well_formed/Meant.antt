@@ -13,21 +13,23 @@ use Rattle.qv_syntax.specs.declared.program.Dom.{Dom}
 use Rattle.qv_syntax.specs.Relations as programs
 use Rattle.qv_syntax.specs.Directions.{IsInModel, HasVariables, CallsInDirection, IsMeant, AreMeant}
 use Rattle.ocl_types.specs.declared.fault.TypeFault.{TypeFault}
-use Rattle.qvtr_types.specs.ScriptNames.{model_names}
-use Rattle.qvtr_types.specs.Occurrences.{relations_of, variables_of, template_variables}
-use Rattle.qvtr_types.specs.Divisions.{first_template, IsUniversal}
-use Rattle.qvtr_types.specs.Directions.{IsInDirection}
-use Rattle.qvtr_types.specs.Environments.{Setting, slots_of}
-use Rattle.qvtr_types.specs.Declarations.{relation_names}
-use Rattle.qvtr_types.specs.Resolutions.{IsRelation, model_number}
-use Rattle.qvtr_types.specs.Faults.{domain_models, StandsInScript, StandsInDeclarations}
-use Rattle.qvtr_types.specs.UniversalNames.{has_domain_of}
-use Rattle.qvtr_types.specs.SettledRelations.{IsSettled}
-use Rattle.qvtr_types.proofs.DivisionLaws.{in_direction}
-use Rattle.qvtr_types.proofs.CallRowLaws.{some_among, among_some}
-use Rattle.qvtr_types.proofs.ProgramCallLaws.{zip_left, zip_right, when_from, where_from, program_stratum}
+use Rattle.script_scopes.specs.ScriptNames.{model_names}
+use Rattle.script_scopes.specs.Occurrences.{relations_of, variables_of, template_variables}
+use Rattle.script_scopes.specs.Divisions.{first_template, IsUniversal}
+use Rattle.script_scopes.specs.Directions.{IsInDirection}
+use Rattle.script_scopes.specs.Environments.{Setting, slots_of}
+use Rattle.script_scopes.specs.Declarations.{relation_names}
+use Rattle.script_scopes.specs.Resolutions.{IsRelation, model_number}
+use Rattle.script_scopes.specs.Faults.{domain_models, StandsInScript, StandsInDeclarations}
+use Rattle.script_scopes.specs.UniversalNames.{has_domain_of}
+use Rattle.script_variables.specs.SettledRelations.{IsSettled}
+use Rattle.script_scopes.proofs.DivisionLaws.{in_direction}
+use Rattle.script_scopes.proofs.CallRowLaws.{some_among, among_some}
+use Rattle.qvtr_types.proofs.ProgramCallLaws.{when_from, where_from, program_stratum}
+use Rattle.qvtr_types.proofs.ZipLemmas.{zip_left, zip_right}
+use Rattle.qvtr_types.proofs.OccurrenceLaws.{when_variable, where_variable}
 use Rattle.qvtr_types.proofs.well_formed.Numbers.{AreApart}
-use Rattle.qvtr_types.proofs.well_formed.Domains.{comes_from, comes_to, when_variable, where_variable}
+use Rattle.qvtr_types.proofs.well_formed.Domains.{comes_from, comes_to}
 use Rattle.qvtr_types.proofs.well_formed.Universal.{target_from, target_to, universal_from, universal_to, name_of, data_from, bound_to}
 use Rattle.qvtr_types.proofs.well_formed.Sides.{has_equations}
 use Rattle.qvtr_types.proofs.well_formed.Shapes.{has_domains}
@@ -105,7 +107,7 @@ module _ (s : Setting) (program : Program) (none : (f : TypeFault) → StandsInS
     called_inside : (called : RelationTree) (number : ℕ) (target : Rel) → slice_get (relations_of s.script) number ≡ Some called → slice_get program.rels number ≡ Some target
         → (IsInDirection s.target called → ⊥) ⊎ IsInDirection s.target called → ((IsInDirection s.target called → ⊥) → ⊥) → target.in_direction ≡ true
     called_inside called number target at at_target either not_outside =
-        let there = zip_left (IsRelation s) (relations_of s.script) program.rels rels number called at in
+        let there = zip_right (IsRelation s) (relations_of s.script) program.rels number called rels at in
         let same : there.0 ≡ target = same_Some there.0 target (sym there.1 ∙ at_target) in
         elim either [
           | inl outside ↦ absurd (not_outside outside)
@@ -156,7 +158,7 @@ module _ (s : Setting) (program : Program) (none : (f : TypeFault) → StandsInS
 
   pub are_meant : AllZip (λ r rel. IsSettled s r rel.vars) (relations_of s.script) program.rels → AreMeant program
   are_meant settled number rel at =
-      let there = zip_right (IsRelation s) (relations_of s.script) program.rels rels number rel at in
-      let own = zip_right (λ r (x : Rel). IsSettled s r x.vars) (relations_of s.script) program.rels settled number rel at in
+      let there = zip_left (IsRelation s) (relations_of s.script) program.rels number rel rels at in
+      let own = zip_left (λ r (x : Rel). IsSettled s r x.vars) (relations_of s.script) program.rels number rel settled at in
       let same : own.0 ≡ there.0 = same_Some own.0 there.0 (sym own.1 ∙ there.1) in
       is_meant there.0 rel (some_among (relations_of s.script) number there.0 there.1) there.2 (subst (λ (r : RelationTree). IsSettled s r rel.vars) same own.2) number at

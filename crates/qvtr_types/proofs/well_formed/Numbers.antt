@@ -8,16 +8,16 @@ use Rattle.mof_metamodel.specs.Characters.{same_name}
 use Rattle.qv_syntax.specs.declared.program.Var.{Var}
 use Rattle.qv_syntax.specs.declared.script.RelationTree.{RelationTree}
 use Rattle.ocl_types.specs.declared.variable.Variable.{Variable}
-use Rattle.qvtr_types.specs.ScriptNames.{each_once}
-use Rattle.qvtr_types.specs.Occurrences.{variables_of}
-use Rattle.qvtr_types.specs.Declarations.{IsRepeated}
-use Rattle.qvtr_types.specs.Environments.{place_of, named_variables}
+use Rattle.script_scopes.specs.ScriptNames.{each_once}
+use Rattle.script_scopes.specs.Occurrences.{variables_of}
+use Rattle.script_scopes.specs.Declarations.{IsRepeated}
+use Rattle.script_scopes.specs.Environments.{place_of, named_variables}
 use Rattle.qvtr_types.specs.TypedUsages.{HasNumber}
-use Rattle.qvtr_types.specs.Environments.{Setting, in_relation}
-use Rattle.qvtr_types.proofs.NameLemmas.{is_same}
-use Rattle.qvtr_types.proofs.OnceLemmas.{new_names-distinct}
-use Rattle.qvtr_types.proofs.PlaceLaws.{at_place}
-use Rattle.qvtr_types.proofs.CallRowLaws.{some_among}
+use Rattle.script_scopes.specs.Environments.{Setting, in_relation}
+use Rattle.script_scopes.proofs.NameLemmas.{is_same}
+use Rattle.script_scopes.proofs.OnceLemmas.{new_names-distinct}
+use Rattle.script_variables.proofs.PlaceLaws.{at_place}
+use Rattle.script_scopes.proofs.CallRowLaws.{some_among}
 
 -- no name stands twice
 abbrev pub AreApart : List (List ℕ) → Type 0

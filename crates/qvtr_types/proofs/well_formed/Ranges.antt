@@ -28,23 +28,25 @@ use Rattle.qv_syntax.specs.Relations.{IsModelDomain, IsTemplateOf}
 use Rattle.qv_syntax.specs.ProgramNumbers.{AreVariablesInRange, IsTemplateInRange, IsRelationInRange}
 use Rattle.ocl_types.specs.declared.fault.TypeFault.{TypeFault}
 use Rattle.ocl_types.specs.Environments.{IsInOrder, no_meta, meta_at, is_over, is_over_step, is_flat, is_flat_layer, class_of}
-use Rattle.qvtr_types.specs.ScriptNames.{model_names}
+use Rattle.script_scopes.specs.ScriptNames.{model_names}
 use Rattle.qv_syntax.specs.declared.name.Path.{Path}
-use Rattle.qvtr_types.specs.Occurrences.{Piece, pieces_of, relations_of, variables_of, root_of}
-use Rattle.qvtr_types.specs.Divisions.{first_template}
-use Rattle.qvtr_types.specs.Environments.{Setting, in_script, slot_of, slots_of}
-use Rattle.qvtr_types.specs.Declarations.{relation_names, meta_of, HasVariableType}
-use Rattle.qvtr_types.specs.Resolutions.{IsVariable, IsRelation, model_number, domain_reach}
-use Rattle.qvtr_types.specs.Faults.{StandsInScript, StandsInDeclarations}
-use Rattle.qvtr_types.specs.SettledRelations.{IsSettled}
+use Rattle.script_scopes.specs.Occurrences.{Piece, pieces_of, relations_of, variables_of, root_of}
+use Rattle.script_scopes.specs.Divisions.{first_template}
+use Rattle.script_scopes.specs.Environments.{Setting, in_script, slot_of, slots_of}
+use Rattle.script_scopes.specs.Declarations.{relation_names, meta_of, HasVariableType}
+use Rattle.script_scopes.specs.Resolutions.{IsVariable, IsRelation, model_number, domain_reach}
+use Rattle.script_scopes.specs.Faults.{StandsInScript, StandsInDeclarations}
+use Rattle.script_variables.specs.SettledRelations.{IsSettled}
 use Rattle.ocl_types.proofs.LayerLaws.{class_of_class, class_of_collection}
 use Rattle.ocl_types.proofs.TypeLaws.{both_true}
 use Rattle.mof_metamodel.proofs.MetaLaws.{prop_named}
-use Rattle.qvtr_types.proofs.CallRowLaws.{among_some}
-use Rattle.qvtr_types.proofs.ProgramCallLaws.{zip_left, when_from, where_from}
+use Rattle.script_scopes.proofs.CallRowLaws.{among_some}
+use Rattle.qvtr_types.proofs.ProgramCallLaws.{when_from, where_from}
+use Rattle.qvtr_types.proofs.ZipLemmas.{zip_right}
+use Rattle.qvtr_types.proofs.OccurrenceLaws.{domain_variable}
 use Rattle.qvtr_types.proofs.well_formed.Numbers.{AreApart, place_within}
 use Rattle.qvtr_types.proofs.well_formed.Templates.{IsItemTold}
-use Rattle.qvtr_types.proofs.well_formed.Domains.{comes_from, root_at, domain_variable}
+use Rattle.qvtr_types.proofs.well_formed.Domains.{comes_from, root_at}
 use Rattle.qvtr_types.proofs.well_formed.Universal.{name_of}
 use Rattle.qvtr_types.proofs.well_formed.Shapes.{IsTyped, typed, model_at, meta_is}
 use Rattle.qvtr_types.proofs.well_formed.Typing.{fitting, class_in}
@@ -168,7 +170,7 @@ module _ (s : Setting) (program : Program) (none : (f : TypeFault) → StandsInS
 
     called_within : (number : ℕ) (called : RelationTree) → slice_get (relations_of s.script) number ≡ Some called → number < length program.rels
     called_within number called at =
-        let there = zip_left (IsRelation s) (relations_of s.script) program.rels rels number called at in
+        let there = zip_right (IsRelation s) (relations_of s.script) program.rels number called rels at in
         slice_get_within program.rels number there.0 there.1
 
     pub relation_in_range : IsRelationInRange s.metas program rel

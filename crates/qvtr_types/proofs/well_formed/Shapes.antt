@@ -28,26 +28,27 @@ use Rattle.qv_syntax.specs.Parts as parts
 use Rattle.qv_syntax.specs.Relations.{IsModelDomain, IsTemplateOf}
 use Rattle.qv_syntax.specs.Directions as meant
 use Rattle.qv_syntax.specs.Directions.{IsDomainShaped, AreOfTwoModels, IsDeclared, HasDomains}
-use Rattle.qvtr_types.specs.ScriptNames.{model_names}
-use Rattle.qvtr_types.specs.Occurrences.{Piece, variables_of, variable_text, pieces_of, template_count, piece_template, templates_from, template_variables, piece_variables, root_of, domain_variables, domains_variables, clause_variables, declared_names, occurrences}
-use Rattle.qvtr_types.specs.Occurrences.Piece.{begins, asks}
-use Rattle.qvtr_types.specs.Divisions.{model_of, first_template, HasPiece}
-use Rattle.qvtr_types.specs.ObjectModels.{HasModel}
-use Rattle.qvtr_types.specs.Environments.{Setting, in_script, place_of, slots_of}
-use Rattle.qvtr_types.specs.Declarations.{IsRepeated, meta_of, HasVariableType}
-use Rattle.qvtr_types.specs.ResolvedTemplates.{DomainReach, IsTemplate}
-use Rattle.qvtr_types.specs.Resolutions.{IsVariable, model_number, domain_reach, marker_of, IsDomain, IsRelation}
-use Rattle.qvtr_types.specs.Faults.{domain_models}
-use Rattle.qvtr_types.specs.SettledRelations.{HaveOneType}
-use Rattle.qvtr_types.proofs.MemberLemmas.{once_has}
-use Rattle.qvtr_types.proofs.CallRowLaws.{within_some, some_among}
-use Rattle.qvtr_types.proofs.PlaceLaws.{at_place}
-use Rattle.qvtr_types.proofs.ProgramCallLaws.{zip_left}
-use Rattle.qvtr_types.proofs.DivisionLaws.{first, past}
+use Rattle.script_scopes.specs.ScriptNames.{model_names}
+use Rattle.script_scopes.specs.Occurrences.{Piece, variables_of, variable_text, pieces_of, template_count, piece_template, templates_from, template_variables, piece_variables, root_of, domain_variables, domains_variables, clause_variables, declared_names, occurrences}
+use Rattle.script_scopes.specs.Occurrences.Piece.{begins, asks}
+use Rattle.script_scopes.specs.Divisions.{model_of, first_template, HasPiece}
+use Rattle.script_scopes.specs.ObjectModels.{HasModel}
+use Rattle.script_scopes.specs.Environments.{Setting, in_script, place_of, slots_of}
+use Rattle.script_scopes.specs.Declarations.{IsRepeated, meta_of, HasVariableType}
+use Rattle.script_scopes.specs.ResolvedTemplates.{DomainReach, IsTemplate}
+use Rattle.script_scopes.specs.Resolutions.{IsVariable, model_number, domain_reach, marker_of, IsDomain, IsRelation}
+use Rattle.script_scopes.specs.Faults.{domain_models}
+use Rattle.script_variables.specs.SettledRelations.{HasOneType, HaveOneType}
+use Rattle.script_scopes.proofs.MemberLemmas.{once_has}
+use Rattle.script_scopes.proofs.CallRowLaws.{within_some, some_among}
+use Rattle.script_variables.proofs.PlaceLaws.{at_place}
+use Rattle.qvtr_types.proofs.ZipLemmas.{zip_right}
+use Rattle.script_scopes.proofs.DivisionLaws.{first, past}
 use Rattle.qvtr_types.proofs.NamedVariables.{none_in}
+use Rattle.qvtr_types.proofs.OccurrenceLaws.{domain_variable}
 use Rattle.qvtr_types.proofs.well_formed.Numbers.{AreApart, one_name}
 use Rattle.qvtr_types.proofs.well_formed.Templates.{template_listed}
-use Rattle.qvtr_types.proofs.well_formed.Domains.{IsFrom, comes_from, IsToldIn, told_in, piece_in, domain_variable}
+use Rattle.qvtr_types.proofs.well_formed.Domains.{IsFrom, comes_from, IsToldIn, told_in, piece_in}
 
 -- ---- lists
 
@@ -199,8 +200,8 @@ module _ (s : Setting) (program : Program) (models : program.models ≡ slots_of
         let v : List ℕ = told.told.v in
         let among : Contains (variables_of r) v = domain_variable r v from.place from.domain from.found (piece_in s r rel.vars (first_template r from.place) from.domain piece v told.told.among (0, omega arith, refl)) in
         let at : slice_get (variables_of r) (place_of v (variables_of r)) ≡ Some v = at_place v (variables_of r) among in
-        let own = zip_left (IsVariable s r) (variables_of r) rel.vars is.vars (place_of v (variables_of r)) v at in
-        let kind = zip_left (λ n var. (ty : Ty) → HasVariableType s.metas s.script (in_script s) r n ty → ty ≡ var.ty) (variables_of r) rel.vars one (place_of v (variables_of r)) v at in
+        let own = zip_right (IsVariable s r) (variables_of r) rel.vars (place_of v (variables_of r)) v is.vars at in
+        let kind = zip_right (HasOneType s r) (variables_of r) rel.vars (place_of v (variables_of r)) v one at in
         let has : HasPiece r from.domain piece = record { place = from.place; found = from.found; has = told.told.among } in
         let class : Ty = types.Class (meta_of s.script told.model) (out-Tmpl t).class in
         let has_type : HasVariableType s.metas s.script (in_script s) r v class = HasVariableType.template (record {

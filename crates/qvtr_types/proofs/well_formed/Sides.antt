@@ -20,19 +20,18 @@ use Rattle.qv_syntax.specs.Parts.{Names}
 use Rattle.qv_syntax.specs.Relations.{IsDataVariable, Says}
 use Rattle.qv_syntax.specs.Directions.{IsGivenBefore, HasEquations}
 use Rattle.ocl_types.specs.HasType.{HasTree}
-use Rattle.qvtr_types.specs.ScriptNames.{model_names}
-use Rattle.qvtr_types.specs.Usages.{variables_in}
-use Rattle.qvtr_types.specs.Conjuncts.{clause_conjuncts, equation_of}
-use Rattle.qvtr_types.specs.Occurrences.{clause_variables, variables_of}
-use Rattle.qvtr_types.specs.Divisions.{IsGivenAt, IsEquation}
-use Rattle.qvtr_types.specs.Environments.{Setting, in_script, in_relation, place_of}
-use Rattle.qvtr_types.specs.Declarations.{HasVariableType}
-use Rattle.qvtr_types.specs.Resolutions.{IsData, IsConjunct, AreConjuncts, IsRelation}
-use Rattle.qvtr_types.specs.SettledRelations.{HaveOneType}
-use Rattle.qvtr_types.proofs.NameLemmas.{same_is, is_same, has_name, lacks_name}
-use Rattle.qvtr_types.proofs.CallRowLaws.{some_among}
-use Rattle.qvtr_types.proofs.PlaceLaws.{at_place}
-use Rattle.qvtr_types.proofs.ProgramCallLaws.{zip_left}
+use Rattle.script_scopes.specs.ScriptNames.{model_names}
+use Rattle.script_scopes.specs.Usages.{variables_in}
+use Rattle.script_scopes.specs.Conjuncts.{clause_conjuncts, equation_of}
+use Rattle.script_scopes.specs.Occurrences.{clause_variables, variables_of}
+use Rattle.script_scopes.specs.Divisions.{IsGivenAt, IsEquation}
+use Rattle.script_scopes.specs.Environments.{Setting, in_relation, place_of}
+use Rattle.script_scopes.specs.Resolutions.{IsData, IsConjunct, AreConjuncts, IsRelation}
+use Rattle.script_variables.specs.SettledRelations.{HasOneType, HaveOneType}
+use Rattle.script_scopes.proofs.NameLemmas.{same_is, is_same, has_name, lacks_name}
+use Rattle.script_scopes.proofs.CallRowLaws.{some_among}
+use Rattle.script_variables.proofs.PlaceLaws.{at_place}
+use Rattle.qvtr_types.proofs.ZipLemmas.{zip_right}
 use Rattle.qvtr_types.proofs.well_formed.Numbers.{AreApart, name_at, number_at}
 use Rattle.qvtr_types.proofs.well_formed.Equations.{equation_subject, equals}
 use Rattle.qvtr_types.proofs.well_formed.Domains.{tree_names, names_tree}
@@ -56,7 +55,7 @@ module _ (s : Setting) (program : Program) (aimed : slice_get (model_names s.scr
     (r : RelationTree) (rel : Rel) (is : IsRelation s r rel) (one : HaveOneType s r rel.vars) where
   pub data_to : (v : ℕ) (name : List ℕ) → slice_get (variables_of r) v ≡ Some name → IsData s r name → IsDataVariable rel v
   data_to v name at d =
-      let own = zip_left (λ n var. (ty : Ty) → HasVariableType s.metas s.script (in_script s) r n ty → ty ≡ var.ty) (variables_of r) rel.vars one v name at in
+      let own = zip_right (HasOneType s r) (variables_of r) rel.vars v name one at in
       record { var = own.0; found = own.1; data_type = λ m class e. d.data_type m class (own.2 d.ty d.has ∙ e) }
 
   module _ (IsSoughtName : List ℕ → Type 0) (IsSought : ℕ → Type 0)

@@ -13,11 +13,10 @@ use Rattle.qv_syntax.specs.declared.name.Name.{Name}
 use Rattle.qv_syntax.specs.declared.name.Path.{Path}
 use Rattle.qv_syntax.specs.declared.expr.Expr.{Expr}
 use Rattle.qv_syntax.specs.declared.typed.Typed.{Typed}
-use Rattle.qv_syntax.specs.declared.script.TemplateTree.{TemplateTree, out-TemplateTree, roll-out-TemplateTree, fold-roll-TemplateTree}
-use Rattle.qv_syntax.specs.declared.script.ItemTree.{ItemTree, fold-roll-ItemTree}
-use Rattle.qv_syntax.specs.declared.script.ItemValueTree.{ItemValueTree, fold-roll-ItemValueTree}
+use Rattle.qv_syntax.specs.declared.script.TemplateTree.{TemplateTree, out-TemplateTree}
+use Rattle.qv_syntax.specs.declared.script.ItemTree.{ItemTree}
+use Rattle.qv_syntax.specs.declared.script.ItemValueTree.{ItemValueTree}
 use Rattle.qv_syntax.specs.declared.script.ItemValueTree.TheVariants as values
-use Rattle.qv_syntax.specs.declared.script.ItemValueTree.TheOpen as of
 use Rattle.qv_syntax.specs.declared.program.Tmpl.{Tmpl, out-Tmpl, roll-out-Tmpl, fold-roll-Tmpl}
 use Rattle.qv_syntax.specs.declared.program.Item.{Item, fold-roll-Item}
 use Rattle.qv_syntax.specs.declared.program.ItemValue.{ItemValue, out-ItemValue, out-roll-ItemValue, fold-ItemValue, fold-roll-ItemValue}
@@ -28,28 +27,15 @@ use Rattle.qv_syntax.specs.Parts as program
 use Rattle.qv_syntax.specs.Parts.{IsNested, HasItem}
 use Rattle.ocl_types.specs.Environments.{meta_at}
 use Rattle.ocl_types.specs.HasType.{HasTree}
-use Rattle.qvtr_types.specs.Conjuncts.{is_null}
-use Rattle.qvtr_types.specs.Occurrences.{WrittenProperty, Piece, ValuePieces, ItemPieces, BodyPieces, in_turn, with_variable, value_step, item_step, template_step, template_body, item_pieces, value_pieces, variable_text, piece_template}
-use Rattle.qvtr_types.specs.Occurrences.Piece.{begins, asks}
-use Rattle.qvtr_types.specs.Environments.{place_of}
-use Rattle.qvtr_types.specs.ResolvedTemplates.{DomainReach, class_named, IsTemplate, AreItems, IsItem}
+use Rattle.script_scopes.specs.Conjuncts.{is_null}
+use Rattle.script_scopes.specs.Occurrences.{WrittenProperty, Piece, ValuePieces, ItemPieces, in_turn, with_variable, template_body, item_pieces, value_pieces, variable_text, piece_template}
+use Rattle.script_scopes.specs.Occurrences.Piece.{begins, asks}
+use Rattle.script_scopes.specs.Environments.{place_of}
+use Rattle.script_scopes.specs.ResolvedTemplates.{DomainReach, class_named, IsTemplate, AreItems, IsItem}
+use Rattle.qvtr_types.proofs.PieceForms.{body_is, item_is, expr_is, nested_is}
 use Rattle.qvtr_types.proofs.NamedVariables.{none_in, first_or, only_in}
 
--- ---- pieces, form by form
-
-pub value_expr : (e : Expr) → value_pieces (values.Expr e) ≡ record { count = 0; from = λ k at. asks at e ∷ [] }
-value_expr e = ap value_pieces (sym (values.rolls-Expr e)) ∙ fold-roll-ItemValueTree ValuePieces ItemPieces BodyPieces value_step item_step template_step (of.Expr e)
-
-pub value_nested : (variable : Option Name) (t : TemplateTree) → value_pieces (values.Nested variable t) ≡ with_variable variable (template_body t)
-value_nested variable t = ap value_pieces (sym (values.rolls-Nested variable t)) ∙ fold-roll-ItemValueTree ValuePieces ItemPieces BodyPieces value_step item_step template_step (of.Nested variable t)
-
-pub item_is : (tree : ItemTree)
-    → item_pieces tree ≡ record { count = (value_pieces tree.value).count; from = λ k class. (value_pieces tree.value).from k (Some (record { class = class; name = tree.prop.text })) }
-item_is tree = fold-roll-ItemTree ValuePieces ItemPieces BodyPieces value_step item_step template_step (record { prop = tree.prop; value = tree.value })
-
-pub body_is : (tree : TemplateTree) → template_body tree ≡ record { class = (out-TemplateTree tree).class; items = in_turn (map item_pieces (out-TemplateTree tree).items) }
-body_is tree =
-    ap template_body (sym (roll-out-TemplateTree tree)) ∙ fold-roll-TemplateTree ValuePieces ItemPieces BodyPieces value_step item_step template_step (out-TemplateTree tree)
+-- ---- pieces of items
 
 -- the pieces of the items of a template
 abbrev pub items_of : TemplateTree → ItemPieces
@@ -157,13 +143,13 @@ module _ (reach : DomainReach) where
 
     item_next : (class : ClassId) (k next : ℕ) (tree : ItemTree) (item : Item) → IsItem reach class k tree item next → next ≡ k + (item_pieces tree).count
     item_next _ _ _ _ _ (IsItem.empty class k tree item e named value null is) =
-        let count : (item_pieces tree).count ≡ 0 = ap (λ (p : ItemPieces). p.count) (item_with tree (values.Expr e) _ value (value_expr e)) in
+        let count : (item_pieces tree).count ≡ 0 = ap (λ (p : ItemPieces). p.count) (item_with tree (values.Expr e) _ value (expr_is e)) in
         omega (arith, count)
     item_next _ _ _ _ _ (IsItem.expression class k tree item e t named value null has is) =
-        let count : (item_pieces tree).count ≡ 0 = ap (λ (p : ItemPieces). p.count) (item_with tree (values.Expr e) _ value (value_expr e)) in
+        let count : (item_pieces tree).count ≡ 0 = ap (λ (p : ItemPieces). p.count) (item_with tree (values.Expr e) _ value (expr_is e)) in
         omega (arith, count)
     item_next _ _ _ _ _ (IsItem.nested class k next tree item variable inner t named value its is) =
-        let count : (item_pieces tree).count ≡ (whole_of variable inner).count = ap (λ (p : ItemPieces). p.count) (item_with tree (values.Nested variable inner) _ value (value_nested variable inner)) in
+        let count : (item_pieces tree).count ≡ (whole_of variable inner).count = ap (λ (p : ItemPieces). p.count) (item_with tree (values.Nested variable inner) _ value (nested_is variable inner)) in
         let more = template_next k next variable inner t its in
         omega (arith, count, more)
 
@@ -221,11 +207,11 @@ module _ (reach : DomainReach) where
     item_told _ _ _ _ _ (IsItem.empty class k tree item e named value null is) path within = IsItemTold.empty tree.prop.text named is
     item_told _ _ _ _ _ (IsItem.expression class k tree item e t named value null has is) path within =
         IsItemTold.expression tree.prop.text e t named
-        (value_among k path tree (values.Expr e) _ value (value_expr e) within (asks (Some (record { class = path; name = tree.prop.text })) e) (0, omega arith, refl)) null has is
+        (value_among k path tree (values.Expr e) _ value (expr_is e) within (asks (Some (record { class = path; name = tree.prop.text })) e) (0, omega arith, refl)) null has is
     item_told _ _ _ _ _ (IsItem.nested class k next tree item variable inner t named value its is) path within =
         IsItemTold.nested tree.prop.text (variable_text k variable) (out-TemplateTree inner).class t named
         (head_among k (Some (record { class = path; name = tree.prop.text })) variable inner
-        (value_among k path tree (values.Nested variable inner) _ value (value_nested variable inner) within)) (its_class k next variable inner t its) is
+        (value_among k path tree (values.Nested variable inner) _ value (nested_is variable inner) within)) (its_class k next variable inner t its) is
       where
         its_class : (k next : ℕ) (variable : Option Name) (inner : TemplateTree) (t : Tmpl) → IsTemplate reach k variable inner t next → class_named reach (out-TemplateTree inner).class ≡ Some (out-Tmpl t).class
         its_class _ _ _ _ _ (IsTemplate.template k next variable tree t var class are) = class
@@ -270,7 +256,7 @@ module _ (reach : DomainReach) where
       item_within _ _ _ _ _ (IsItem.expression class k tree item e t named value null has at) path within part is u below = absurd (no_expr t part (sym at ∙ is))
       item_within _ _ _ _ _ (IsItem.nested class k next tree item variable inner t named value its at) path within part is u below =
           template_told k next variable inner t its (Some (record { class = path; name = tree.prop.text }))
-          (value_among k path tree (values.Nested variable inner) _ value (value_nested variable inner) within) u
+          (value_among k path tree (values.Nested variable inner) _ value (nested_is variable inner) within) u
           (subst (λ (p : Tmpl). IsNested p u) (sym (same_part t part (sym at ∙ is))) below)
 
   -- ---- from the script: what a piece comes to
@@ -312,14 +298,14 @@ module _ (reach : DomainReach) where
     item_shown : (class : ClassId) (k next : ℕ) (tree : ItemTree) (item : Item) → IsItem reach class k tree item next → (path : Path) (t : Tmpl) → HasItem t item → (p : Piece)
         → Contains ((item_pieces tree).from k path) p → IsShown t p
     item_shown _ _ _ _ _ (IsItem.empty class k tree item e named value null is) path t has p c =
-        let here = subst (λ (v : ItemPieces). Contains (v.from k path) p) (item_with tree (values.Expr e) _ value (value_expr e)) c in
+        let here = subst (λ (v : ItemPieces). Contains (v.from k path) p) (item_with tree (values.Expr e) _ value (expr_is e)) c in
         subst (IsShown t) (only_in (asks (Some (record { class = path; name = tree.prop.text })) e) p here) (IsShown.asked _ e (λ other. absurd (true≢false (sym null ∙ other))))
     item_shown _ _ _ _ _ (IsItem.expression class k tree item e typed named value null tree_of is) path t has p c =
-        let here = subst (λ (v : ItemPieces). Contains (v.from k path) p) (item_with tree (values.Expr e) _ value (value_expr e)) c in
+        let here = subst (λ (v : ItemPieces). Contains (v.from k path) p) (item_with tree (values.Expr e) _ value (expr_is e)) c in
         subst (IsShown t) (only_in (asks (Some (record { class = path; name = tree.prop.text })) e) p here)
         (IsShown.asked _ e (λ other. (t, item, typed, IsNested.whole t, has, is, tree_of)))
     item_shown _ _ _ _ _ (IsItem.nested class k next tree item variable inner part named value its is) path t has p c =
-        let here = subst (λ (v : ItemPieces). Contains (v.from k path) p) (item_with tree (values.Nested variable inner) _ value (value_nested variable inner)) c in
+        let here = subst (λ (v : ItemPieces). Contains (v.from k path) p) (item_with tree (values.Nested variable inner) _ value (nested_is variable inner)) c in
         lifted t part item.prop (valued t item (items.Nested part) has is) p (template_shown k next variable inner part its (Some (record { class = path; name = tree.prop.text })) p here)
 
   -- ---- the variables of templates, in their order
@@ -352,10 +338,10 @@ module _ (reach : DomainReach) where
     item_listed : (class : ClassId) (k next : ℕ) (tree : ItemTree) (item : Item) → IsItem reach class k tree item next → (path : Path)
         → variables_in_item item ≡ numbers_of ((item_pieces tree).from k path)
     item_listed _ _ _ _ _ (IsItem.empty class k tree item e named value null is) path =
-        of_item item ∙ ap variables_in_value is ∙ of_null ∙ ap (λ (v : ItemPieces). numbers_of (v.from k path)) (sym (item_with tree (values.Expr e) _ value (value_expr e)))
+        of_item item ∙ ap variables_in_value is ∙ of_null ∙ ap (λ (v : ItemPieces). numbers_of (v.from k path)) (sym (item_with tree (values.Expr e) _ value (expr_is e)))
     item_listed _ _ _ _ _ (IsItem.expression class k tree item e t named value null has is) path =
-        of_item item ∙ ap variables_in_value is ∙ of_expr t ∙ ap (λ (v : ItemPieces). numbers_of (v.from k path)) (sym (item_with tree (values.Expr e) _ value (value_expr e)))
+        of_item item ∙ ap variables_in_value is ∙ of_expr t ∙ ap (λ (v : ItemPieces). numbers_of (v.from k path)) (sym (item_with tree (values.Expr e) _ value (expr_is e)))
     item_listed _ _ _ _ _ (IsItem.nested class k next tree item variable inner t named value its is) path =
         of_item item ∙ ap variables_in_value is ∙ of_nested t
         ∙ template_listed k next variable inner t its (Some (record { class = path; name = tree.prop.text }))
-        ∙ ap (λ (v : ItemPieces). numbers_of (v.from k path)) (sym (item_with tree (values.Nested variable inner) _ value (value_nested variable inner)))
+        ∙ ap (λ (v : ItemPieces). numbers_of (v.from k path)) (sym (item_with tree (values.Nested variable inner) _ value (nested_is variable inner)))

@@ -39,12 +39,12 @@ use Rattle.ocl_types.specs.TypeRules.{linked_judged, names_judged, literal_judge
 use Rattle.ocl_types.specs.HasType.{Judgment, LinkJudgment, ArgsJudgment, linked, first_judged, query_args, expr_rule, judgment, link_judgment, call_judgment, args_judgment, HasType, HasTree}
 use Rattle.ocl_types.proofs.JudgmentLaws.{expr_unrolled, link_unrolled}
 use Rattle.ocl_types.proofs.TypedParts.{finds_has}
-use Rattle.qvtr_types.specs.Conjuncts.{one_name, name_alone, equal_to, clause_conjuncts, behind_equals, variable_with, equation_in, equation_of, behind, conjuncts}
+use Rattle.script_scopes.specs.Conjuncts.{one_name, name_alone, equal_to, clause_conjuncts, behind_equals, variable_with, equation_in, equation_of, behind, conjuncts}
 use Rattle.qv_syntax.specs.declared.script.BlockTree.{BlockTree}
 use Rattle.ocl_types.specs.declared.variable.Variable.{Variable}
 use Rattle.ocl_types.specs.TypeRules.{IsFirstNamed}
 use Rattle.qvtr_types.specs.TypedUsages.{HasNumber}
-use Rattle.qvtr_types.proofs.ConjunctLemmas.{by_layer, conjuncts_behind}
+use Rattle.script_scopes.proofs.ConjunctLemmas.{by_layer, conjuncts_behind}
 use Rattle.qvtr_types.proofs.NamedVariables.{none_in, only_in}
 use Rattle.qvtr_types.proofs.well_formed.Equations.{alone_of, IsVariablePart, equals}
 

@@ -43,27 +43,29 @@ use Rattle.ocl_types.specs.HasType.{HasType, HasTree}
 use Rattle.ocl_types.specs.TypedContext as context
 use Rattle.ocl_types.proofs.TypingDecides.{one_type, tree_told, fault_told}
 use Rattle.ocl_types.proofs.RangeLaws.{property_over}
-use Rattle.qvtr_types.specs.ScriptNames.{model_names}
-use Rattle.qvtr_types.specs.Usages.{calls_in}
-use Rattle.qvtr_types.specs.Conjuncts.{clause_conjuncts, call_of, equation_of}
-use Rattle.qvtr_types.specs.Occurrences.{Piece, relations_of, variables_of, property_of, root_of, clause_variables, pieces_of}
-use Rattle.qvtr_types.specs.Occurrences.Piece.{begins, asks}
-use Rattle.qvtr_types.specs.Divisions.{first_template, IsWhenEquation, IsWhereEquation}
-use Rattle.qvtr_types.specs.ObjectModels.{CallsWith}
-use Rattle.qvtr_types.specs.Directions.{IsRelationName, IsCalledWithin, IsMisplaced}
-use Rattle.qvtr_types.specs.Environments.{Setting, in_relation, place_of, slots_of}
-use Rattle.qvtr_types.specs.Declarations.{relation_names, meta_of}
-use Rattle.qvtr_types.specs.ResolvedTemplates.{class_named}
-use Rattle.qvtr_types.specs.Resolutions.{IsVariable, IsData, IsConjunct, AreConjuncts, IsRelation, model_number, domain_reach}
-use Rattle.qvtr_types.specs.Faults.{StandsInScript, StandsInExpressions, StandsInPlace, StandsAt, IsProperty, IsExpression, IsExpressionOf}
-use Rattle.qvtr_types.specs.SettledRelations.{IsSettled}
-use Rattle.qvtr_types.proofs.CallRowLaws.{within_some, some_among, among_some, named_by}
-use Rattle.qvtr_types.proofs.PlaceLaws.{at_place}
-use Rattle.qvtr_types.proofs.ProgramCallLaws.{zip_left, zip_right, apart}
+use Rattle.script_scopes.specs.ScriptNames.{model_names}
+use Rattle.script_scopes.specs.Usages.{calls_in}
+use Rattle.script_scopes.specs.Conjuncts.{clause_conjuncts, call_of, equation_of}
+use Rattle.script_scopes.specs.Occurrences.{Piece, relations_of, variables_of, property_of, root_of, clause_variables, pieces_of}
+use Rattle.script_scopes.specs.Occurrences.Piece.{begins, asks}
+use Rattle.script_scopes.specs.Divisions.{first_template, IsWhenEquation, IsWhereEquation}
+use Rattle.script_scopes.specs.ObjectModels.{CallsWith}
+use Rattle.script_scopes.specs.Directions.{IsRelationName, IsCalledWithin, IsMisplaced}
+use Rattle.script_scopes.specs.Environments.{Setting, in_relation, place_of, slots_of}
+use Rattle.script_scopes.specs.Declarations.{relation_names, meta_of}
+use Rattle.script_scopes.specs.ResolvedTemplates.{class_named}
+use Rattle.script_scopes.specs.Resolutions.{IsVariable, IsData, IsConjunct, AreConjuncts, IsRelation, model_number, domain_reach}
+use Rattle.script_scopes.specs.Faults.{StandsInScript, StandsInExpressions, StandsInPlace, StandsAt, IsProperty, IsExpression, IsExpressionOf, HasQueries}
+use Rattle.script_variables.specs.SettledRelations.{IsSettled}
+use Rattle.script_scopes.proofs.CallRowLaws.{within_some, some_among, among_some, named_by}
+use Rattle.script_variables.proofs.PlaceLaws.{at_place}
+use Rattle.qvtr_types.proofs.ProgramCallLaws.{apart}
+use Rattle.qvtr_types.proofs.ZipLemmas.{zip_left, zip_right}
+use Rattle.qvtr_types.proofs.OccurrenceLaws.{domain_variable, when_variable, where_variable}
 use Rattle.qvtr_types.proofs.well_formed.Numbers.{AreApart, named_at, place_at, one_name, variables_apart}
 use Rattle.qvtr_types.proofs.well_formed.Templates.{IsItemTold}
 use Rattle.qvtr_types.proofs.well_formed.Equations.{equation_told}
-use Rattle.qvtr_types.proofs.well_formed.Domains.{root_at, domain_variable, when_variable, where_variable}
+use Rattle.qvtr_types.proofs.well_formed.Domains.{root_at}
 use Rattle.qvtr_types.proofs.well_formed.Clauses.{conjunct_from, equation_at}
 use Rattle.qvtr_types.proofs.well_formed.Universal.{name_of}
 use Rattle.qvtr_types.proofs.well_formed.Shapes.{IsTyped as IsTypedTemplate, typed as typed_template, meta_is}
@@ -89,12 +91,12 @@ module _ (s : Setting) (program : Program) (rels : AllZip (IsRelation s) (relati
 
   pub relation_from : (number : ℕ) (rel : Rel) → slice_get program.rels number ≡ Some rel → IsFrom number rel
   relation_from number rel at =
-      let there = zip_right (IsRelation s) (relations_of s.script) program.rels rels number rel at in
-      let own = zip_right (λ r (x : Rel). IsSettled s r x.vars) (relations_of s.script) program.rels all_settled number rel at in
+      let there = zip_left (IsRelation s) (relations_of s.script) program.rels number rel rels at in
+      let own = zip_left (λ r (x : Rel). IsSettled s r x.vars) (relations_of s.script) program.rels number rel all_settled at in
       let same : own.0 ≡ there.0 = same_Some own.0 there.0 (sym own.1 ∙ there.1) in
       record { r = there.0; found = there.1; is = there.2; settled = subst (λ (r : RelationTree). IsSettled s r rel.vars) same own.2 }
 
-module _ (s : Setting) (program : Program) (none : (f : TypeFault) → StandsInScript s f → ⊥) (models : program.models ≡ slots_of s.script) (queries : program.queries ≡ s.queries)
+module _ (s : Setting) (program : Program) (none : (f : TypeFault) → StandsInScript s f → ⊥) (typed_queries : HasQueries s) (models : program.models ≡ slots_of s.script) (queries : program.queries ≡ s.queries)
     (aimed : slice_get (model_names s.script.models) program.target ≡ Some s.target) (rels : AllZip (IsRelation s) (relations_of s.script) program.rels)
     (all_settled : AllZip (λ r rel. IsSettled s r rel.vars) (relations_of s.script) program.rels)
     (models_apart : AreApart (model_names s.script.models)) (relations_apart : AreApart (relation_names s.script)) where
@@ -106,7 +108,7 @@ module _ (s : Setting) (program : Program) (none : (f : TypeFault) → StandsInS
     count = sym (AllZip-long (IsVariable s r) (variables_of r) rel.vars is.vars)
 
     no_fault : (f : TypeFault) → StandsInExpressions s r rel.vars f → ⊥
-    no_fault f stands = none f (StandsInScript.expression r rel.vars f among is.vars stands)
+    no_fault f stands = none f (StandsInScript.expression r rel.vars f typed_queries among is.vars stands)
 
     tree_typed : (e : Expr) (t : Typed) (p : TypedPart) → HasType env e p → t ≡ tree_of p → IsTyped (programs.context_of s.metas program) (programs.variables_of rel) t (context.typing_of p)
     tree_typed e t p has same = subst (λ (x : Typed). IsTyped (programs.context_of s.metas program) (map typing_of rel.vars) x (context.typing_of p)) (sym same)
@@ -204,7 +206,7 @@ module _ (s : Setting) (program : Program) (none : (f : TypeFault) → StandsInS
           → position (same_name name) (relation_names s.script) ≡ Some number → AllZip (HasTree env) args trees → IsCallTyped s.metas program rel number trees
       call x c name args number trees calls position all =
           let found = named_by s.script relations_apart name number position in
-          let there = zip_left (IsRelation s) (relations_of s.script) program.rels rels number found.0 found.1 in
+          let there = zip_right (IsRelation s) (relations_of s.script) program.rels number found.0 rels found.1 in
           let from = relation_from s program rels all_settled number there.0 there.1 in
           let with_args : CallsWith s.script clause from.r args = record {
             conjunct = x;
@@ -219,7 +221,7 @@ module _ (s : Setting) (program : Program) (none : (f : TypeFault) → StandsInS
             called = there.0;
             found = there.1;
             given = arguments s.metas there.0 there.0.domains trees (omega (arith, many, trees_long, doms_long))
-                (λ k dom t one other. let a = zip_right (HasTree env) args trees all k t other in argument from.r there.0 from.is from.settled with_args k a.0 a.1 t a.2 dom one);
+                (λ k dom t one other. let a = zip_left (HasTree env) args trees k t all other in argument from.r there.0 from.is from.settled with_args k a.0 a.1 t a.2 dom one);
           }
         where
           count_or : (called : RelationTree) → CallsWith s.script clause called args → (length args ≡ length called.domains) ⊎ ((length args < length called.domains) ⊎ (length called.domains < length args)) → length args ≡ length called.domains
@@ -236,7 +238,7 @@ module _ (s : Setting) (program : Program) (none : (f : TypeFault) → StandsInS
               let root : List ℕ = root_of domain.0 in
               let known_root = domain_variable called root k domain.0 domain.1 (0, omega arith, refl) in
               let place = at_place root (variables_of called) known_root in
-              let var = zip_left (IsVariable s called) (variables_of called) target.vars own.vars (place_of root (variables_of called)) root place in
+              let var = zip_right (IsVariable s called) (variables_of called) target.vars (place_of root (variables_of called)) root own.vars place in
               let fit = fitting s called target.vars own_settled.in_order (place_of root (variables_of called)) root var.0 place var.1 in (
                 var.0,
                 ap (slice_get target.vars) (root_at s called target.vars (first_template called k) domain.0 dom shaped) ∙ var.1,

@@ -39,9 +39,9 @@ use Rattle.ocl_types.proofs.LayerLaws.{class_of_class}
 use Rattle.ocl_types.proofs.DemandLaws.{conforming_is}
 use Rattle.ocl_types.proofs.TypeLaws.{both_true, same_is_one}
 use Rattle.ocl_types.proofs.TypedTrees.{tree_typed, type_within}
-use Rattle.qvtr_types.specs.Occurrences.{variables_of}
-use Rattle.qvtr_types.specs.Environments.{Setting, in_script, in_relation, named_variables, slots_of}
-use Rattle.qvtr_types.proofs.CallRowLaws.{some_among}
+use Rattle.script_scopes.specs.Occurrences.{variables_of}
+use Rattle.script_scopes.specs.Environments.{Setting, in_script, in_relation, named_variables, slots_of}
+use Rattle.script_scopes.proofs.CallRowLaws.{some_among}
 use Rattle.qvtr_types.proofs.well_formed.Numbers.{at_named}
 
 -- ---- what is told

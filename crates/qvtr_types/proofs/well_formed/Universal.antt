@@ -24,21 +24,23 @@ use Rattle.qv_syntax.specs.Parts.{Names, IsNested, HasItem}
 use Rattle.qv_syntax.specs.Relations as programs
 use Rattle.ocl_types.specs.Parts.{tree_of}
 use Rattle.ocl_types.specs.HasType.{HasTree}
-use Rattle.qvtr_types.specs.ScriptNames.{model_names}
-use Rattle.qvtr_types.specs.Usages.{variables_in}
-use Rattle.qvtr_types.specs.Conjuncts.{name_alone, clause_conjuncts, equation_of}
-use Rattle.qvtr_types.specs.Occurrences.{Piece, WrittenProperty, variables_of, root_of}
-use Rattle.qvtr_types.specs.Occurrences.Piece.{asks}
-use Rattle.qvtr_types.specs.Divisions.{model_of, first_template, IsItemAlone, IsUniversal, IsBound, IsWhenEquation, IsWhereEquation}
-use Rattle.qvtr_types.specs.Environments.{Setting, in_relation, place_of}
-use Rattle.qvtr_types.specs.Resolutions.{IsVariable, IsData, IsDomain, IsConjunct, AreConjuncts, IsRelation, domain_reach}
-use Rattle.qvtr_types.proofs.CallRowLaws.{some_among, among_some}
-use Rattle.qvtr_types.proofs.ProgramCallLaws.{zip_left, zip_right, apart}
-use Rattle.qvtr_types.proofs.PlaceLaws.{at_place}
+use Rattle.script_scopes.specs.ScriptNames.{model_names}
+use Rattle.script_scopes.specs.Usages.{variables_in}
+use Rattle.script_scopes.specs.Conjuncts.{name_alone, clause_conjuncts, equation_of}
+use Rattle.script_scopes.specs.Occurrences.{Piece, WrittenProperty, variables_of, root_of}
+use Rattle.script_scopes.specs.Occurrences.Piece.{asks}
+use Rattle.script_scopes.specs.Divisions.{model_of, first_template, IsItemAlone, IsUniversal, IsBound, IsWhenEquation, IsWhereEquation}
+use Rattle.script_scopes.specs.Environments.{Setting, in_relation, place_of}
+use Rattle.script_scopes.specs.Resolutions.{IsVariable, IsData, IsDomain, IsConjunct, AreConjuncts, IsRelation, domain_reach}
+use Rattle.script_scopes.proofs.CallRowLaws.{some_among, among_some}
+use Rattle.qvtr_types.proofs.ProgramCallLaws.{apart}
+use Rattle.qvtr_types.proofs.ZipLemmas.{zip_left, zip_right}
+use Rattle.qvtr_types.proofs.OccurrenceLaws.{when_variable}
+use Rattle.script_variables.proofs.PlaceLaws.{at_place}
 use Rattle.qvtr_types.proofs.well_formed.Numbers.{AreApart, place_at, number_is, variables_apart}
 use Rattle.qvtr_types.proofs.well_formed.Templates.{IsShown}
 use Rattle.qvtr_types.proofs.well_formed.Equations.{told_alone, equation_told, equals}
-use Rattle.qvtr_types.proofs.well_formed.Domains.{comes_from, comes_to, occurs_from, occurs_to, shown_in, tree_names, when_variable}
+use Rattle.qvtr_types.proofs.well_formed.Domains.{comes_from, comes_to, occurs_from, occurs_to, shown_in, tree_names}
 use Rattle.qvtr_types.proofs.well_formed.Clauses.{conjunct_to, equation_at, clause_from, clause_to}
 
 -- an item of a domain in which the variable stands alone asks for a tree that is the variable
@@ -84,10 +86,10 @@ module _ (s : Setting) (program : Program) (aimed : slice_get (model_names s.scr
     -- ---- data variables
 
     pub variable_at : (v : ℕ) (name : List ℕ) → slice_get (variables_of r) v ≡ Some name → (var : Var) × (slice_get rel.vars v ≡ Some var) × IsVariable s r name var
-    variable_at v name at = zip_left (IsVariable s r) (variables_of r) rel.vars is.vars v name at
+    variable_at v name at = zip_right (IsVariable s r) (variables_of r) rel.vars v name is.vars at
 
     pub name_of : (v : ℕ) (var : Var) → slice_get rel.vars v ≡ Some var → (name : List ℕ) × (slice_get (variables_of r) v ≡ Some name) × IsVariable s r name var
-    name_of v var at = zip_right (IsVariable s r) (variables_of r) rel.vars is.vars v var at
+    name_of v var at = zip_left (IsVariable s r) (variables_of r) rel.vars v var is.vars at
 
     pub data_from : (v : ℕ) → programs.IsDataVariable rel v → (name : List ℕ) × (slice_get (variables_of r) v ≡ Some name) × IsData s r name
     data_from v d =

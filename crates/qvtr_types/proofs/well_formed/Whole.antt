@@ -19,16 +19,16 @@ use Rattle.qv_syntax.specs.WellFormed.{IsWellFormed}
 use Rattle.ocl_types.specs.declared.fault.TypeFault.{TypeFault}
 use Rattle.ocl_types.specs.Environments.{IsInOrder, Environment, most, without_queries}
 use Rattle.ocl_types.proofs.QueryTrees.{queries_are_typed}
-use Rattle.qvtr_types.specs.Occurrences.{relations_of}
-use Rattle.qvtr_types.specs.Environments.{Setting, in_script}
-use Rattle.qvtr_types.specs.Declarations.{keys_of, queries_of}
-use Rattle.qvtr_types.specs.Keys.{IsKey, AreKeys}
-use Rattle.qvtr_types.specs.ScriptQueries.{StandsInQueries}
-use Rattle.qvtr_types.specs.Resolutions.{IsProgramOf}
-use Rattle.qvtr_types.specs.Faults.{StandsInScript}
-use Rattle.qvtr_types.specs.SettledRelations.{IsSettled}
-use Rattle.qvtr_types.proofs.CallRowLaws.{among_some, some_among}
-use Rattle.qvtr_types.proofs.ProgramCallLaws.{zip_right}
+use Rattle.script_scopes.specs.Occurrences.{relations_of}
+use Rattle.script_scopes.specs.Environments.{Setting, in_script}
+use Rattle.script_scopes.specs.Declarations.{keys_of, queries_of}
+use Rattle.script_scopes.specs.Keys.{IsKey, AreKeys}
+use Rattle.script_scopes.specs.ScriptQueries.{StandsInQueries}
+use Rattle.script_scopes.specs.Resolutions.{IsProgramOf}
+use Rattle.script_scopes.specs.Faults.{StandsInScript}
+use Rattle.script_variables.specs.SettledRelations.{IsSettled}
+use Rattle.script_scopes.proofs.CallRowLaws.{among_some, some_among}
+use Rattle.qvtr_types.proofs.ZipLemmas.{zip_left}
 use Rattle.qvtr_types.proofs.KeyMeaning.{keys_are_meant}
 use Rattle.qvtr_types.proofs.well_formed.Apart.{models_apart, relations_apart}
 use Rattle.qvtr_types.proofs.well_formed.Typing.{context_is}
@@ -42,8 +42,8 @@ keys_apart : (env : Environment) (trees : List KeyTree) (keys : List Key) → Ar
 keys_apart env trees keys are i j d less within meta class =
     let a : Key = get_or keys i d in
     let b : Key = get_or keys j d in
-    let x = zip_right (IsKey env) trees keys are.each i a (slice_get-get_or keys i d (omega (arith, less, within))) in
-    let y = zip_right (IsKey env) trees keys are.each j b (slice_get-get_or keys j d within) in
+    let x = zip_left (IsKey env) trees keys i a are.each (slice_get-get_or keys i d (omega (arith, less, within))) in
+    let y = zip_left (IsKey env) trees keys j b are.each (slice_get-get_or keys j d within) in
     are.one y.0 (record {
       place = j;
       earlier = i;
@@ -112,7 +112,7 @@ module _ (s : Setting) (program : Program) (order : IsInOrder (in_script s)) (no
   typed : (rel : Rel) → Contains program.rels rel → IsRelationTyped s.metas program rel
   typed rel has =
       let f = from rel has in
-      relation_typed s program none made.models made.queries made.aimed made.rels settled (models_apart s none) (relations_apart s none) f.1.r rel (some_among (relations_of s.script) f.0 f.1.r f.1.found) f.1.is f.1.settled
+      relation_typed s program none made.typed_queries made.models made.queries made.aimed made.rels settled (models_apart s none) (relations_apart s none) f.1.r rel (some_among (relations_of s.script) f.0 f.1.r f.1.found) f.1.is f.1.settled
 
   pub well_formed : IsWellFormed s.metas program
   well_formed = record {

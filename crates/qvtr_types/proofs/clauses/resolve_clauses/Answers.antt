@@ -2,8 +2,8 @@ use Rattle.std.proofs.Common.{ℕ, List}
 use Rattle.std.proofs.lemmas.Result.{err_from_is_err_and}
 use Rattle.ocl_types.specs.declared.fault.TypeFault.{TypeFault}
 use Rattle.ocl_types.proofs.QueryLemmas.{err_told}
-use Rattle.qvtr_types.specs.Conjuncts.{clause_conjuncts}
-use Rattle.qvtr_types.specs.Environments.{Setting}
+use Rattle.script_scopes.specs.Conjuncts.{clause_conjuncts}
+use Rattle.script_scopes.specs.Environments.{Setting}
 use Rattle.qvtr_types.specs.PlacedFaults.{StandsInClauses}
 use Rattle.qvtr_types.specs.ResolvedConjuncts.{reach_of, StandsInOne}
 use Rattle.qvtr_types.specs.ClauseSettings.{vars_of, IsClauseScopeOf}

@@ -1,7 +1,7 @@
 use Rattle.std.proofs.Common.{◌≡◌, ℕ, List, map, sym, ap, ◌∙◌}
 use Rattle.std.specs.Option.{unwrap_or}
 use Rattle.mof_metamodel.specs.NameTables.{value_of}
-use Rattle.qvtr_types.specs.Environments.{place_of}
+use Rattle.script_scopes.specs.Environments.{place_of}
 use Rattle.qvtr_types.proofs.domains.domain_scope.Goals as goal
 
 pub new-requires : goal.new-requires

@@ -7,9 +7,9 @@ use Rattle.qv_syntax.specs.declared.script.TemplateTree.{out-TemplateTree}
 use Rattle.std.specs.Prelude.{Option}
 use Rattle.ocl_types.specs.declared.fault.TypeFault.{TypeFault}
 use Rattle.ocl_types.proofs.QueryLemmas.{err_told, fault_of_result}
-use Rattle.qvtr_types.specs.Environments.{place_of}
-use Rattle.qvtr_types.specs.Occurrences.{begun, template_body, variable_text}
-use Rattle.qvtr_types.specs.ResolvedTemplates.{IsTemplate}
+use Rattle.script_scopes.specs.Environments.{place_of}
+use Rattle.script_scopes.specs.Occurrences.{begun, template_body, variable_text}
+use Rattle.script_scopes.specs.ResolvedTemplates.{IsTemplate}
 use Rattle.qvtr_types.specs.TemplatePieces.{IsUnknownClass, IsPieceFault}
 use Rattle.qvtr_types.proofs.DomainLoopLaws.{outer_unknown, outer_within, outer_meant}
 use Rattle.qvtr_types.proofs.domains.outer_template.Goals as goal

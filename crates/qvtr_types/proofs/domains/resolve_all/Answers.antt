@@ -6,7 +6,7 @@ use Rattle.std.proofs.Math.ListN.{drop_of_length-le}
 use Rattle.qv_syntax.specs.declared.program.Dom.{Dom}
 use Rattle.qv_syntax.specs.declared.script.DomainTree.{DomainTree}
 use Rattle.ocl_types.proofs.QueryLemmas.{err_told}
-use Rattle.qvtr_types.specs.LocatedPieces.{located_in, located_from}
+use Rattle.script_scopes.specs.LocatedPieces.{located_in, located_from}
 use Rattle.qvtr_types.specs.ResolvedDomains.{RelationReach, shown_scope, HasKnownModel, AreDomainsFrom, IsMeantIn, IsLocatedFault}
 use Rattle.qvtr_types.proofs.DomainLoopLaws.{domain_fault, doms_more, meant_more, fault_more, doms_all}
 use Rattle.qvtr_types.proofs.domains.resolve_all.Goals as goal

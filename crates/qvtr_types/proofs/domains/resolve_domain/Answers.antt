@@ -3,9 +3,9 @@ use Rattle.std.specs.Prelude.{None}
 use Rattle.std.proofs.lemmas.Result.{err_from_is_err_and}
 use Rattle.ocl_types.specs.declared.fault.TypeFault.{TypeFault}
 use Rattle.ocl_types.proofs.QueryLemmas.{err_told}
-use Rattle.qvtr_types.specs.Occurrences.{begun, template_body}
-use Rattle.qvtr_types.specs.Divisions.{model_of}
-use Rattle.qvtr_types.specs.LocatedPieces.{located_in}
+use Rattle.script_scopes.specs.Occurrences.{begun, template_body}
+use Rattle.script_scopes.specs.Divisions.{model_of}
+use Rattle.script_scopes.specs.LocatedPieces.{located_in}
 use Rattle.qvtr_types.specs.TemplatePieces.{IsPieceFault}
 use Rattle.qvtr_types.specs.ResolvedDomains.{shown_scope, IsLocatedFault}
 use Rattle.qvtr_types.proofs.DomainLoopLaws.{pattern_is, pattern_count, pattern_meant, pattern_fault}

@@ -6,11 +6,11 @@ use Rattle.qv_syntax.specs.declared.program.Dom.{Dom}
 use Rattle.qv_syntax.specs.declared.script.DomainTree.{DomainTree}
 use Rattle.ocl_types.specs.declared.fault.TypeFault.{TypeFault}
 use Rattle.ocl_types.proofs.QueryLemmas.{fault_of_result}
-use Rattle.qvtr_types.specs.Environments.{Setting}
-use Rattle.qvtr_types.specs.Faults.{StandsInExpressions}
+use Rattle.script_scopes.specs.Environments.{Setting}
+use Rattle.script_scopes.specs.Faults.{StandsInExpressions}
 use Rattle.qvtr_types.specs.PlacedFaults.{StandsInItems}
-use Rattle.qvtr_types.specs.Resolutions.{AreDomains}
-use Rattle.qvtr_types.specs.LocatedPieces.{located_from}
+use Rattle.script_scopes.specs.Resolutions.{AreDomains}
+use Rattle.script_scopes.specs.LocatedPieces.{located_from}
 use Rattle.qvtr_types.specs.RelationSettings.{IsReachOf}
 use Rattle.qvtr_types.specs.ResolvedDomains.{shown_scope, HasKnownModel, AreDomainsFrom, IsMeantIn, IsLocatedFault}
 use Rattle.qvtr_types.proofs.DomainLaws.{metas_named, models_known, are_domains, located_stands, none_in_items}

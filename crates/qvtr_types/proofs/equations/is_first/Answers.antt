@@ -2,7 +2,7 @@ use Rattle.std.proofs.Common.{◌≡◌, ℕ, List, Bool, true, ◌&&◌, map, a
 use Rattle.std.specs.Set.{is_member}
 use Rattle.mof_metamodel.specs.Characters.{same_name}
 use Rattle.qvtr_types.specs.Equations.{equation_test}
-use Rattle.qvtr_types.proofs.DistinctLemmas.{met_member}
+use Rattle.script_scopes.proofs.DistinctLemmas.{met_member}
 use Rattle.qvtr_types.proofs.equations.is_first.Goals as goal
 
 pub returns-then-has_equation : goal.returns-then-has_equation

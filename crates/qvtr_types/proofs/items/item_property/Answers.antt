@@ -1,6 +1,6 @@
 use Rattle.std.proofs.Common.{sym, ap}
 use Rattle.ocl_types.specs.declared.fault.TypeFault.TheVariants.{UnknownName}
-use Rattle.qvtr_types.specs.BorrowedPieces.{shown_property}
+use Rattle.script_scopes.specs.BorrowedPieces.{shown_property}
 use Rattle.qvtr_types.proofs.TemplateLaws.{class_at, item_property_is}
 use Rattle.qvtr_types.proofs.items.item_property.Goals as goal
 

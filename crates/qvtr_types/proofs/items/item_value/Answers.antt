@@ -6,7 +6,7 @@ use Rattle.ocl_types.specs.HasType.{HasTree, Stands}
 use Rattle.ocl_types.specs.Parts.{tree_of}
 use Rattle.ocl_types.specs.TypedContext.{typing_of}
 use Rattle.ocl_types.proofs.QueryLemmas.{err_told}
-use Rattle.qvtr_types.specs.Conjuncts.{is_null}
+use Rattle.script_scopes.specs.Conjuncts.{is_null}
 use Rattle.qvtr_types.specs.Expressions.{HasTyping, IsGiven, StandsInGiven}
 use Rattle.qvtr_types.specs.TemplatePieces.{IsValueOf, HasValue, StandsInValue}
 use Rattle.qvtr_types.proofs.ExpressionLaws.{typing_had}

@@ -1,6 +1,6 @@
 use Rattle.std.proofs.Common.{◌∙◌, sym, subst}
 use Rattle.ocl_types.specs.declared.fault.TypeFault.TheVariants.{UnknownName}
-use Rattle.qvtr_types.specs.Keys.{StandsInKey}
+use Rattle.script_scopes.specs.Keys.{StandsInKey}
 use Rattle.qvtr_types.proofs.keys.key_class.Goals as goal
 
 pub returns-in_ok-text-in-None-clause-fault : goal.returns-in_ok-text-in-None-clause-fault

@@ -6,8 +6,8 @@ use Rattle.mof_metamodel.specs.declared.desc.ClassId.{ClassId}
 use Rattle.mof_metamodel.specs.declared.desc.PropId.{PropId}
 use Rattle.qv_syntax.specs.declared.name.Name.{Name}
 use Rattle.ocl_types.specs.Environments.{Environment}
-use Rattle.qvtr_types.specs.Declarations.{key_property}
-use Rattle.qvtr_types.proofs.LoopLemmas.{zip_push}
+use Rattle.script_scopes.specs.Declarations.{key_property}
+use Rattle.script_scopes.proofs.LoopLemmas.{zip_push}
 use Rattle.qvtr_types.proofs.keys.key_props.Goals as goal
 
 abbrev HasNumber : Environment → ℕ × ClassId → Name → PropId → Type 0

@@ -1,7 +1,7 @@
 use Rattle.std.proofs.Common.{◌≡◌, take}
 use Rattle.std.specs.Prelude.{Some}
 use Rattle.std.specs.List.{AllZip}
-use Rattle.qvtr_types.specs.Declarations.{key_property}
+use Rattle.script_scopes.specs.Declarations.{key_property}
 use Rattle.qvtr_types.proofs.keys.key_props.Given as goal
 
 -- the names so far have properties

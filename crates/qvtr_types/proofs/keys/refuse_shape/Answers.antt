@@ -2,8 +2,8 @@ use Rattle.std.proofs.Common.{◌≡◌, [], true≢false, sym, ap, subst, ◌�
 use Rattle.mof_metamodel.specs.MetaFaults.{first_repeat}
 use Rattle.ocl_types.specs.Naming.{texts_of}
 use Rattle.ocl_types.specs.declared.fault.TypeFault.TheVariants.{KeyShape}
-use Rattle.qvtr_types.specs.Keys.{StandsInKey}
-use Rattle.qvtr_types.proofs.RepeatLemmas.{is_repeated, none_repeated}
+use Rattle.script_scopes.specs.Keys.{StandsInKey}
+use Rattle.script_scopes.proofs.RepeatLemmas.{is_repeated, none_repeated}
 use Rattle.qvtr_types.proofs.keys.refuse_shape.Goals as goal
 
 pub returns-then-is_empty-clause-fault : goal.returns-then-is_empty-clause-fault

@@ -3,9 +3,9 @@ use Rattle.std.specs.List.{AllZip}
 use Rattle.std.proofs.lemmas.List.{take_more, take_all, map-append}
 use Rattle.std.proofs.lemmas.List.Elements.{All-push}
 use Rattle.qv_syntax.specs.declared.script.KeyTree.{KeyTree}
-use Rattle.qvtr_types.specs.Keys.{IsKey, IsShaped}
+use Rattle.script_scopes.specs.Keys.{IsKey, IsShaped}
 use Rattle.qvtr_types.specs.KeySearches.{AreEachKeys}
-use Rattle.qvtr_types.proofs.LoopLemmas.{zip_push}
+use Rattle.script_scopes.proofs.LoopLemmas.{zip_push}
 use Rattle.qvtr_types.proofs.keys.resolve_all.Goals as goal
 
 abbrev shown : List (Bor KeyTree) → List KeyTree

@@ -6,8 +6,8 @@ use Rattle.qv_syntax.specs.declared.script.KeyTree.{KeyTree}
 use Rattle.qv_syntax.specs.declared.program.Key.{Key}
 use Rattle.qv_syntax.specs.Keys.{AreOfTwoClasses}
 use Rattle.ocl_types.proofs.QueryLemmas.{err_told}
-use Rattle.qvtr_types.specs.Declarations.{keys_of}
-use Rattle.qvtr_types.specs.Keys.{IsKey, StandsInKeys}
+use Rattle.script_scopes.specs.Declarations.{keys_of}
+use Rattle.script_scopes.specs.Keys.{IsKey, StandsInKeys}
 use Rattle.qvtr_types.specs.KeySearches.{AreEachKeys, StandsInOneKey, IsSecondFault}
 use Rattle.qvtr_types.proofs.ZipLemmas.{zip_length}
 use Rattle.qvtr_types.proofs.KeyLaws.{one_key_stands, second_stands, all_keys}

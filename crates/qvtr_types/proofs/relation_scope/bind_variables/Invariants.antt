@@ -1,5 +1,5 @@
 use Rattle.std.proofs.Common.{◌≡◌, take}
-use Rattle.qvtr_types.specs.Environments.{named_variables}
+use Rattle.script_scopes.specs.Environments.{named_variables}
 use Rattle.qvtr_types.proofs.relation_scope.bind_variables.Given as goal
 
 -- the variables so far are in reach

@@ -5,8 +5,8 @@ use Rattle.qv_syntax.specs.declared.program.Conj.{Conj}
 use Rattle.ocl_types.proofs.QueryLemmas.{err_told}
 use Rattle.qvtr_types.specs.Equations.{equation_test, equation_behind, given_by, with_given, given_after}
 use Rattle.qvtr_types.specs.ResolvedConjuncts.{ClauseReach, reach_of, IsResolved, StandsInConjunct, AreResolved, StandsInOne}
-use Rattle.qvtr_types.proofs.LoopLemmas.{shown_more}
-use Rattle.qvtr_types.proofs.MemberLemmas.{to_map}
+use Rattle.script_scopes.proofs.LoopLemmas.{shown_more}
+use Rattle.script_scopes.proofs.MemberLemmas.{to_map}
 use Rattle.qvtr_types.proofs.GivenLaws.{after_more}
 use Rattle.qvtr_types.proofs.ResolvedConjunctLaws.{resolved_push}
 use Rattle.qvtr_types.proofs.resolved_conjuncts.resolve_listed.Goals as goal

@@ -6,7 +6,7 @@ use Rattle.mof_metamodel.specs.declared.text.Text.{Text}
 use Rattle.qv_syntax.specs.declared.expr.Expr.{Expr}
 use Rattle.qv_syntax.specs.declared.program.Conj.{Conj}
 use Rattle.ocl_types.proofs.QueryLemmas.{fault_of_result}
-use Rattle.qvtr_types.specs.CallRows.{number_in}
+use Rattle.script_scopes.specs.CallRows.{number_in}
 use Rattle.qvtr_types.specs.ResolvedConjuncts.{ClauseReach, reach_of, called_number, IsCallWith, StandsInCallWith, IsResolved, StandsInConjunct}
 use Rattle.qvtr_types.proofs.resolved_conjuncts.resolve_named.Goals as goal
 

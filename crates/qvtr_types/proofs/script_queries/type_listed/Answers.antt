@@ -7,7 +7,7 @@ use Rattle.ocl_types.specs.Environments.{NamesWith}
 use Rattle.ocl_types.specs.QueryCalls.{rows_of}
 use Rattle.ocl_types.proofs.QueryLemmas.{fault_of_result}
 use Rattle.qvtr_types.proofs.ScriptQueryLaws.{ok_weaker, both_told, first_stands, none_stands}
-use Rattle.qvtr_types.specs.ScriptQueries.{StandsInQueries}
+use Rattle.script_scopes.specs.ScriptQueries.{StandsInQueries}
 use Rattle.qvtr_types.proofs.script_queries.type_listed.Goals as goal
 
 abbrev shown : List (Bor QueryTree) → List QueryTree

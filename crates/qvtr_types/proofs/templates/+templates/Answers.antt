@@ -7,8 +7,8 @@ use Rattle.qv_syntax.specs.declared.script.TemplateTree.{TemplateTree, out-Templ
 use Rattle.qv_syntax.specs.declared.script.ItemTree.{ItemTree}
 use Rattle.qv_syntax.specs.declared.program.Item.{Item}
 use Rattle.ocl_types.proofs.QueryLemmas.{err_told}
-use Rattle.qvtr_types.specs.Occurrences.{Piece, template_body, item_pieces}
-use Rattle.qvtr_types.specs.ResolvedTemplates.{AreItems}
+use Rattle.script_scopes.specs.Occurrences.{Piece, template_body, item_pieces}
+use Rattle.script_scopes.specs.ResolvedTemplates.{AreItems}
 use Rattle.qvtr_types.specs.TemplatePieces.{LacksProperty, StandsInValue, StandsInNested, IsNested, IsMeant, IsPieceFault}
 use Rattle.qvtr_types.proofs.TemplateLaws.{item_type_over}
 use Rattle.qvtr_types.proofs.PieceForms.{written, expr_count, nested_count}

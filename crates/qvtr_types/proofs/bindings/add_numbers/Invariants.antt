@@ -1,7 +1,0 @@
-use Rattle.std.proofs.Common.{◌≡◌, ◌++◌, take}
-use Rattle.std.specs.List.{flat_map}
-use Rattle.qvtr_types.specs.Bindings.{data_number}
-use Rattle.qvtr_types.proofs.bindings.add_numbers.Given as goal
-
-abbrev pub invariant-loop-name : goal.invariant-loop-name
-invariant-loop-name l = l.out ≡ l.fn.out ++ flat_map (data_number l.types) (take l.name-index l.names)

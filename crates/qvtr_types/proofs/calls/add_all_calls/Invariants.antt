@@ -1,7 +1,0 @@
-use Rattle.std.proofs.Common.{◌≡◌, ◌++◌, take}
-use Rattle.std.specs.List.{flat_map}
-use Rattle.qvtr_types.specs.Usages.{calls_in}
-use Rattle.qvtr_types.proofs.calls.add_all_calls.Given as goal
-
-abbrev pub invariant-loop-e : goal.invariant-loop-e
-invariant-loop-e l = l.out ≡ l.fn.out ++ flat_map calls_in (take l.e-index l.exprs)

@@ -1,7 +1,0 @@
-use Rattle.std.proofs.Common.{◌≡◌, ◌++◌, map, take}
-use Rattle.std.specs.List.{flat_map}
-use Rattle.qvtr_types.specs.Usages.{calls_in}
-use Rattle.qvtr_types.proofs.calls.add_query_calls.Given as goal
-
-abbrev pub invariant-loop-query : goal.invariant-loop-query
-invariant-loop-query l = l.out ≡ l.fn.out ++ flat_map (λ q. calls_in q.body) (map (λ q. q.now) (take l.query-index l.queries))

@@ -1,7 +1,0 @@
-use Rattle.std.proofs.Common.{◌≡◌, drop}
-use Rattle.std.specs.List.{list_all}
-use Rattle.qvtr_types.specs.Conjuncts.{behind}
-use Rattle.qvtr_types.proofs.conjuncts.are_and.Given as goal
-
-abbrev pub invariant-loop-link : goal.invariant-loop-link
-invariant-loop-link l = list_all (λ k. (behind k).is_and) (drop l.link-index l.links) ≡ list_all (λ k. (behind k).is_and) l.links

@@ -1,6 +1,0 @@
-use Rattle.std.proofs.Common.{sym, ◌∙◌}
-use Rattle.qvtr_types.proofs.ConjunctLemmas.{and_behind}
-use Rattle.qvtr_types.proofs.conjuncts.is_and.Goals as goal
-
-pub returns : goal.returns
-returns c = c.is_and_operator.ensures ∙ sym (and_behind c.args.link.now)

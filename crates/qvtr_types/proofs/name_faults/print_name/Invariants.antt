@@ -1,6 +1,0 @@
-use Rattle.std.proofs.Common.{◌≡◌}
-use Rattle.qvtr_types.specs.Occurrences.{printed_name}
-use Rattle.qvtr_types.proofs.name_faults.print_name.Given as goal
-
-abbrev pub invariant-loop-c : goal.invariant-loop-c
-invariant-loop-c l = l.out ≡ printed_name l.yielded

@@ -1,6 +1,0 @@
-use Rattle.std.proofs.Common.{◌≡◌, ◌++◌, drop}
-use Rattle.qvtr_types.specs.Occurrences.{domains_variables}
-use Rattle.qvtr_types.proofs.occurrences.add_domains.Given as goal
-
-abbrev pub invariant-loop-domain : goal.invariant-loop-domain
-invariant-loop-domain l = l.out ++ domains_variables l.k (drop l.domain-index l.domains) ≡ l.fn.out ++ domains_variables 1 l.domains

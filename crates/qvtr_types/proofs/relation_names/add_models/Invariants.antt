@@ -1,7 +1,0 @@
-use Rattle.std.proofs.Common.{◌≡◌, ◌++◌, take}
-use Rattle.std.specs.List.{filter_map}
-use Rattle.qvtr_types.specs.Divisions.{model_of}
-use Rattle.qvtr_types.proofs.relation_names.add_models.Given as goal
-
-abbrev pub invariant-loop-domain : goal.invariant-loop-domain
-invariant-loop-domain l = l.out ≡ l.fn.out ++ filter_map model_of (take l.domain-index l.domains)

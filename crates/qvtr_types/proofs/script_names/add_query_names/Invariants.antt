@@ -1,5 +1,0 @@
-use Rattle.std.proofs.Common.{◌≡◌, ◌++◌, map, take}
-use Rattle.qvtr_types.proofs.script_names.add_query_names.Given as goal
-
-abbrev pub invariant-loop-query : goal.invariant-loop-query
-invariant-loop-query l = l.out ≡ l.fn.out ++ map (λ r. r.name.text) (map (λ r. r.now) (take l.query-index l.queries))

@@ -1,6 +1,0 @@
-use Rattle.std.proofs.Common.{◌≡◌, ℕ, List, map, take}
-use Rattle.qvtr_types.specs.CallRows.{when_rows}
-use Rattle.qvtr_types.proofs.strata.when_rows.Given as goal
-
-abbrev pub invariant-loop-relation : goal.invariant-loop-relation
-invariant-loop-relation l = l.rows ≡ when_rows (map {A = List ℕ × ℕ} {B = List ℕ} (λ e. e.0) l.names) (map (λ r. r.now) (take l.relation-index l.relations))

@@ -1,6 +1,0 @@
-use Rattle.std.proofs.Common.{◌≡◌, ◌++◌}
-use Rattle.qvtr_types.specs.Usages.{without}
-use Rattle.qvtr_types.proofs.usages.append_without.Given as goal
-
-abbrev pub invariant-loop-usage : goal.invariant-loop-usage
-invariant-loop-usage l = l.out ≡ l.fn.out ++ without l.name l.yielded

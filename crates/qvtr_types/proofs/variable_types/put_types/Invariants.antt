@@ -1,6 +1,0 @@
-use Rattle.std.proofs.Common.{◌≡◌, drop}
-use Rattle.qvtr_types.specs.FirstEntries.{entries_onto}
-use Rattle.qvtr_types.proofs.variable_types.put_types.Given as goal
-
-abbrev pub invariant-loop-typing : goal.invariant-loop-typing
-invariant-loop-typing l = entries_onto l.table (drop l.typing-index l.typings) ≡ entries_onto l.fn.table l.typings

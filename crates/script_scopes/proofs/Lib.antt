@@ -1,0 +1,17 @@
+pub mod NameLemmas
+pub mod SearchLemmas
+pub mod OnceLemmas
+pub mod FaultLemmas
+pub mod UsageLemmas
+pub mod DistinctLemmas
+pub mod RepeatLemmas
+pub mod DivisionLaws
+pub mod NumberLemmas
+pub mod MemberLemmas
+pub mod RefusalLemmas
+pub mod CallLaws
+pub mod CallRowLaws
+pub mod DirectionLaws
+pub mod PrintedLemmas
+pub mod ConjunctLemmas
+pub mod LoopLemmas

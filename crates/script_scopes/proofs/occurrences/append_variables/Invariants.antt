@@ -1,0 +1,7 @@
+use Rattle.std.proofs.Common.{◌≡◌, ◌++◌}
+use Rattle.std.specs.List.{filter_map}
+use Rattle.script_scopes.specs.Usages.{variable_in}
+use Rattle.script_scopes.proofs.occurrences.append_variables.Given as goal
+
+abbrev pub invariant-loop-usage : goal.invariant-loop-usage
+invariant-loop-usage l = l.out ≡ l.fn.out ++ filter_map variable_in l.yielded

@@ -1,0 +1,9 @@
+use Rattle.std.proofs.Common.{◌≡◌, ◌++◌, take}
+use Rattle.std.specs.List.{filter_map}
+use Rattle.script_scopes.specs.Occurrences.{root_of}
+use Rattle.script_scopes.specs.Divisions.{model_of}
+use Rattle.script_scopes.specs.Faults.{root_where}
+use Rattle.script_scopes.proofs.relation_names.add_roots.Given as goal
+
+abbrev pub invariant-loop-domain : goal.invariant-loop-domain
+invariant-loop-domain l = l.out ≡ l.fn.out ++ filter_map (λ d. root_where (model_of d) (root_of d)) (take l.domain-index l.domains)

@@ -1,0 +1,13 @@
+pub mod FirstEntryLemmas
+pub mod LocatedLaws
+pub mod WrittenTypeLaws
+pub mod PlaceLaws
+pub mod TypeLaws
+pub mod TypeFaultLaws
+pub mod ModelLaws
+pub mod DerivationLaws
+pub mod DerivationSteps
+pub mod BindingLaws
+pub mod VariableLaws
+pub mod NameOrderLaws
+pub mod SettingLaws
