@@ -1,9 +1,8 @@
 //! Answers on expressions: their trees, where they end, and their types.
 use crate::expressions::put_tree;
 use crate::reading::{Reading, read};
-use crate::typed_trees::put_typed_tree;
 use case_texts::Pen;
-use expression_settings::put_type_fault;
+use expression_settings::{put_type_fault, put_typed_tree};
 use ocl_types::{Env, Metas, type_expr, type_text};
 use std::alloc::Global;
 

@@ -1,8 +1,7 @@
-use crate::words::operator_word;
 use case_texts::Pen;
-use expression_settings::{bool_word, kind_word};
+use expression_settings::{bool_word, kind_word, operator_word, put_string};
 use ocl_types::path_text;
-use qv_syntax::{Args, Expr, Infix, Kind, Literal, Name, Path, Postfix, TypeTree};
+use qv_syntax::{Args, Expr, Infix, Kind, Name, Path, Postfix, TypeTree};
 use std::alloc::Global;
 
 fn put_path(alloc: Global, pen: &mut Pen, path: &Path) {
@@ -87,13 +86,6 @@ fn put_variable(alloc: Global, pen: &mut Pen, name: &Name, ty: &TypeTree) {
     pen.put(name.text.as_str());
     pen.put(" : ");
     put_type(alloc, pen, ty);
-}
-
-/// The text of a string between its signs.
-pub fn put_string(pen: &mut Pen, value: &Literal) {
-    pen.put("'");
-    pen.put(value.text().as_str());
-    pen.put("'");
 }
 
 #[cycle(printing)]

@@ -34,7 +34,6 @@ mod reading;
 mod setting;
 mod tokens;
 mod type_answers;
-mod typed_trees;
 mod words;
 
 use cases::answers;

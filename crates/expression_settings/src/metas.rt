@@ -17,6 +17,27 @@ pub fn metamodels(alloc: Global, pen: &mut Pen, setting: &str) -> Result<Metas, 
     Ok(metas)
 }
 
+/// The metamodels of these names in a setting, one behind the other.
+pub fn metamodels_named(alloc: Global, setting: &str, names: &[Text]) -> Result<Metas, Refused> {
+    let mut metas = Metas::new(alloc);
+    for name in names {
+        let part = part_named(setting, name.as_str()).ok_or(Refused)?;
+        let items = items(alloc, part)?;
+        add_metamodel(alloc, &mut metas, items.as_str())?;
+    }
+    Ok(metas)
+}
+
+/// The lines of the metamodel of a name, from the name on.
+fn part_named<'s>(setting: &'s str, name: &str) -> Option<&'s str> {
+    for part in setting.split("\nmetamodel ").skip(1) {
+        if part.lines().next().unwrap_or("") == name {
+            return Some(part);
+        }
+    }
+    None
+}
+
 /// The name of a metamodel and the indented lines below it, with `; ` between them.
 fn items(alloc: Global, part: &str) -> Result<Text, NoMemory> {
     let mut lines = part.lines();

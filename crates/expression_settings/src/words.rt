@@ -1,4 +1,4 @@
-use qv_syntax::Kind;
+use qv_syntax::{Kind, Operator};
 
 /// A kind of collection as it is written.
 pub fn kind_word(kind: Kind) -> &'static str {
@@ -24,4 +24,23 @@ pub(crate) fn kind_named(word: &str) -> Option<Kind> {
 /// A Boolean as it is written.
 pub fn bool_word(value: bool) -> &'static str {
     if value { "true" } else { "false" }
+}
+
+/// An operator as it is written.
+pub fn operator_word(operator: Operator) -> &'static str {
+    match operator {
+        Operator::Implies => "implies",
+        Operator::Xor => "xor",
+        Operator::Or => "or",
+        Operator::And => "and",
+        Operator::Equal => "=",
+        Operator::NotEqual => "<>",
+        Operator::Less => "<",
+        Operator::Greater => ">",
+        Operator::AtMost => "<=",
+        Operator::AtLeast => ">=",
+        Operator::Plus => "+",
+        Operator::Minus => "-",
+        Operator::Times => "*",
+    }
 }

@@ -1,10 +1,9 @@
-use crate::expressions::put_string;
-use crate::words::operator_word;
+//! Expressions with their types, printed.
+use crate::words::{bool_word, kind_word, operator_word};
 use case_texts::Pen;
-use expression_settings::{bool_word, kind_word};
 use mof_metamodel::{ClassId, EnumId};
 use ocl_types::{Metas, type_text};
-use qv_syntax::{Call, Node, Ty, Typed, TypedInfix, TypedPostfix};
+use qv_syntax::{Call, Literal, Node, Ty, Typed, TypedInfix, TypedPostfix};
 use std::alloc::Global;
 
 fn put_type(alloc: Global, pen: &mut Pen, metas: &Metas, ty: &Ty) {
@@ -62,6 +61,13 @@ fn put_node(alloc: Global, pen: &mut Pen, metas: &Metas, node: &Node) {
         }
         _ => put_leaf(alloc, pen, node),
     }
+}
+
+/// The text of a string between its signs.
+pub fn put_string(pen: &mut Pen, value: &Literal) {
+    pen.put("'");
+    pen.put(value.text().as_str());
+    pen.put("'");
 }
 
 /// A node that has no parts.

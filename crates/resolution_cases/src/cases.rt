@@ -1,0 +1,76 @@
+use crate::asked::{Asked, Case, case_of};
+use crate::names::put_names;
+use crate::reading::script_of;
+use crate::resolving::put_resolved;
+use crate::texts::script_text;
+use case_texts::Pen;
+use mof_metamodel::{NoMemory, Text};
+use std::alloc::Global;
+
+/// The answers to the cases of a setting, whose name is its first line.
+pub fn answers(alloc: Global, setting: &str) -> Result<Text, NoMemory> {
+    let mut pen = Pen::new(alloc)?;
+    let (name, lines) = setting.split_once('\n').unwrap_or((setting, ""));
+    put_heading(&mut pen, name);
+    let mut item = Text::new(alloc, "")?;
+    for line in lines.lines() {
+        if line.starts_with(' ') {
+            item.push_str("\n")?;
+        } else {
+            answer_item(alloc, &mut pen, setting, item.as_str())?;
+            item = Text::new(alloc, "")?;
+        }
+        item.push_str(line)?;
+    }
+    answer_item(alloc, &mut pen, setting, item.as_str())?;
+    pen.written()
+}
+
+/// Names the setting, but not where a comment stands above the first one.
+fn put_heading(pen: &mut Pen, name: &str) {
+    if !name.starts_with('#') {
+        pen.put("setting ");
+        pen.put(name);
+        pen.put("\n");
+    }
+}
+
+/// Prints a line with those below it, if they are a case, and its answer.
+fn answer_item(alloc: Global, pen: &mut Pen, setting: &str, item: &str) -> Result<(), NoMemory> {
+    match case_of(item) {
+        Some(case) => {
+            pen.put(item);
+            pen.put(" =>");
+            put_answer(alloc, pen, setting, &case)?;
+            pen.put("\n");
+            Ok(())
+        }
+        None => Ok(()),
+    }
+}
+
+fn put_answer(
+    alloc: Global,
+    pen: &mut Pen,
+    setting: &str,
+    case: &Case<'_>,
+) -> Result<(), NoMemory> {
+    match case.asked {
+        Asked::Names => put_names(alloc, pen, case),
+        _ => put_of_script(alloc, pen, setting, case),
+    }
+}
+
+/// What is told of the script of a case.
+fn put_of_script(
+    alloc: Global,
+    pen: &mut Pen,
+    setting: &str,
+    case: &Case<'_>,
+) -> Result<(), NoMemory> {
+    let bytes = script_text(alloc, setting, case.text)?;
+    if let Some(script) = script_of(alloc, pen, bytes.as_slice()) {
+        put_resolved(alloc, pen, setting, case, &script)?;
+    }
+    Ok(())
+}

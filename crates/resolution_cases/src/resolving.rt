@@ -1,0 +1,65 @@
+//! What scripts resolve to.
+use crate::asked::{Asked, Case};
+use crate::lines::put_line;
+use crate::programs::put_program;
+use case_texts::Pen;
+use expression_settings::metamodels_named;
+use mof_metamodel::NoMemory;
+use ocl_types::{Metas, TypeError};
+use qv_syntax::{Program, Script};
+use qvtr_types::resolve;
+use script_files::type_fault_text;
+use script_scopes::metamodel_names;
+use std::alloc::Global;
+
+/// What a script resolves to, over the metamodels of the setting.
+pub fn put_resolved(
+    alloc: Global,
+    pen: &mut Pen,
+    setting: &str,
+    case: &Case<'_>,
+    script: &Script,
+) -> Result<(), NoMemory> {
+    let names = metamodel_names(alloc, script)?;
+    match metamodels_named(alloc, setting, names.as_slice()) {
+        Ok(metas) => put_over(alloc, pen, &metas, case, script),
+        Err(_) => {
+            pen.put(" no metamodel");
+            Ok(())
+        }
+    }
+}
+
+fn put_over(
+    alloc: Global,
+    pen: &mut Pen,
+    metas: &Metas,
+    case: &Case<'_>,
+    script: &Script,
+) -> Result<(), NoMemory> {
+    let names = metamodel_names(alloc, script)?;
+    if metas.len() as usize != names.len() {
+        pen.put(" no metamodel");
+        return Ok(());
+    }
+    let resolved = resolve(alloc, script, metas, case.target);
+    match &resolved {
+        Ok(program) => put_asked(alloc, pen, metas, case.asked, program),
+        Err(error) => put_fault(alloc, pen, error),
+    }
+    Ok(())
+}
+
+fn put_asked(alloc: Global, pen: &mut Pen, metas: &Metas, asked: Asked, program: &Program) {
+    match asked {
+        Asked::Verdict => pen.put(" resolved"),
+        _ => put_program(alloc, pen, metas, asked, program),
+    }
+}
+
+fn put_fault(alloc: Global, pen: &mut Pen, error: &TypeError) {
+    match error {
+        TypeError::Fault(fault) => put_line(pen, &type_fault_text(alloc, "s.qvtr", fault)),
+        TypeError::NoMemory => pen.put(" no memory"),
+    }
+}
