@@ -1,47 +1,76 @@
--- Words have one answer at most, and those of a check and of a conversion have one.
-use Rattle.std.proofs.Common.{◌≡◌, ◌⊎◌, inl, inr, List, ℕ, refl, sym, ◌∙◌, ap, subst}
+-- Words have one answer, or answers that are alike.
+use Rattle.std.proofs.Common.{◌≡◌, List, ℕ, refl, sym, ◌∙◌, subst}
 use Rattle.vault_io.specs.Files.{Files}
-use Rattle.qvtr_engine.specs.Answer.{Answer, usage, replied, IsReply, HasOneAnswer}
-use Rattle.qvtr_engine.specs.CheckWords.{CheckWords, IsCheck}
+use Rattle.qvtr_engine.specs.Answer.{Answer, usage, replied, IsReply, HasOneAnswer, AreAlikeAnswers, same, checked}
+use Rattle.qvtr_engine.specs.CheckedRelations.{ChainsStop, cyclic, deep}
+use Rattle.qvtr_engine.specs.CheckedScript.{ScriptRefused, fault}
+use Rattle.qvtr_engine.specs.CheckWords.{CheckWords}
 use Rattle.qvtr_engine.specs.ConvertWords.{ConvertWords, IsConvert}
-use Rattle.qvtr_engine.specs.Judging.{judged}
 use Rattle.qvtr_engine.specs.Command.{Command, checks, converts, IsCommand}
+use Rattle.qvtr_engine.specs.declared.status.Status.TheVariants.{Refused, Chain}
+use Rattle.qvtr_engine.specs.Question.{Question}
 use Rattle.qvtr_engine.specs.Reply.{Reply, misused, status_of}
-use Rattle.qvtr_engine.proofs.CheckAnswerLaws.{check_answer_found, check_answer_only, check_answer_single}
+use Rattle.qvtr_engine.specs.WholeCheckAnswer.{AreAlike}
+use Rattle.qvtr_engine.specs.WholeCheckAnswer as alike
 use Rattle.qvtr_engine.proofs.ConvertAnswerLaws.{convert_answer_single}
 use Rattle.qvtr_engine.proofs.ConvertAnsweredLaws.{Replied, answered_by, convert_replied}
 use Rattle.qvtr_engine.proofs.CommandLaws.{one_command}
+use Rattle.qvtr_engine.proofs.OneCheckLaws.{one_check}
+use Rattle.qvtr_engine.proofs.ProgramLaws.{one_program, one_least}
+use Rattle.mof_metamodel.specs.declared.desc.MetaDesc.{MetaDesc}
+use Rattle.qv_syntax.specs.declared.script.Script.{Script}
 
--- a command has one reply
-reply_single : (files : Files) (command : Command) (reply other : Reply) → IsReply files command reply → IsReply files command other → reply ≡ other
-reply_single files (checks w) reply other a b = check_answer_single files w reply other a b
-reply_single files (converts c) reply other a b = convert_answer_single files c reply other a b
+one_answer : (words : List (List ℕ)) (files : Files) (reply other : Reply) → reply ≡ other → AreAlikeAnswers words files reply other
+one_answer words files reply other e = subst (AreAlikeAnswers words files reply) e (same reply)
 
-pub answer_single : (words : List (List ℕ)) (files : Files) (reply other : Reply) → Answer words files reply → Answer words files other → reply ≡ other
-answer_single words files misused misused (usage u) (usage v) = refl
-answer_single words files misused other (usage u) (replied command is o r) = absurd (u command is)
-answer_single words files reply misused (replied command is o r) (usage u) = absurd (u command is)
-answer_single words files reply other (replied one a p r) (replied two b q s) =
-    reply_single files two p q (subst (λ command. IsReply files command p) (one_command words one two a b) r) s
+-- replies to one command
+replies_alike : (words : List (List ℕ)) (files : Files) (command : Command) → IsCommand words command → (reply other : Reply) → IsReply files command reply
+    → IsReply files command other → AreAlikeAnswers words files reply other
+replies_alike words files (checks w) is reply other a b = checked w is reply other (one_check files w (one_program files w) one_least reply other a b)
+replies_alike words files (converts c) is reply other a b = one_answer words files reply other (convert_answer_single files c reply other a b)
 
--- a check has one answer, the same each time
-pub check_has_one : (words : List (List ℕ)) (files : Files) (w : CheckWords) → IsCheck words w → HasOneAnswer words files
-check_has_one words files w is = record {
-  reply = judged files w;
-  is = replied (checks w) is (judged files w) (check_answer_found files w);
-  only = only_reply;
-}
-  where
-    only_reply : (other : Reply) → Answer words files other → other ≡ judged files w
-    only_reply misused (usage u) = absurd (u (checks w) is)
-    only_reply other (replied command named reply r) =
-        sym (check_answer_only files w reply (subst (λ c. IsReply files c reply) (one_command words command (checks w) named is) r))
+pub answers_alike : (words : List (List ℕ)) (files : Files) (reply other : Reply) → Answer words files reply → Answer words files other → AreAlikeAnswers words files reply other
+answers_alike words files misused misused (usage u) (usage v) = same misused
+answers_alike words files misused other (usage u) (replied command is o r) = absurd (u command is)
+answers_alike words files reply misused (replied command is o r) (usage u) = absurd (u command is)
+answers_alike words files reply other (replied one a p r) (replied two b q s) =
+    replies_alike words files two b p q (subst (λ command. IsReply files command p) (one_command words one two a b) r) s
 
--- and so has a conversion
+-- ---- they have one status
+
+refused_status : (path : List ℕ) (metas : List MetaDesc) (s : Script) (target : List ℕ) (reply : Reply) → ScriptRefused path metas s target reply → status_of reply ≡ Refused
+refused_status path metas s target reply (fault f stands) = refl
+
+chain_status : (q : Question) (reply : Reply) → ChainsStop q reply → status_of reply ≡ Chain
+chain_status q reply (cyclic chain is) = refl
+chain_status q reply (deep chain is) = refl
+
+alike_status : (files : Files) (w : CheckWords) (reply other : Reply) → AreAlike files w reply other → status_of reply ≡ status_of other
+alike_status files w reply other (alike.same r) = refl
+alike_status files w reply other (alike.faults i r o s t) = refused_status _ _ _ _ r s ∙ sym (refused_status _ _ _ _ o t)
+alike_status files w reply other (alike.chains i p is r o s t) = chain_status _ r s ∙ sym (chain_status _ o t)
+
+alike_answers_status : (words : List (List ℕ)) (files : Files) (reply other : Reply) → AreAlikeAnswers words files reply other → status_of reply ≡ status_of other
+alike_answers_status words files reply other (same r) = refl
+alike_answers_status words files reply other (checked w is r o a) = alike_status files w r o a
+
+pub one_status : (words : List (List ℕ)) (files : Files) (reply other : Reply) → Answer words files reply → Answer words files other → status_of reply ≡ status_of other
+one_status words files reply other a b = alike_answers_status words files reply other (answers_alike words files reply other a b)
+
+-- ---- and a conversion has one answer
+
+convert_only : (words : List (List ℕ)) (files : Files) (c : ConvertWords) → IsConvert words c → (reply other : Reply) → IsReply files (converts c) reply → Answer words files other
+    → other ≡ reply
+convert_only words files c is reply misused answer (usage u) = absurd (u (converts c) is)
+convert_only words files c is reply other answer (replied command named o r) =
+    convert_answer_single files c o reply (subst (λ x. IsReply files x o) (one_command words command (converts c) named is) r) answer
+
 pub convert_has_one : (words : List (List ℕ)) (files : Files) (c : ConvertWords) → IsConvert words c → HasOneAnswer words files
 convert_has_one words files c is = by (convert_replied files c)
   where
     by : Replied files c → HasOneAnswer words files
-    by (answered_by reply answer) =
-        let here : Answer words files reply = replied (converts c) is reply answer in
-        record { reply = reply; is = here; only = λ other there. answer_single words files other reply there here }
+    by (answered_by reply answer) = record {
+      reply = reply;
+      is = replied (converts c) is reply answer;
+      only = λ other there. convert_only words files c is reply other answer there;
+    }

@@ -1,6 +1,6 @@
 -- The arguments that are read are those that stand in the words, and the only ones.
-use Rattle.std.proofs.Common.{◌≡◌, ℕ, suc, zero, ◌+◌, ◌<◌, ◌⊎◌, inl, inr, Bool, true, false, cond, List, [], ◌∷◌, ◌++◌, length, take, drop, map, refl, sym, ◌∙◌, ap, subst, arith, append-nil, Option, Some, None}
-use Rattle.std.specs.Prelude.{◌&&◌, string_bytes, slice_index_or}
+use Rattle.std.proofs.Common.{◌≡◌, ℕ, suc, zero, ◌+◌, ◌<◌, ◌⊎◌, inl, inr, true, false, cond, List, [], ◌∷◌, ◌++◌, length, take, drop, map, refl, sym, ◌∙◌, ap, subst, arith, append-nil, Some}
+use Rattle.std.specs.Prelude.{string_bytes, slice_index_or}
 use Rattle.std.specs.List.{list_all}
 use Rattle.std.specs.declared.string.String.{String}
 use Rattle.std.specs.declared.alloc.Global.{Global}
@@ -8,7 +8,7 @@ use Rattle.std.proofs.lemmas.Bool.{false_from_ne_true}
 use Rattle.mof_metamodel.specs.Metamodels.{same_name}
 use Rattle.qvtr_engine.specs.Arguments.{divider, is_argument, AreArguments, undivided, divided, before_divider, behind_divider, arguments_of}
 use Rattle.qvtr_engine.specs.Reading.{when_true, nth}
-use Rattle.qvtr_engine.proofs.ReadingLaws.{when_some, when_holds, and_some, both_true, same_is, same_holds}
+use Rattle.qvtr_engine.proofs.ReadingLaws.{when_some, when_holds, and_some, same_is, same_holds}
 
 -- words without the divider, or the divider with words before and behind it
 split : (words : List (List ℕ)) → ((before_divider words ≡ words) × (behind_divider words ≡ [])) ⊎ (words ≡ before_divider words ++ divider ∷ behind_divider words)

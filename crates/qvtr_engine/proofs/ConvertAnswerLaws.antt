@@ -21,10 +21,10 @@ use Rattle.qvtr_engine.proofs.FileLaws.{one_model, one_meta, no_error, no_error_
 some_same : (a b : List ℕ) → Some a ≡ Some b → a ≡ b
 some_same a b e = cc
 
-no_file : (a : List ℕ) → None ≡ Some a → ⊥
+pub no_file : (a : List ℕ) → None ≡ Some a → ⊥
 no_file a e = cc
 
-one_file : (files : Files) (path a b : List ℕ) → HasFile files path a → HasFile files path b → a ≡ b
+pub one_file : (files : Files) (path a b : List ℕ) → HasFile files path a → HasFile files path b → a ≡ b
 one_file files path a b x y = some_same a b (sym x ∙ y)
 
 not_long : (files : Files) (path a b : List ℕ) → HasFile files path a → MAX_FILE < length a → HasShortFile files path b → ⊥
@@ -48,7 +48,7 @@ not_unloaded : (files : Files) (path bytes : List ℕ) (reply : Reply) → HasSh
 not_unloaded files path bytes reply h (missing e) = no_file bytes (sym e ∙ h.file)
 not_unloaded files path bytes reply h (long a x l) = not_long files path a bytes x l h
 
-stops_single : (files : Files) (path : List ℕ) (meta : MetaDesc) (IsError : List ℕ → FileError → Type 0) (reply other : Reply) → HasOne IsError
+pub stops_single : (files : Files) (path : List ℕ) (meta : MetaDesc) (IsError : List ℕ → FileError → Type 0) (reply other : Reply) → HasOne IsError
     → Stops files path meta IsError reply → Stops files path meta IsError other → reply ≡ other
 stops_single files path meta IsError reply other one (unloaded r x) (unloaded o y) = unloaded_single files path r o x y
 stops_single files path meta IsError reply other one (unloaded r x) (misread bytes h e t y) = absurd (not_unloaded files path bytes r h x)
@@ -64,22 +64,22 @@ no_stop files path bytes meta IsError reply h none (unloaded r x) = not_unloaded
 no_stop files path bytes meta IsError reply h none (misread b k e t y) =
     none e t (subst (λ z. IsError z e) (one_file files path b bytes k.file h.file) y)
 
-metamodel_goes_on : (files : Files) (path : List ℕ) (meta : MetaDesc) (reply : Reply) → IsMetamodelAt files path meta → Stops files path emof IsMetaFileError reply → ⊥
+pub metamodel_goes_on : (files : Files) (path : List ℕ) (meta : MetaDesc) (reply : Reply) → IsMetamodelAt files path meta → Stops files path emof IsMetaFileError reply → ⊥
 metamodel_goes_on files path meta reply (bytes, h, reads) st =
     no_stop files path bytes emof IsMetaFileError reply h (λ e t x. no_error_of_meta bytes meta e reads t x) st
 
-model_goes_on : (files : Files) (path : List ℕ) (meta : MetaDesc) (m : ModelData) (reply : Reply) → IsModelAt files path meta m
+pub model_goes_on : (files : Files) (path : List ℕ) (meta : MetaDesc) (m : ModelData) (reply : Reply) → IsModelAt files path meta m
     → Stops files path meta (IsFileError meta externs.None) reply → ⊥
 model_goes_on files path meta m reply (bytes, h, reads) st =
     no_stop files path bytes meta (IsFileError meta externs.None) reply h (λ e t x. no_error meta externs.None bytes m e reads t x) st
 
 -- ---- a path has one metamodel, and one model
 
-one_metamodel_at : (files : Files) (path : List ℕ) (a b : MetaDesc) → IsMetamodelAt files path a → IsMetamodelAt files path b → a ≡ b
+pub one_metamodel_at : (files : Files) (path : List ℕ) (a b : MetaDesc) → IsMetamodelAt files path a → IsMetamodelAt files path b → a ≡ b
 one_metamodel_at files path a b (c, h, x) (d, k, y) =
     one_meta c a b x (subst (λ z. MetaSpells z b) (one_file files path d c k.file h.file) y)
 
-one_model_at : (files : Files) (path : List ℕ) (meta : MetaDesc) (a b : ModelData) → IsModelAt files path meta a → IsModelAt files path meta b → a ≡ b
+pub one_model_at : (files : Files) (path : List ℕ) (meta : MetaDesc) (a b : ModelData) → IsModelAt files path meta a → IsModelAt files path meta b → a ≡ b
 one_model_at files path meta a b (c, h, x) (d, k, y) =
     one_model meta externs.None c a b x (subst (λ z. FileSpells meta externs.None z b) (one_file files path d c k.file h.file) y)
 

@@ -1,5 +1,5 @@
 -- The steps of a conversion, against the answer.
-use Rattle.std.proofs.Common.{◌≡◌, ℕ, ◌<◌, ◌≤◌, ◌⊎◌, inl, inr, Bool, true, List, [], ◌∷◌, length, refl, sym, ◌∙◌, ap, subst, Option, Some, None, Result, Ok, Err}
+use Rattle.std.proofs.Common.{◌≡◌, ℕ, ◌<◌, ◌≤◌, ◌⊎◌, inl, inr, Bool, true, List, [], ◌∷◌, length, refl, sym, ap, subst, Option, Some, None, Result, Ok, Err}
 use Rattle.std.specs.Prelude.{IfSome, IsSomeAnd, IfOk, IfErr}
 use Rattle.std.specs.FinMap.{get}
 use Rattle.mof_metamodel.specs.declared.desc.MetaDesc.{MetaDesc}
@@ -13,20 +13,19 @@ use Rattle.model_files.specs.declared.fault.FileError.{FileError}
 use Rattle.model_files.specs.declared.fault.FileError.TheVariants as errors
 use Rattle.model_files.specs.declared.file_form.Form.{Form}
 use Rattle.model_files.specs.Emof.{emof}
-use Rattle.model_files.specs.FaultTexts.{is_limit, error_text}
 use Rattle.model_files.specs.Files.{FileSpells, IsFileError, IsTold, MetaSpells, IsMetaFileError}
 use Rattle.qvtr_engine.specs.declared.converting.Conversion.{Conversion}
 use Rattle.qvtr_engine.specs.declared.outcome.Stop.{Stop}
 use Rattle.qvtr_engine.specs.declared.outcome.Stop.TheVariants as stop
 use Rattle.qvtr_engine.specs.declared.status.Status.{Status}
-use Rattle.qvtr_engine.specs.declared.status.Status.TheVariants.{Done, Fault}
+use Rattle.qvtr_engine.specs.declared.status.Status.TheVariants.{Fault}
 use Rattle.qvtr_engine.specs.Names.{is_among}
-use Rattle.qvtr_engine.specs.ConvertAnswer.{ConvertAnswer, IsConverted, IsMetamodelAt, IsModelAt, text_in, metamodel_stops, model_stops, output_long, put}
+use Rattle.qvtr_engine.specs.ConvertAnswer.{ConvertAnswer, IsMetamodelAt, IsModelAt, metamodel_stops, model_stops, output_long, put}
 use Rattle.qvtr_engine.specs.ConvertWords.{ConvertWords, convert_paths}
 use Rattle.qvtr_engine.specs.Converting.{ConvertEnds, IsDuePut, IsLineOf, IsMisread, IsShort, IsTextAt, IsTooLong, IsUnread, IsWritten, is_starved, IsStopBy, PutEnds, put_done, put_failed, put_well, put_badly}
-use Rattle.qvtr_engine.specs.FileStops.{HasFile, HasShortFile, Unloaded, missing, long, Stops, unloaded, misread}
+use Rattle.qvtr_engine.specs.FileStops.{HasShortFile, Unloaded, missing, long, Stops, unloaded, misread}
 use Rattle.qvtr_engine.specs.Outcome.{Finishes}
-use Rattle.qvtr_engine.specs.Reply.{Reply, unread, faulty, too_long, converted, done_text, fault_text}
+use Rattle.qvtr_engine.specs.Reply.{Reply, unread, faulty, too_long, converted, fault_text}
 use Rattle.qvtr_engine.specs.Stops.{StoppedBy}
 use Rattle.qvtr_engine.proofs.StopLaws.{rose_from, among_first, among_front, among_middle, stopped_wider}
 
@@ -56,9 +55,9 @@ loaded (Some files) path bytes e l = record { file = e; short = l }
 pub misread_is_unread : (s : Stop) (meta : MetaDesc) (path : List ℕ) (error : FileError) (IsError : FileError → Type 0)
     → IsTold error → IsError error → IsMisread s meta path error → IsUnread s meta path IsError
 misread_is_unread (stop.Fault at) meta path error IsError n e m = m
-misread_is_unread (stop.Refused at refusal) meta path error IsError n e m = m
 misread_is_unread (stop.TooLong at) meta path error IsError n e m = m
 misread_is_unread (stop.Faulty limit line) meta path error IsError n e m = (error, n, e, m)
+misread_is_unread (stop.Chained text) meta path error IsError n e m = m
 misread_is_unread stop.NoMemory meta path error IsError n e m = tt
 
 -- the work stops at an error of the file, or for want of memory
@@ -79,10 +78,10 @@ line_stops files path bytes meta IsError limit line error h n e m =
 pub unread_stops : (s : Stop) (told : Option Files) (path bytes : List ℕ) (meta : MetaDesc) (IsError : List ℕ → FileError → Type 0) (faulted : Type 0) (paths : List (List ℕ))
     → IfSome told (λ files. HasShortFile files path bytes) → IsUnread s meta path (IsError bytes) → StoppedBy s told (λ files. Stops files path meta IsError) faulted paths
 unread_stops (stop.Fault at) told path bytes meta IsError f ps h u = absurd u
-unread_stops (stop.Refused at refusal) told path bytes meta IsError f ps h u = absurd u
 unread_stops (stop.TooLong at) told path bytes meta IsError f ps h u = absurd u
 unread_stops (stop.Faulty limit line) None path bytes meta IsError f ps h u = tt
 unread_stops (stop.Faulty limit line) (Some files) path bytes meta IsError f ps h u = line_stops files path bytes meta IsError limit line u.0 h u.1 u.2 u.3
+unread_stops (stop.Chained text) told path bytes meta IsError f ps h u = absurd u
 unread_stops stop.NoMemory told path bytes meta IsError f ps h u = tt
 
 all_replies : (told : Option Files) (P Q : Files → Reply → Type 0) → ((files : Files) (reply : Reply) → P files reply → Q files reply)
@@ -100,6 +99,11 @@ pub metamodel_found : (told : Option Files) (path bytes : List ℕ) (meta : Meta
 metamodel_found None path bytes meta h m = tt
 metamodel_found (Some files) path bytes meta h m = (bytes, h, m)
 
+pub model_found : (told : Option Files) (path bytes : List ℕ) (meta : MetaDesc) (m : ModelData) → IfSome told (λ files. HasShortFile files path bytes)
+    → FileSpells meta externs.None bytes m → IfSome told (λ files. IsModelAt files path meta m)
+model_found None path bytes meta m h s = tt
+model_found (Some files) path bytes meta m h s = (bytes, h, s)
+
 pub text_found : (told : Option Files) (path bytes : List ℕ) (meta : MetaDesc) (form : Form) (text : List ℕ) → IfSome told (λ files. HasShortFile files path bytes)
     → IsWritten meta bytes form text → IfSome told (λ files. IsTextAt files path meta form text)
 text_found None path bytes meta form text h w = tt
@@ -110,6 +114,11 @@ pub metamodel_ok : (r : Result MetaDesc Stop) (told : Option Files) (path bytes 
     → IfOk r (MetaSpells bytes) → IfOk r (λ meta. IfSome told (λ files. IsMetamodelAt files path meta))
 metamodel_ok (Ok meta) told path bytes h m = metamodel_found told path bytes meta h m
 metamodel_ok (Err s) told path bytes h m = tt
+
+pub model_ok : (r : Result ModelData Stop) (told : Option Files) (path bytes : List ℕ) (meta : MetaDesc) → IfSome told (λ files. HasShortFile files path bytes)
+    → IfOk r (FileSpells meta externs.None bytes) → IfOk r (λ m. IfSome told (λ files. IsModelAt files path meta m))
+model_ok (Ok m) told path bytes meta h s = model_found told path bytes meta m h s
+model_ok (Err s) told path bytes meta h x = tt
 
 pub text_ok : (r : Result (List ℕ) Stop) (told : Option Files) (path bytes : List ℕ) (meta : MetaDesc) (form : Form) → IfSome told (λ files. HasShortFile files path bytes)
     → IfOk r (IsWritten meta bytes form) → IfOk r (λ text. IfSome told (λ files. IsTextAt files path meta form text))
@@ -158,10 +167,10 @@ pub output_stopped : (s : Stop) (told : Option Files) (c : ConvertWords) (meta :
     → IfSome told (λ files. IsMetamodelAt files c.metamodel meta) → IfSome told (λ files. IsTextAt files c.model meta c.form text) → IsTooLong s c.output text
     → StoppedBy s told (λ files. ConvertAnswer files c) faulted (convert_paths c)
 output_stopped (stop.Fault at) told c meta text f m t l = absurd l
-output_stopped (stop.Refused at refusal) told c meta text f m t l = absurd l
 output_stopped (stop.TooLong at) told c meta text f m t l =
     subst (λ p. IfSome told (λ files. ConvertAnswer files c (too_long p))) (sym l.0) (long_output told c meta text m t l.1)
 output_stopped (stop.Faulty limit line) told c meta text f m t l = absurd l
+output_stopped (stop.Chained tells) told c meta text f m t l = absurd l
 output_stopped stop.NoMemory told c meta text f m t l = tt
 
 put_answer : (files : Files) (c : ConvertWords) (meta : MetaDesc) (text : List ℕ) → IsMetamodelAt files c.metamodel meta → IsTextAt files c.model meta c.form text

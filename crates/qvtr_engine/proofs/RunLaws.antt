@@ -6,26 +6,27 @@ use Rattle.vault_io.specs.Files.{Files, bound}
 use Rattle.mof_metamodel.specs.declared.limits.TheConstants.{MAX_FILE}
 use Rattle.object_tables.specs.Models.{ModelData}
 use Rattle.qvtr_engine.specs.declared.status.Status.{Status}
-use Rattle.qvtr_engine.specs.declared.status.Status.TheVariants.{Done, No, Usage, Fault, Refused, Limit, NoMemory}
+use Rattle.qvtr_engine.specs.declared.status.Status.TheVariants.{Done, No, Usage, Fault, Refused, Chain, Limit, NoMemory}
 use Rattle.qvtr_engine.specs.declared.outcome.Verdict.{Verdict}
 use Rattle.qvtr_engine.specs.declared.outcome.Verdict.TheVariants as verdict
 use Rattle.qvtr_engine.specs.declared.outcome.Stop.{Stop}
 use Rattle.qvtr_engine.specs.declared.outcome.Stop.TheVariants as stop
 use Rattle.qvtr_engine.specs.Answer.{Answer, usage, replied, IsReply, files_after}
-use Rattle.qvtr_engine.specs.CheckAnswer.{CheckAnswer}
 use Rattle.qvtr_engine.specs.CheckWords.{CheckWords, check_paths}
 use Rattle.qvtr_engine.specs.Command.{Command, checks, converts, IsCommand, paths_of}
 use Rattle.qvtr_engine.specs.CommandEnds.{CheckEnds, CommandEnds}
 use Rattle.qvtr_engine.specs.ConvertAnswer.{ConvertAnswer, IsConverted, text_in, metamodel_stops, model_stops, output_long, put}
 use Rattle.qvtr_engine.specs.ConvertWords.{ConvertWords, IsConvert, convert_paths}
 use Rattle.qvtr_engine.specs.Converting.{ConvertEnds, stopped, put_done, put_failed, IsDuePut}
-use Rattle.qvtr_engine.specs.Judging.{judged}
 use Rattle.qvtr_engine.specs.Outcome.{reply_of_stop, reply_of_outcome, Finishes, Reports}
-use Rattle.qvtr_engine.specs.Reply.{Reply, misused, unread, refused, faulty, too_long, holds, fails, converted, status_of, text_of, done_text, fault_text, no_memory_text}
+use Rattle.qvtr_engine.specs.Reply.{Reply, misused, unread, faulty, too_long, holds, fails, chained, converted, status_of, text_of, done_text, fault_text, no_memory_text}
 use Rattle.qvtr_engine.specs.Run.{Due, answered, starved, faulted_at, faulted_after, Ends, printed, cut_off, IsPut, KeepsFiles, IsAnswered, HasCause, IsOwed, HasConverted}
-use Rattle.qvtr_engine.specs.Stops.{reply_of_verdict, Gives, StoppedBy, Stopped}
-use Rattle.qvtr_engine.proofs.AnswerLaws.{answer_single}
-use Rattle.qvtr_engine.proofs.CheckAnswerLaws.{check_answer_found}
+use Rattle.qvtr_engine.specs.Stops.{reply_of_verdict, StoppedBy}
+use Rattle.qvtr_engine.specs.Verdicts.{HasVerdict, IsJudged}
+use Rattle.qvtr_engine.specs.WholeCheckAnswer.{WholeCheckAnswer}
+use Rattle.qvtr_engine.specs.WholeCheckWords.{IsWholeCheck}
+use Rattle.qvtr_engine.proofs.AnswerLaws.{one_status}
+use Rattle.qvtr_engine.proofs.CheckedLaws.{judged_check, verdict_answer, no_memory_unjudged, fault_unjudged}
 use Rattle.qvtr_engine.proofs.CommandLaws.{one_command, no_command_usage}
 use Rattle.qvtr_engine.specs.Command.{IsUsage, command_of}
 use Rattle.qvtr_engine.specs.FileStops.{Stops, unloaded, missing, long, misread}
@@ -33,7 +34,7 @@ use Rattle.qvtr_engine.specs.Reply.{status_of_fault, usage_text}
 use Rattle.model_files.specs.declared.fault.FileError.{FileError}
 use Rattle.model_files.specs.FaultTexts.{is_limit}
 use Rattle.mof_metamodel.specs.declared.desc.MetaDesc.{MetaDesc}
-use Rattle.qvtr_engine.proofs.StopLaws.{among_third, stopped_wider}
+use Rattle.qvtr_engine.proofs.StopLaws.{among_third}
 
 pub if_some_all : {X : Type 0} (o : Option X) (P : X → Type 0) → ((x : X) → P x) → IfSome o P
 if_some_all None P f = tt
@@ -50,9 +51,9 @@ stop_due : (words : List (List ℕ)) (files : Files) (command : Command) (faulte
     → StoppedBy s (Some files) (λ fs. IsReply fs command) faulted (paths_of command) → IfSome (reply_of_stop s) (λ reply. Due words files faulted (status_of reply) (text_of reply) files)
 stop_due words files command faulted (stop.Fault path) c (inl is) = answered (unread path.now) (replied command c (unread path.now) is)
 stop_due words files command faulted (stop.Fault path) c (inr at) = faulted_at at.0 path.now (command, c, at.1)
-stop_due words files command faulted (stop.Refused path refusal) c is = answered (refused path.now refusal) (replied command c (refused path.now refusal) is)
 stop_due words files command faulted (stop.TooLong path) c is = answered (too_long path.now) (replied command c (too_long path.now) is)
 stop_due words files command faulted (stop.Faulty limit line) c is = answered (faulty limit line) (replied command c (faulty limit line) is)
+stop_due words files command faulted (stop.Chained text) c is = answered (chained text) (replied command c (chained text) is)
 stop_due words files command faulted stop.NoMemory c is = tt
 
 verdict_due : (words : List (List ℕ)) (files : Files) (command : Command) (faulted : Type 0) (v : Verdict) → IsCommand words command
@@ -60,23 +61,11 @@ verdict_due : (words : List (List ℕ)) (files : Files) (command : Command) (fau
 verdict_due words files command faulted verdict.Yes c is = answered holds (replied command c holds is)
 verdict_due words files command faulted (verdict.No x) c is = answered (fails x) (replied command c (fails x) is)
 
--- the reply to a check that is computed is the one that is owed
-judged_owed : (files : Files) (w : CheckWords) (reply : Reply) → judged files w ≡ reply → CheckAnswer files w reply
-judged_owed files w reply e = subst (CheckAnswer files w) e (check_answer_found files w)
-
-judged_all : (told : Option Files) (w : CheckWords) → IfSome told (λ files. (reply : Reply) → judged files w ≡ reply → CheckAnswer files w reply)
-judged_all None w = tt
-judged_all (Some files) w = judged_owed files w
-
-check_stopped : (s : Stop) (told : Option Files) (w : CheckWords) (faulted : Type 0) → Stopped s told (λ files. judged files w) faulted (check_paths w)
-    → StoppedBy s told (λ files. CheckAnswer files w) faulted (check_paths w)
-check_stopped s told w f st = stopped_wider s told _ _ f f (check_paths w) (check_paths w) (judged_all told w) (λ x. x) (λ p h. h) st
-
 outcome_due : (words : List (List ℕ)) (files : Files) (w : CheckWords) (faulted : Type 0) (r : Result Verdict Stop) → IsCommand words (checks w)
-    → IfOk r (λ v. Gives v (Some files) (λ fs. judged fs w)) → IfErr r (λ s. Stopped s (Some files) (λ fs. judged fs w) faulted (check_paths w))
+    → IfOk r (λ v. WholeCheckAnswer files w (reply_of_verdict v)) → IfErr r (λ s. StoppedBy s (Some files) (λ fs. WholeCheckAnswer fs w) faulted (check_paths w))
     → IfSome (reply_of_outcome r) (λ reply. Due words files faulted (status_of reply) (text_of reply) files)
-outcome_due words files w faulted (Ok v) c ok err = verdict_due words files (checks w) faulted v c (judged_owed files w (reply_of_verdict v) ok)
-outcome_due words files w faulted (Err s) c ok err = stop_due words files (checks w) faulted s c (check_stopped s (Some files) w faulted err)
+outcome_due words files w faulted (Ok v) c ok err = verdict_due words files (checks w) faulted v c ok
+outcome_due words files w faulted (Err s) c ok err = stop_due words files (checks w) faulted s c err
 
 -- ---- what is due is printed
 
@@ -137,12 +126,12 @@ usage_ends (Some files) words vf sf before after result e f =
 answer_cause : (words : List (List ℕ)) (files : Files) (faulted : Type 0) (reply : Reply) → Answer words files reply → HasCause words files faulted (status_of reply)
 answer_cause words files faulted misused a = (misused, a, refl)
 answer_cause words files faulted (unread path) a = inl (unread path, a, refl)
-answer_cause words files faulted (refused path refusal) a = (refused path refusal, a, refl)
 answer_cause words files faulted (faulty true line) a = (faulty true line, a, refl)
 answer_cause words files faulted (faulty false line) a = (faulty false line, a, refl)
 answer_cause words files faulted (too_long path) a = (too_long path, a, refl)
 answer_cause words files faulted holds a = (holds, a, refl)
 answer_cause words files faulted (fails x) a = (fails x, a, refl)
+answer_cause words files faulted (chained text) a = (chained text, a, refl)
 answer_cause words files faulted (converted path bytes) a = (converted path bytes, a, refl)
 
 due_cause : (words : List (List ℕ)) (files : Files) (vault_faulted sink_faulted : Type 0) (status : Status) (text : List ℕ) (then : Files)
@@ -165,7 +154,7 @@ all_cause told words vf sf before after told_after result e = if_some_map told _
 
 due_only : (words : List (List ℕ)) (files : Files) (faulted : Type 0) (status : Status) (text : List ℕ) (then : Files) (owed : Reply)
     → Due words files faulted status text then → Answer words files owed → IsOwed (status_of owed) faulted status
-due_only words files faulted status text then owed (answered reply a) b = inl (ap status_of (answer_single words files reply owed a b))
+due_only words files faulted status text then owed (answered reply a) b = inl (one_status words files reply owed a b)
 due_only words files faulted NoMemory text then owed starved b = inr (inl refl)
 due_only words files faulted Fault text then owed (faulted_at f path p) b = inr (inr (refl, f))
 due_only words files faulted Fault text then owed (faulted_after f path bytes a) b = inr (inr (refl, f))
@@ -186,6 +175,43 @@ pub all_only : (told : Option Files) (words : List (List ℕ)) (vault_faulted si
     → IfSome told (λ files. (owed : Reply) → Answer words files owed → IsOwed (status_of owed) (vault_faulted ⊎ sink_faulted) result)
 all_only told words vf sf before after told_after result e =
     if_some_map told _ _ (λ files ends owed a. ends_only words files vf sf before after told_after result owed ends a) e
+
+-- ---- verdicts
+
+answer_judged : (words : List (List ℕ)) (files : Files) (w : CheckWords) → IsWholeCheck words w → (reply : Reply) → Answer words files reply → IsJudged (status_of reply)
+    → HasVerdict files w reply
+answer_judged words files w is reply (usage u) j = absurd (u (checks w) is)
+answer_judged words files w is reply (replied command h p r) j =
+    judged_check files w p (subst (λ x. IsReply files x p) (one_command words command (checks w) h is) r) j
+
+-- the verdict with which a run ends
+abbrev GivesVerdict : Files → CheckWords → Status → Type 0
+GivesVerdict files w status = (reply : Reply) × HasVerdict files w reply × (status_of reply ≡ status)
+
+due_judged : (words : List (List ℕ)) (files : Files) (w : CheckWords) (faulted : Type 0) (status : Status) (text : List ℕ) (then : Files) → IsWholeCheck words w
+    → Due words files faulted status text then → IsJudged status → GivesVerdict files w status
+due_judged words files w faulted status text then is (answered reply a) j = (reply, answer_judged words files w is reply a j, refl)
+due_judged words files w faulted NoMemory text then is starved j = absurd (no_memory_unjudged j)
+due_judged words files w faulted Fault text then is (faulted_at f path p) j = absurd (fault_unjudged j)
+due_judged words files w faulted Fault text then is (faulted_after f path bytes a) j = absurd (fault_unjudged j)
+
+ends_judged : (words : List (List ℕ)) (files : Files) (w : CheckWords) (vault_faulted sink_faulted : Type 0) (before after : Option (List ℕ)) (told : Option Files) (result : Status)
+    → IsWholeCheck words w → Ends words files vault_faulted sink_faulted before after told result → IsJudged result → GivesVerdict files w result
+ends_judged words files w vf sf before after told result is (printed text then due same at) j = due_judged words files w vf result text then is due j
+ends_judged words files w vf sf before after told Fault is (cut_off text then due same f p) j = absurd (fault_unjudged j)
+
+pub all_judged : (told : Option Files) (words : List (List ℕ)) (vault_faulted sink_faulted : Type 0) (before after : Option (List ℕ)) (told_after : Option Files) (result : Status)
+    → IfSome told (λ files. Ends words files vault_faulted sink_faulted before after told_after result)
+    → IfSome told (λ files. (w : CheckWords) → IsWholeCheck words w → IsJudged result → (reply : Reply) × HasVerdict files w reply × (status_of reply ≡ result))
+all_judged told words vf sf before after told_after result e =
+    if_some_map told _ _ (λ files ends w is j. ends_judged words files w vf sf before after told_after result is ends j) e
+
+pub all_verdict : (told : Option Files) (words : List (List ℕ)) (vault_faulted sink_faulted : Type 0) (before after : Option (List ℕ)) (told_after : Option Files) (result : Status)
+    → IfSome told (λ files. Ends words files vault_faulted sink_faulted before after told_after result)
+    → IfSome told (λ files. (w : CheckWords) (reply : Reply) → IsWholeCheck words w → HasVerdict files w reply → IsOwed (status_of reply) (vault_faulted ⊎ sink_faulted) result)
+all_verdict told words vf sf before after told_after result e =
+    if_some_map told _ _ (λ files ends w reply is h. ends_only words files vf sf before after told_after result reply ends
+    (replied (checks w) is reply (verdict_answer files w reply h))) e
 
 -- ---- conversions
 
@@ -270,9 +296,9 @@ file_fault_not_usage false e = cc
 -- work on a command never comes to faulty words
 stop_not_usage : (s : Stop) → IfSome (reply_of_stop s) (λ reply. status_of reply ≡ Usage → ⊥)
 stop_not_usage (stop.Fault path) = fault_not_usage
-stop_not_usage (stop.Refused path refusal) = λ e. cc
 stop_not_usage (stop.TooLong path) = λ e. cc
 stop_not_usage (stop.Faulty limit line) = file_fault_not_usage limit
+stop_not_usage (stop.Chained text) = λ e. cc
 stop_not_usage stop.NoMemory = tt
 
 outcome_not_usage : (r : Result Verdict Stop) → IfSome (reply_of_outcome r) (λ reply. status_of reply ≡ Usage → ⊥)
@@ -321,6 +347,9 @@ limit_not_fault e = cc
 refused_not_fault : Refused ≡ Fault → ⊥
 refused_not_fault e = cc
 
+chain_not_fault : Chain ≡ Fault → ⊥
+chain_not_fault e = cc
+
 no_memory_not_fault : NoMemory ≡ Fault → ⊥
 no_memory_not_fault e = cc
 
@@ -338,17 +367,17 @@ stop_fault : (told : Option Files) (words : List (List ℕ)) (command : Command)
     → IfSome (reply_of_stop s) (λ reply. status_of reply ≡ Fault → vault_faulted ⊎ IsUnreadable told words)
 stop_fault told words command vf (stop.Fault path) c (inl is) = λ e. inr (told_fault told words command path.now c is)
 stop_fault told words command vf (stop.Fault path) c (inr at) = λ e. inl at.0
-stop_fault told words command vf (stop.Refused path refusal) c st = λ e. absurd (refused_not_fault e)
 stop_fault told words command vf (stop.TooLong path) c st = λ e. absurd (limit_not_fault e)
 stop_fault told words command vf (stop.Faulty limit line) c st = λ e. absurd (file_fault_not_fault limit e)
+stop_fault told words command vf (stop.Chained text) c st = λ e. absurd (chain_not_fault e)
 stop_fault told words command vf stop.NoMemory c st = tt
 
 outcome_fault : (told : Option Files) (words : List (List ℕ)) (w : CheckWords) (vault_faulted : Type 0) (r : Result Verdict Stop) → IsCommand words (checks w)
-    → IfErr r (λ s. Stopped s told (λ fs. judged fs w) vault_faulted (check_paths w))
+    → IfErr r (λ s. StoppedBy s told (λ fs. WholeCheckAnswer fs w) vault_faulted (check_paths w))
     → IfSome (reply_of_outcome r) (λ reply. status_of reply ≡ Fault → vault_faulted ⊎ IsUnreadable told words)
 outcome_fault told words w vf (Ok verdict.Yes) c err = λ e. absurd (done_not_fault e)
 outcome_fault told words w vf (Ok (verdict.No x)) c err = λ e. absurd (no_not_fault e)
-outcome_fault told words w vf (Err s) c err = stop_fault told words (checks w) vf s c (check_stopped s told w vf err)
+outcome_fault told words w vf (Err s) c err = stop_fault told words (checks w) vf s c err
 
 reports_fault : (reply : Option Reply) (before after : Option (List ℕ)) (cause faulted : Type 0) (result : Status)
     → IfSome reply (λ r. status_of r ≡ Fault → cause) → Reports reply before after faulted result → result ≡ Fault → cause ⊎ faulted

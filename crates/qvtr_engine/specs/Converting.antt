@@ -28,9 +28,9 @@ IsLineOf limit line meta path error = (limit ≡ is_limit error) × (line ≡ er
 -- the work stops at this error of the file at the path, or memory could not be had
 abbrev pub IsMisread : Stop → MetaDesc → List ℕ → FileError → Type 0
 IsMisread (stop.Fault at) meta path error = ⊥
-IsMisread (stop.Refused at refusal) meta path error = ⊥
 IsMisread (stop.TooLong at) meta path error = ⊥
 IsMisread (stop.Faulty limit line) meta path error = IsLineOf limit line meta path error
+IsMisread (stop.Chained text) meta path error = ⊥
 IsMisread stop.NoMemory meta path error = Unit {0}
 
 -- memory could not be had: nothing is told of the file
@@ -50,9 +50,9 @@ IsStopBy false s meta path error = IsMisread s meta path error
 -- at an error that is told
 abbrev pub IsUnread : Stop → MetaDesc → List ℕ → (FileError → Type 0) → Type 0
 IsUnread (stop.Fault at) meta path IsError = ⊥
-IsUnread (stop.Refused at refusal) meta path IsError = ⊥
 IsUnread (stop.TooLong at) meta path IsError = ⊥
 IsUnread (stop.Faulty limit line) meta path IsError = (error : FileError) × IsTold error × IsError error × IsLineOf limit line meta path error
+IsUnread (stop.Chained text) meta path IsError = ⊥
 IsUnread stop.NoMemory meta path IsError = Unit {0}
 
 -- the text is that of the model that the bytes are
@@ -72,9 +72,9 @@ pub record IsShort (path text : List ℕ) (c : Conversion) : Type 0 where
 -- it is too long to be put, or memory could not be had
 abbrev pub IsTooLong : Stop → List ℕ → List ℕ → Type 0
 IsTooLong (stop.Fault at) path text = ⊥
-IsTooLong (stop.Refused at refusal) path text = ⊥
 IsTooLong (stop.TooLong at) path text = (at.now ≡ path) × (MAX_FILE < length text)
 IsTooLong (stop.Faulty limit line) path text = ⊥
+IsTooLong (stop.Chained told) path text = ⊥
 IsTooLong stop.NoMemory path text = Unit {0}
 
 -- what is put is the answer, where the files are told

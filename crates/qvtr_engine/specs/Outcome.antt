@@ -6,15 +6,15 @@ use Rattle.qvtr_engine.specs.declared.status.Status.TheVariants.{Fault, NoMemory
 use Rattle.qvtr_engine.specs.declared.outcome.Verdict.{Verdict}
 use Rattle.qvtr_engine.specs.declared.outcome.Stop.{Stop}
 use Rattle.qvtr_engine.specs.declared.outcome.Stop.TheVariants as stop
-use Rattle.qvtr_engine.specs.Reply.{Reply, status_of, text_of, unread, refused, faulty, too_long, no_memory_text}
+use Rattle.qvtr_engine.specs.Reply.{Reply, status_of, text_of, unread, faulty, too_long, chained, no_memory_text}
 use Rattle.qvtr_engine.specs.Stops.{reply_of_verdict}
 
 -- the reply that a stop is, unless memory could not be had
 abbrev pub reply_of_stop : Stop → Option Reply
 reply_of_stop (stop.Fault path) = Some (unread path.now)
-reply_of_stop (stop.Refused path refusal) = Some (refused path.now refusal)
 reply_of_stop (stop.TooLong path) = Some (too_long path.now)
 reply_of_stop (stop.Faulty is_limit line) = Some (faulty is_limit line)
+reply_of_stop (stop.Chained text) = Some (chained text)
 reply_of_stop stop.NoMemory = None
 
 -- the reply that an outcome is, unless memory could not be had

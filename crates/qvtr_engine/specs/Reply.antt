@@ -2,22 +2,19 @@
 use Rattle.std.specs.Prelude.{ℕ, Bool, List, [], ◌∷◌, codes, if◌then◌else◌}
 use Rattle.std.specs.List.{concat}
 use Rattle.qvtr_engine.specs.declared.status.Status.{Status}
-use Rattle.qvtr_engine.specs.declared.status.Status.TheVariants.{Done, No, Usage, Fault, Refused, Limit}
-use Rattle.qvtr_engine.specs.declared.outcome.Counterexample.{Counterexample}
-use Rattle.qvtr_engine.specs.declared.outcome.Refusal.{Refusal}
-use Rattle.qvtr_engine.specs.declared.outcome.Refusal.TheVariants.{Thin}
+use Rattle.qvtr_engine.specs.declared.status.Status.TheVariants.{Done, No, Usage, Fault, Refused, Chain, Limit}
 
--- The words are no command; the file at a path couldn't be read; it is refused; a fault of a file is told by this line, for a limit that
--- is passed or not; the file at a path is too long; the relation holds; it fails, as an object of the source shows; the file at a path
--- is put with these bytes.
+-- The words are no command; the file at a path couldn't be read; a fault of a file is told by this line, for a limit that
+-- is passed or not; the file at a path is too long; the relations hold; they fail, as this text tells; a chain of calls is refused, which this
+-- text tells; the file at a path is put with these bytes.
 pub data Reply : Type 0 where
   misused : Reply
   unread : List ℕ → Reply
-  refused : List ℕ → Refusal → Reply
   faulty : Bool → List ℕ → Reply
   too_long : List ℕ → Reply
   holds : Reply
-  fails : Counterexample → Reply
+  fails : List ℕ → Reply
+  chained : List ℕ → Reply
   converted : List ℕ → List ℕ → Reply
 
 -- the status of a fault of a file
@@ -27,11 +24,11 @@ status_of_fault is_limit = if is_limit then Limit else Refused
 abbrev pub status_of : Reply → Status
 status_of misused = Usage
 status_of (unread path) = Fault
-status_of (refused path refusal) = Refused
 status_of (faulty is_limit line) = status_of_fault is_limit
 status_of (too_long path) = Limit
 status_of holds = Done
-status_of (fails c) = No
+status_of (fails text) = No
+status_of (chained text) = Chain
 status_of (converted path bytes) = Done
 
 abbrev pub usage_text : List ℕ
@@ -39,13 +36,6 @@ usage_text = codes "usage\n"
 
 abbrev pub fault_text : List ℕ → List ℕ
 fault_text path = concat (codes "fault " ∷ path ∷ codes "\n" ∷ [])
-
--- the word that is printed of a refusal
-abbrev pub refusal_word : Refusal → List ℕ
-refusal_word Thin = codes "Thin"
-
-abbrev pub refused_text : List ℕ → List ℕ → List ℕ
-refused_text path word = concat (codes "refused " ∷ path ∷ codes " " ∷ word ∷ codes "\n" ∷ [])
 
 abbrev pub too_long_text : List ℕ → List ℕ
 too_long_text path = concat (codes "limit bytes " ∷ path ∷ codes "\n" ∷ [])
@@ -56,21 +46,14 @@ done_text = codes "done\n"
 abbrev pub yes_text : List ℕ
 yes_text = codes "yes\n"
 
-abbrev pub no_text : Counterexample → List ℕ
-no_text c = concat
-    (codes "no\n"
-    ∷ codes "relation " ∷ c.relation ∷ codes "\n"
-    ∷ codes "  " ∷ c.variable ∷ codes " = '" ∷ c.value ∷ codes "'\n"
-    ∷ codes "  " ∷ c.source ∷ codes " = " ∷ c.model ∷ codes ":" ∷ c.identifier ∷ codes "\n" ∷ [])
-
 abbrev pub text_of : Reply → List ℕ
 text_of misused = usage_text
 text_of (unread path) = fault_text path
-text_of (refused path refusal) = refused_text path (refusal_word refusal)
 text_of (faulty is_limit line) = line
 text_of (too_long path) = too_long_text path
 text_of holds = yes_text
-text_of (fails c) = no_text c
+text_of (fails text) = text
+text_of (chained text) = text
 text_of (converted path bytes) = done_text
 
 abbrev pub no_memory_text : List ℕ

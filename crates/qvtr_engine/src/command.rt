@@ -4,7 +4,7 @@ ghost use Rattle.std.specs.Option.{option_map};
 ghost use Rattle.qvtr_engine.specs.Command as spec;
 ghost use Rattle.qvtr_engine.specs.CommandView.{command_view};
 
-use crate::check_words::CheckRequest;
+use crate::check_request::CheckRequest;
 use crate::convert_words::ConvertRequest;
 
 /// A command.

@@ -125,7 +125,7 @@ fn metamodel_in<'w>(alloc: Global, path: &'w str, bytes: &[u8]) -> Result<MetaMo
 }
 
 /// The metamodel that a file is.
-fn metamodel_at<'w, F: Vault>(
+pub(crate) fn metamodel_at<'w, F: Vault>(
     alloc: Global,
     vault: &mut F,
     path: &'w str,
@@ -152,6 +152,39 @@ fn written(alloc: Global, model: &Model<'_>, form: Form) -> Result<Seq<u8>, NoMe
     }
 }
 
+/// The model that the bytes of a file are.
+fn model_in<'w, 'm>(
+    alloc: Global,
+    meta: &'m MetaModel,
+    path: &'w str,
+    bytes: &[u8],
+) -> Result<Model<'m>, Stop<'w>>
+    ensures ok { IfOk result (FileSpells meta.now externs.None bytes.now) }
+    ensures err { IfErr result (λ stop. IsUnread stop meta.now path.now (IsFileError meta.now externs.None bytes.now)) }
+{
+    match read_any(alloc, meta, bytes) {
+        Ok(read) => Ok(read.model),
+        Err(error) => Err(model_unread(alloc, meta, path, &error)),
+    }
+}
+
+/// The model that a file is.
+pub(crate) fn model_at<'w, 'm, F: Vault>(
+    alloc: Global,
+    vault: &mut F,
+    meta: &'m MetaModel,
+    path: &'w str,
+) -> Result<Model<'m>, Stop<'w>>
+    ensures ok { IfOk result (λ model. IfSome (F.files vault.old) (λ files. IsModelAt files path.now meta.now model)) }
+    ensures err { IfErr result (λ stop. StoppedBy stop (F.files vault.old) (λ files. Stops files path.now meta.now (IsFileError meta.now externs.None))
+        (Rose (F.faults vault.old) (F.faults vault.new)) (path.now ∷ [])) }
+    ensures files { F.files vault.new ≡ F.files vault.old }
+    ensures faults { F.faults vault.old ≤ F.faults vault.new }
+{
+    let bytes = load_file(alloc, vault, path)?;
+    model_in(alloc, meta, path, bytes.as_slice())
+}
+
 /// The text in this form of the model that the bytes of a file are.
 fn text_of<'w>(
     alloc: Global,
@@ -163,12 +196,10 @@ fn text_of<'w>(
     ensures ok { IfOk result (IsWritten meta.now bytes.now form) }
     ensures err { IfErr result (λ stop. IsUnread stop meta.now path.now (IsFileError meta.now externs.None bytes.now)) }
 {
-    match read_any(alloc, meta, bytes) {
-        Ok(read) => match written(alloc, &read.model, form) {
-            Ok(text) => Ok(text),
-            Err(NoMemory) => Err(Stop::NoMemory),
-        },
-        Err(error) => Err(model_unread(alloc, meta, path, &error)),
+    let model = model_in(alloc, meta, path, bytes)?;
+    match written(alloc, &model, form) {
+        Ok(text) => Ok(text),
+        Err(NoMemory) => Err(Stop::NoMemory),
     }
 }
 

@@ -2,26 +2,26 @@
 #![tactic(auto)]
 
 mod arguments;
+mod asked;
+mod check_request;
 mod check_words;
 mod checking;
 mod command;
 mod convert_words;
 mod converting;
-mod names;
+mod input_names;
+mod judging;
+mod numbering_inputs;
 mod outcome;
 mod paths;
+mod quoting;
+mod reading_inputs;
 mod rendering;
 mod reporting;
+mod script_input;
 mod status;
-mod template;
-mod thin_error;
-mod thin_model;
-mod thin_script;
+mod telling;
 mod top;
-mod verdict;
 
 pub use status::Status;
 pub use top::{one_answer, run};
-
-/// The greatest number of bytes of a thin script or a thin file.
-pub const MAX_THIN: usize = 65_536;

@@ -1,12 +1,23 @@
 //! Paths of the words, and which of them may stand beside each other.
-ghost use Rattle.std.specs.Prelude.{◌≡◌, map};
+ghost use Rattle.std.specs.Prelude.{◌≡◌, map, Some, None, MatchOption};
 ghost use Rattle.std.specs.List.{list_all};
 ghost use Rattle.qvtr_engine.specs.Paths as spec;
-
-use crate::template::strip;
+ghost use Rattle.qvtr_engine.specs.Reading.{behind};
 
 /// What a file's path has behind it while the file is being put.
 const NEW: &[u8] = b".new";
+
+/// The bytes behind a text, if it stands in front of them.
+#[tactic(auto, unfolding(crate::specs::Reading::behind))]
+fn strip<'a>(bytes: &'a [u8], text: &[u8]) -> Option<&'a [u8]>
+    ensures { MatchOption result (behind text.now bytes.now ≡ None) (λ rest. behind text.now bytes.now ≡ Some rest.now) }
+{
+    if !bytes.starts_with(text) {
+        return None;
+    }
+    let (_, rest) = bytes.split_at(text.len());
+    Some(rest)
+}
 
 /// Whether a path is the other one followed by `.new`.
 fn is_new_of(path: &[u8], other: &[u8]) -> bool
@@ -19,7 +30,7 @@ fn is_new_of(path: &[u8], other: &[u8]) -> bool
 }
 
 /// Whether neither of two paths is the other, or the other followed by `.new`.
-fn are_apart(path: &[u8], other: &[u8]) -> bool
+pub(crate) fn are_apart(path: &[u8], other: &[u8]) -> bool
     ensures { result ≡ spec.are_apart path.now other.now }
 {
     path != other && !is_new_of(path, other) && !is_new_of(other, path)

@@ -1,10 +1,10 @@
-ghost use Rattle.std.specs.Prelude.{◌≡◌, map, IfOk, IsSomeAnd};
+ghost use Rattle.std.specs.Prelude.{◌≡◌, ◌++◌, map, IfOk, IsSomeAnd, OnOk};
 ghost use Rattle.std.specs.List.{concat};
 ghost use Rattle.qvtr_engine.specs.Reply as spec;
 ghost use Rattle.qvtr_engine.specs.Stops.{reply_of_verdict};
 ghost use Rattle.qvtr_engine.specs.Outcome.{reply_of_stop, reply_of_outcome};
 
-use crate::outcome::{Counterexample, Refusal, Stop, Verdict};
+use crate::outcome::{Stop, Verdict};
 use crate::status::Status;
 use mof_metamodel::{NoMemory, Seq};
 use std::alloc::Global;
@@ -25,73 +25,37 @@ pub(crate) struct Page {
     pub text: Seq<u8>,
 }
 
+/// Puts texts behind a text, one behind the other.
+pub(crate) fn add_all(out: &mut Vec<u8>, texts: &[&[u8]]) -> Result<(), NoMemory>
+    ensures { OnOk result (out.new.items ≡ out.old.items ++ concat (map (λ t. t.now) texts.now)) }
+{
+    for text in texts {
+        out.extend_from_slice(text)?;
+    }
+    Ok(())
+}
+
 /// Texts, one behind the other.
-fn concatenate(alloc: Global, texts: &[&[u8]]) -> Result<Seq<u8>, NoMemory>
+pub(crate) fn concatenate(alloc: Global, texts: &[&[u8]]) -> Result<Seq<u8>, NoMemory>
     ensures { IfOk result (λ text. text ≡ concat (map (λ t. t.now) texts.now)) }
 {
     let mut all = Vec::new(alloc);
-    for text in texts {
-        all.extend_from_slice(text)?;
-    }
+    add_all(&mut all, texts)?;
     Ok(Seq::from_vec(all))
 }
 
-impl Refusal {
-    /// The word that is printed of it.
-    fn word(self) -> &'static str
-        ensures { result.now ≡ spec.refusal_word self }
-    {
-        match self {
-            Refusal::Thin => "Thin",
-        }
-    }
-}
-
+/// What is printed where the file at the path couldn't be read or put.
 pub(crate) fn fault_text(alloc: Global, path: &str) -> Result<Seq<u8>, NoMemory>
     ensures { IfOk result (λ text. text ≡ spec.fault_text path.now) }
 {
     concatenate(alloc, &[b"fault ", path.as_bytes(), b"\n"])
 }
 
-fn refused_text(alloc: Global, path: &str, word: &str) -> Result<Seq<u8>, NoMemory>
-    ensures { IfOk result (λ text. text ≡ spec.refused_text path.now word.now) }
-{
-    concatenate(
-        alloc,
-        &[b"refused ", path.as_bytes(), b" ", word.as_bytes(), b"\n"],
-    )
-}
-
+/// What is printed where the file at the path is too long.
 fn too_long_text(alloc: Global, path: &str) -> Result<Seq<u8>, NoMemory>
     ensures { IfOk result (λ text. text ≡ spec.too_long_text path.now) }
 {
     concatenate(alloc, &[b"limit bytes ", path.as_bytes(), b"\n"])
-}
-
-fn no_text(alloc: Global, counterexample: &Counterexample) -> Result<Seq<u8>, NoMemory>
-    ensures { IfOk result (λ text. text ≡ spec.no_text counterexample.now) }
-{
-    concatenate(
-        alloc,
-        &[
-            b"no\n",
-            b"relation ",
-            counterexample.relation.as_slice(),
-            b"\n",
-            b"  ",
-            counterexample.variable.as_slice(),
-            b" = '",
-            counterexample.value.as_slice(),
-            b"'\n",
-            b"  ",
-            counterexample.source.as_slice(),
-            b" = ",
-            counterexample.model.as_slice(),
-            b":",
-            counterexample.identifier.as_slice(),
-            b"\n",
-        ],
-    )
 }
 
 /// What is printed of a verdict.
@@ -104,9 +68,9 @@ fn render_verdict(alloc: Global, verdict: &Verdict) -> Result<Page, NoMemory>
             status: Status::Done,
             text: Seq::from_slice(alloc, b"yes\n")?,
         }),
-        Verdict::No(counterexample) => Ok(Page {
+        Verdict::No(text) => Ok(Page {
             status: Status::No,
-            text: no_text(alloc, counterexample)?,
+            text: Seq::from_slice(alloc, text.as_slice())?,
         }),
     }
 }
@@ -132,10 +96,6 @@ pub(crate) fn render_stop(alloc: Global, stop: &Stop<'_>) -> Result<Page, NoMemo
             status: Status::Fault,
             text: fault_text(alloc, path)?,
         }),
-        Stop::Refused(path, refusal) => Ok(Page {
-            status: Status::Refused,
-            text: refused_text(alloc, path, refusal.word())?,
-        }),
         Stop::TooLong(path) => Ok(Page {
             status: Status::Limit,
             text: too_long_text(alloc, path)?,
@@ -143,6 +103,10 @@ pub(crate) fn render_stop(alloc: Global, stop: &Stop<'_>) -> Result<Page, NoMemo
         Stop::Faulty { is_limit, line } => Ok(Page {
             status: status_of_fault(*is_limit),
             text: Seq::from_slice(alloc, line.as_slice())?,
+        }),
+        Stop::Chained(text) => Ok(Page {
+            status: Status::Chain,
+            text: Seq::from_slice(alloc, text.as_slice())?,
         }),
         Stop::NoMemory => Err(NoMemory),
     }

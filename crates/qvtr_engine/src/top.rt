@@ -2,8 +2,8 @@ ghost use Rattle.std.specs.Prelude.{◌≡◌, ◌≤◌, ◌⊎◌, List, ℕ, 
 ghost use Rattle.vault_io.specs.Counts.{Rose};
 ghost use Rattle.mof_metamodel.specs.declared.limits.TheConstants.{MAX_FILE};
 ghost use Rattle.object_tables.specs.Models.{ModelData};
-ghost use Rattle.qvtr_engine.specs.Answer.{Answer, HasOneAnswer};
-ghost use Rattle.qvtr_engine.specs.CheckWords.{CheckWords, IsCheck};
+ghost use Rattle.qvtr_engine.specs.Answer.{Answer, AreAlikeAnswers, HasOneAnswer};
+ghost use Rattle.qvtr_engine.specs.CheckWords.{CheckWords};
 ghost use Rattle.qvtr_engine.specs.Command.{IsUsage};
 ghost use Rattle.qvtr_engine.specs.CommandEnds.{CommandEnds};
 ghost use Rattle.qvtr_engine.specs.CommandView.{command_view};
@@ -11,6 +11,8 @@ ghost use Rattle.qvtr_engine.specs.ConvertAnswer.{IsConverted, text_in};
 ghost use Rattle.qvtr_engine.specs.ConvertWords.{ConvertWords, IsConvert};
 ghost use Rattle.qvtr_engine.specs.Reply.{Reply, misused, status_of, unread};
 ghost use Rattle.qvtr_engine.specs.Run.{Ends, HasCause, HasConverted, IsOwed, KeepsFiles};
+ghost use Rattle.qvtr_engine.specs.Verdicts.{HasVerdict, IsJudged};
+ghost use Rattle.qvtr_engine.specs.WholeCheckWords.{IsWholeCheck};
 
 use crate::checking::check;
 use crate::command::Command;
@@ -21,16 +23,15 @@ use crate::status::Status;
 use std::alloc::Global;
 use vault_io::{Sink, Vault};
 
-/// Over files that are told, words have one answer at most; those that are no command have the answer that says so, and those of `check`
-/// and of `convert` have exactly one. It does nothing: its contract is this law.
+/// Over files that are told, words that are no command have the answer that says so, and those of `convert` have exactly one. Two answers to
+/// words are one, or tell two faults that stand in the script of a check, or two chains of its calls. It does nothing: its contract is this law.
 pub fn one_answer<F: Vault>(words: &[String], vault: &F)
     ensures usage { IfSome (F.files vault.now) (λ files. IsUsage (map string_bytes words.now) → Answer (map string_bytes words.now) files misused) }
-    ensures checks { IfSome (F.files vault.now) (λ files. (w : CheckWords) → IsCheck (map string_bytes words.now) w →
-        HasOneAnswer (map string_bytes words.now) files) }
     ensures conversions { IfSome (F.files vault.now) (λ files. (c : ConvertWords) → IsConvert (map string_bytes words.now) c →
         HasOneAnswer (map string_bytes words.now) files) }
     ensures single { IfSome (F.files vault.now) (λ files. (reply other : Reply)
-        → Answer (map string_bytes words.now) files reply → Answer (map string_bytes words.now) files other → reply ≡ other) }
+        → Answer (map string_bytes words.now) files reply → Answer (map string_bytes words.now) files other
+        → AreAlikeAnswers (map string_bytes words.now) files reply other) }
 {
     let _ = words;
     let _ = vault;
@@ -57,9 +58,9 @@ fn obey<F: Vault, K: Sink>(
 /// Runs the program: `words` are those after the program's name, `vault` has the files, and all that is printed goes to
 /// `out`.
 ///
-/// `check SCRIPT TARGET NAME=PATH NAME=PATH NAME=PATH NAME=PATH` checks a relation between two models in its direction
-/// towards the model TARGET (QVT 1.3, 7.2 and 7.3), and prints `yes`, or `no` with the least object of the source that has
-/// no partner. The files stay as they are.
+/// `check SCRIPT TARGET NAME=PATH..` checks the relations of the script between its models in the direction towards the model TARGET
+/// (QVT 1.3, 7.2, 7.3 and 7.10), and prints `yes`, or `no` with the first relation that fails and its least binding that has no partner. Each
+/// model and each metamodel of the script has a word NAME=PATH with its file, in XMI or JSON. The files stay as they are.
 ///
 /// `convert FORM META IN OUT` reads the model in the file IN by the metamodel in the file META, each in the form that it has, puts it as OUT
 /// in the form `xmi` (XMI 2.5.1) or `json` (RFC 8259), and prints `done`. Only OUT changes, and only where the status is `Done`,
@@ -74,6 +75,12 @@ pub fn run<F: Vault, K: Sink>(alloc: Global, words: &[String], vault: &mut F, ou
         (Rose (F.faults vault.old) (F.faults vault.new) ⊎ Rose (K.faults out.old) (K.faults out.new)) result) }
     ensures only { IfSome (F.files vault.old) (λ files. (reply : Reply) → Answer (map string_bytes words.now) files reply →
         IsOwed (status_of reply) (Rose (F.faults vault.old) (F.faults vault.new) ⊎ Rose (K.faults out.old) (K.faults out.new)) result) }
+
+    // A check that ends with a verdict has passed each step, and this is the verdict; and where the files have one, it is given.
+    ensures judged { IfSome (F.files vault.old) (λ files. (w : CheckWords) → IsWholeCheck (map string_bytes words.now) w → IsJudged result →
+        (reply : Reply) × HasVerdict files w reply × (status_of reply ≡ result)) }
+    ensures verdict { IfSome (F.files vault.old) (λ files. (w : CheckWords) (reply : Reply) → IsWholeCheck (map string_bytes words.now) w →
+        HasVerdict files w reply → IsOwed (status_of reply) (Rose (F.faults vault.old) (F.faults vault.new) ⊎ Rose (K.faults out.old) (K.faults out.new)) result) }
 
     // A conversion that is done has put the text of the model that the words name; and where they name one, it is done.
     ensures converted { IfSome (F.files vault.old) (λ files. (c : ConvertWords) → IsConvert (map string_bytes words.now) c → result ≡ Status.Done →

@@ -1,10 +1,49 @@
+use Rattle.std.proofs.Common.{subst}
+use Rattle.std.specs.Prelude.{IfOk, IfErr, IfSome}
 use Rattle.std.proofs.lemmas.Result.{err_from_is_err_and}
-use Rattle.qvtr_engine.specs.CheckView.{check_view}
-use Rattle.qvtr_engine.proofs.StopLaws.{script_not_loaded}
+use Rattle.vault_io.specs.Counts.{Rose}
+use Rattle.qvtr_engine.specs.CheckWords.{check_paths}
+use Rattle.qvtr_engine.specs.CheckedNames.{NamesStop}
+use Rattle.qvtr_engine.specs.RequestView.{request_view}
+use Rattle.qvtr_engine.specs.ScriptFile.{ScriptStops}
+use Rattle.qvtr_engine.specs.Stops.{StoppedBy, reply_of_verdict}
+use Rattle.qvtr_engine.specs.WholeCheckAnswer.{AnswerOver, WholeCheckAnswer}
+use Rattle.qvtr_engine.proofs.CheckingLaws.{ok_wider, err_wider, script_stops, names_stop, names_go_on}
+use Rattle.qvtr_engine.proofs.StopLaws.{rose_from, stopped_wider, on_stop_stopped, among_front}
 use Rattle.qvtr_engine.proofs.checking.check.Goals as goal
 
-pub returns-in_err-bytes-clause-err : goal.returns-in_err-bytes-clause-err
-returns-in_err-bytes-clause-err g c =
+pub returns-in_err-script-clause-err : goal.returns-in_err-script-clause-err
+returns-in_err-script-clause-err g c =
     let p = err_from_is_err_and c.from_residual.result c.from_residual.ensures.1 in
-    rw (p.1, p.2) (script_not_loaded c.in_err-bytes.field-0.0 (g.F.Vault.files c.args.vault.now) (check_view c.args.request.now)
-    (g.F.Vault.faults c.args.vault.now) (g.F.Vault.faults c.load_thin.new.vault) c.in_err-bytes.ensures.err)
+    let told = g.F.Vault.files c.args.vault.now in
+    let w = request_view c.args.request.now in
+    rw (p.1, p.2) (stopped_wider c.in_err-script.field-0.0 told (λ files. ScriptStops files w.script) (λ files. WholeCheckAnswer files w) _ _ _ (check_paths w)
+    (script_stops told w) (λ x. x) (λ path is. among_front w.script _ path is) c.in_err-script.ensures.err)
+
+pub returns-in_err-fit_names-clause-err : goal.returns-in_err-fit_names-clause-err
+returns-in_err-fit_names-clause-err g c =
+    let p = err_from_is_err_and c.from_residual-in_err-fit_names.result c.from_residual-in_err-fit_names.ensures.1 in
+    let told = g.F.Vault.files c.args.vault.now in
+    let w = request_view c.args.request.now in
+    rw (p.1, p.2) (on_stop_stopped c.in_err-fit_names.field-0.0 told (NamesStop w c.in_ok-script.script) (λ files. WholeCheckAnswer files w) _ (check_paths w)
+    (names_stop told w c.in_ok-script.script c.in_ok-script.ensures.ok) c.in_err-fit_names.ensures.err)
+
+pub returns-clause-ok : goal.returns-clause-ok
+returns-clause-ok g c =
+    let told = g.F.Vault.files c.args.vault.now in
+    let w = request_view c.args.request.now in
+    let s = c.in_ok-script.script in
+    ok_wider c.check_files.result told (λ files. AnswerOver files w s) (λ files. WholeCheckAnswer files w) (names_go_on told w s c.in_ok-script.ensures.ok c.in_ok-fit_names.ensures.ok)
+    (subst (λ t. IfOk c.check_files.result (λ v. IfSome t (λ files. AnswerOver files w s (reply_of_verdict v)))) c.in_ok-script.ensures.files c.check_files.ensures.ok)
+
+pub returns-clause-err : goal.returns-clause-err
+returns-clause-err g c =
+    let told = g.F.Vault.files c.args.vault.now in
+    let before = g.F.Vault.faults c.args.vault.now in
+    let mid = g.F.Vault.faults c.script_at.new.vault in
+    let after = g.F.Vault.faults c.check_files.new.vault in
+    let w = request_view c.args.request.now in
+    let s = c.in_ok-script.script in
+    err_wider c.check_files.result told (λ files. AnswerOver files w s) (λ files. WholeCheckAnswer files w) (Rose mid after) (Rose before after) (check_paths w)
+    (names_go_on told w s c.in_ok-script.ensures.ok c.in_ok-fit_names.ensures.ok) (rose_from before mid after c.in_ok-script.ensures.faults)
+    (subst (λ t. IfErr c.check_files.result (λ stop. StoppedBy stop t (λ files. AnswerOver files w s) (Rose mid after) (check_paths w))) c.in_ok-script.ensures.files c.check_files.ensures.err)

@@ -1,24 +1,41 @@
-use Rattle.std.proofs.Common.{◌∙◌, ap, sym}
-use Rattle.std.proofs.lemmas.Result.{MatchResult-weaker}
-use Rattle.qvtr_engine.specs.CheckAnswer.{comes_first}
-use Rattle.qvtr_engine.specs.ScriptView.{names_view}
-use Rattle.qvtr_engine.specs.FileView.{file_view}
-use Rattle.qvtr_engine.specs.CheckView.{check_view}
-use Rattle.qvtr_engine.proofs.StopLaws.{stopped_in_order, stopped_turned}
+use Rattle.std.proofs.lemmas.Result.{err_from_is_err_and, IfErr-weaker}
+use Rattle.qvtr_engine.specs.CheckWords.{check_paths}
+use Rattle.qvtr_engine.specs.CheckedModels.{ModelsStop, numbered_models}
+use Rattle.qvtr_engine.specs.FoundFiles.{items_of}
+use Rattle.qvtr_engine.specs.RequestView.{request_view}
+use Rattle.qvtr_engine.specs.WholeCheckAnswer.{AnswerFor, AnswerWith}
+use Rattle.qvtr_engine.proofs.CheckingLaws.{ok_wider, ok_told, models_stop, models_go_on}
+use Rattle.qvtr_engine.proofs.StopLaws.{stopped_wider, on_stop_stopped}
 use Rattle.qvtr_engine.proofs.checking.check_models.Goals as goal
 
-pub returns-then-comes_first-clause-err : goal.returns-then-comes_first-clause-err
-returns-then-comes_first-clause-err g c =
-    let n = names_view c.args.script.now in
-    let first = sym (c.if-comes_first.ensures ∙ ap (λ fs. comes_first fs n.source_model n.target_model) c.files.ensures) in
-    MatchResult-weaker c.check_in_order.result c.check_in_order.ensures.err (λ x t. t)
-    (λ s st. stopped_in_order s (g.F.Vault.files c.args.vault.now) (check_view c.args.request.now) n (file_view c.source_file-source.result) (file_view c.target_file-target.result) _
-    c.source_file-source.ensures c.target_file-target.ensures first c.requires st)
+pub returns-in_err-found-clause-err : goal.returns-in_err-found-clause-err
+returns-in_err-found-clause-err g c =
+    let p = err_from_is_err_and c.from_residual.result c.from_residual.ensures.1 in
+    let told = g.F.Vault.files c.args.vault.now in
+    let w = request_view c.args.request.now in
+    let s = c.args.script.now in
+    let metas = c.args.metas.now in
+    rw (p.1, p.2) (stopped_wider c.in_err-found.field-0.0 told (λ files. ModelsStop files w s metas) (λ files. AnswerWith files w s metas) _ _ (check_paths w) (check_paths w)
+    (models_stop told w s metas) (λ x. x) (λ path is. is) c.in_err-found.ensures.err)
 
-pub returns-else-comes_first-clause-err : goal.returns-else-comes_first-clause-err
-returns-else-comes_first-clause-err g c =
-    let n = names_view c.args.script.now in
-    let first = sym (c.if-comes_first.ensures ∙ ap (λ fs. comes_first fs n.source_model n.target_model) c.files.ensures) in
-    MatchResult-weaker c.check_in_order-else-comes_first.result c.check_in_order-else-comes_first.ensures.err (λ x t. t)
-    (λ s st. stopped_turned s (g.F.Vault.files c.args.vault.now) (check_view c.args.request.now) n (file_view c.source_file-source.result) (file_view c.target_file-target.result) _
-    c.source_file-source.ensures c.target_file-target.ensures first c.requires st)
+pub returns-clause-ok : goal.returns-clause-ok
+returns-clause-ok g c =
+    let told = g.F.Vault.files c.args.vault.now in
+    let w = request_view c.args.request.now in
+    let s = c.args.script.now in
+    let metas = c.args.metas.now in
+    let models = items_of c.in_ok-found.found.items in
+    ok_wider c.check_read.result told (λ files. AnswerFor w s metas (numbered_models w s models)) (λ files. AnswerWith files w s metas)
+    (models_go_on told w s metas models c.in_ok-found.ensures.ok)
+    (ok_told c.check_read.result told (AnswerFor w s metas (numbered_models w s models)) c.check_read.ensures.ok)
+
+pub returns-clause-err : goal.returns-clause-err
+returns-clause-err g c =
+    let told = g.F.Vault.files c.args.vault.now in
+    let w = request_view c.args.request.now in
+    let s = c.args.script.now in
+    let metas = c.args.metas.now in
+    let models = items_of c.in_ok-found.found.items in
+    IfErr-weaker c.check_read.result _ _
+    (λ stop on. on_stop_stopped stop told (AnswerFor w s metas (numbered_models w s models)) (λ files. AnswerWith files w s metas) _ (check_paths w)
+    (models_go_on told w s metas models c.in_ok-found.ensures.ok) on) c.check_read.ensures.err

@@ -4,7 +4,7 @@ use Rattle.qvtr_engine.specs.declared.status.Status.TheVariants.{Usage}
 use Rattle.qvtr_engine.specs.Reply.{usage_text}
 use Rattle.qvtr_engine.specs.CommandView.{command_view}
 use Rattle.qvtr_engine.proofs.CommandLaws.{command_found, no_command_usage}
-use Rattle.qvtr_engine.proofs.RunLaws.{usage_ends, usage_finished, command_ends, command_not_usage, command_fault, command_files, all_cause, all_only, all_converted, all_converts}
+use Rattle.qvtr_engine.proofs.RunLaws.{usage_ends, usage_finished, command_ends, command_not_usage, command_fault, command_files, all_cause, all_only, all_judged, all_verdict, all_converted, all_converts}
 use Rattle.qvtr_engine.proofs.top.run.Goals as goal
 
 pub returns-in-None-clause-ends : goal.returns-in-None-clause-ends
@@ -19,6 +19,16 @@ returns-in-None-clause-cause g c =
 pub returns-in-None-clause-only : goal.returns-in-None-clause-only
 returns-in-None-clause-only g c =
     all_only (g.F.Vault.files c.args.vault.now) (map string_bytes c.args.words.now) _ _ (g.K.Sink.told c.args.out.now) (g.K.Sink.told c.finish.new.out) (g.F.Vault.files c.args.vault.now) c.finish.result
+    (usage_ends (g.F.Vault.files c.args.vault.now) (map string_bytes c.args.words.now) _ _ _ _ c.finish.result (sym c.in-None.ensures) c.finish.ensures.ends)
+
+pub returns-in-None-clause-judged : goal.returns-in-None-clause-judged
+returns-in-None-clause-judged g c =
+    all_judged (g.F.Vault.files c.args.vault.now) (map string_bytes c.args.words.now) ⊥ _ (g.K.Sink.told c.args.out.now) (g.K.Sink.told c.finish.new.out) (g.F.Vault.files c.args.vault.now) c.finish.result
+    (usage_ends (g.F.Vault.files c.args.vault.now) (map string_bytes c.args.words.now) ⊥ _ _ _ c.finish.result (sym c.in-None.ensures) c.finish.ensures.ends)
+
+pub returns-in-None-clause-verdict : goal.returns-in-None-clause-verdict
+returns-in-None-clause-verdict g c =
+    all_verdict (g.F.Vault.files c.args.vault.now) (map string_bytes c.args.words.now) _ _ (g.K.Sink.told c.args.out.now) (g.K.Sink.told c.finish.new.out) (g.F.Vault.files c.args.vault.now) c.finish.result
     (usage_ends (g.F.Vault.files c.args.vault.now) (map string_bytes c.args.words.now) _ _ _ _ c.finish.result (sym c.in-None.ensures) c.finish.ensures.ends)
 
 pub returns-in-None-clause-converted : goal.returns-in-None-clause-converted
@@ -53,6 +63,20 @@ returns-in-Some-clause-only g c =
     let words = map string_bytes c.args.words.now in
     let command = command_view c.in-Some.command in
     all_only (g.F.Vault.files c.args.vault.now) words _ _ (g.K.Sink.told c.args.out.now) (g.K.Sink.told c.obey.new.out) (g.F.Vault.files c.obey.new.vault) c.obey.result
+    (command_ends (g.F.Vault.files c.args.vault.now) words command _ _ _ _ _ c.obey.result (command_found words command (sym c.in-Some.ensures)) c.obey.ensures.ends)
+
+pub returns-in-Some-clause-judged : goal.returns-in-Some-clause-judged
+returns-in-Some-clause-judged g c =
+    let words = map string_bytes c.args.words.now in
+    let command = command_view c.in-Some.command in
+    all_judged (g.F.Vault.files c.args.vault.now) words _ _ (g.K.Sink.told c.args.out.now) (g.K.Sink.told c.obey.new.out) (g.F.Vault.files c.obey.new.vault) c.obey.result
+    (command_ends (g.F.Vault.files c.args.vault.now) words command _ _ _ _ _ c.obey.result (command_found words command (sym c.in-Some.ensures)) c.obey.ensures.ends)
+
+pub returns-in-Some-clause-verdict : goal.returns-in-Some-clause-verdict
+returns-in-Some-clause-verdict g c =
+    let words = map string_bytes c.args.words.now in
+    let command = command_view c.in-Some.command in
+    all_verdict (g.F.Vault.files c.args.vault.now) words _ _ (g.K.Sink.told c.args.out.now) (g.K.Sink.told c.obey.new.out) (g.F.Vault.files c.obey.new.vault) c.obey.result
     (command_ends (g.F.Vault.files c.args.vault.now) words command _ _ _ _ _ c.obey.result (command_found words command (sym c.in-Some.ensures)) c.obey.ensures.ends)
 
 pub returns-in-Some-clause-converted : goal.returns-in-Some-clause-converted

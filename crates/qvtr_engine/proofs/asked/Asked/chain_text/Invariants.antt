@@ -1,0 +1,12 @@
+use Rattle.std.proofs.Common.{◌≡◌, drop, ◌++◌}
+use Rattle.std.specs.List.{flat_map}
+use Rattle.relation_calls.specs.Names.{chain_named}
+use Rattle.qvtr_engine.specs.AskedView.{asked_view}
+use Rattle.qvtr_engine.specs.CheckReply.{call_line}
+use Rattle.qvtr_engine.proofs.asked.Asked.chain_text.Given as goal
+
+-- what is there and the lines that are left are all of the text
+abbrev pub invariant-loop-call : goal.invariant-loop-call
+invariant-loop-call l =
+    l.out.items ++ flat_map (call_line (asked_view l.self)) (chain_named (drop l.call-index l.chain))
+    ≡ l.word ++ flat_map (call_line (asked_view l.self)) (chain_named l.chain)

@@ -1,0 +1,8 @@
+use Rattle.std.proofs.Common.{◌≡◌, ◌++◌}
+use Rattle.std.specs.List.{flat_map}
+use Rattle.qvtr_engine.specs.CheckReply.{escaped}
+use Rattle.qvtr_engine.proofs.quoting.push_all_escaped.Given as goal
+
+-- the characters so far are written
+abbrev pub invariant-loop-character : goal.invariant-loop-character
+invariant-loop-character l = l.written ≡ l.initial.written ++ flat_map escaped l.yielded

@@ -1,0 +1,24 @@
+use Rattle.std.proofs.Common.{Bool, List, [], ◌∷◌, map, sym, ◌∙◌, ap}
+use Rattle.std.specs.Set.{is_member}
+use Rattle.std.proofs.lemmas.List.{map-append}
+use Rattle.mof_metamodel.specs.Characters.{same_name}
+use Rattle.qvtr_engine.specs.CheckView.{bound_view}
+use Rattle.qvtr_engine.specs.CheckWords.{Bound}
+use Rattle.qvtr_engine.specs.CheckedNames.{name_of}
+use Rattle.qvtr_engine.specs.RequestView.{request_view}
+use Rattle.qvtr_engine.proofs.ReadingInputLaws.{chosen_more, chosen_same}
+use Rattle.qvtr_engine.proofs.reading_inputs.metamodel_files.Goals.{then-is_listed+in_ok-push, else-is_listed}
+use Rattle.qvtr_engine.proofs.reading_inputs.metamodel_files.Goals as goal
+
+pub loop-i-preserved : goal.loop-i-preserved
+loop-i-preserved c =
+    let files : List Bound = (request_view c.args.request.now).files in
+    let test : Bound → Bool = (λ b. is_member same_name c.args.names.now (name_of b)) in
+    let out : List Bound = map bound_view c.loop-i.files.items in
+    let file : Bound = bound_view c.file-file.result in
+    elim c.if-is_listed.branch [
+      | then-is_listed+in_ok-push w ↦
+          rw w.files-is (ap (map bound_view) w.in_ok-push.ensures.items ∙ map-append bound_view c.loop-i.files.items (c.file-file.result ∷ [])
+          ∙ chosen_more test files c.loop-i.i file out c.file-file.ensures (sym c.is_listed.ensures ∙ w.if-is_listed.true) c.loop-i.invariant)
+      | else-is_listed w ↦ rw w.files-is (chosen_same test files c.loop-i.i file out c.file-file.ensures (sym c.is_listed.ensures ∙ w.if-is_listed.false) c.loop-i.invariant)
+    ]

@@ -1,0 +1,20 @@
+use Rattle.std.proofs.Common.{◌≡◌, ◌≤◌, map, take}
+use Rattle.std.specs.Prelude.{IfSome}
+use Rattle.std.specs.List.{AllZip}
+use Rattle.qvtr_engine.specs.CheckView.{bound_view}
+use Rattle.qvtr_engine.specs.CheckedNames.{name_of}
+use Rattle.qvtr_engine.specs.CheckedMetamodels.{IsMeta}
+use Rattle.qvtr_engine.specs.FoundFiles.{items_of, names_of}
+use Rattle.qvtr_engine.proofs.reading_inputs.metamodels_at.Given as goal
+
+-- the metamodels of the files so far were read, and the vault's files are as they were
+abbrev pub invariant-loop-i : goal.invariant-loop-i
+invariant-loop-i g l =
+    let told = g.F.Vault.files in
+    let faults = g.F.Vault.faults in
+    record {
+      same_files : told l.vault ≡ told l.fn.vault;
+      later : faults l.fn.vault ≤ faults l.vault;
+      names : names_of l.found.items ≡ map name_of (take l.i (map bound_view l.files));
+      all : IfSome (told l.fn.vault) (λ files. AllZip (IsMeta files) (take l.i (map bound_view l.files)) (items_of l.found.items));
+    }

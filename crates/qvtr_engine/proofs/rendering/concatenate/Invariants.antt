@@ -1,7 +1,0 @@
-use Rattle.std.proofs.Common.{◌≡◌, drop, map, ◌++◌}
-use Rattle.std.specs.List.{concat}
-use Rattle.qvtr_engine.proofs.rendering.concatenate.Given as goal
-
--- what is there and the texts that are left are all texts
-abbrev pub invariant-loop-text : goal.invariant-loop-text
-invariant-loop-text l = l.all.items ++ concat (map (λ t. t.now) (drop l.text-index l.texts)) ≡ concat (map (λ t. t.now) l.texts)
