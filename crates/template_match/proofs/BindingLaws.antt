@@ -1,25 +1,20 @@
 -- Sorted, each once, what the search finds is what is looked for; and what is looked for is what meets the source or the target.
-use Rattle.std.specs.Prelude.{◌≡◌, ◌⊎◌, ◌↔◌, ℕ, List, [], ◌∷◌, map, length, Contains, AllPairs, IsTrue}
+use Rattle.std.specs.Prelude.{◌≡◌, ◌⊎◌, ◌↔◌, List, [], ◌∷◌, length, Contains, AllPairs}
 use Rattle.std.specs.Ordering.{ordering_reverse}
 use Rattle.std.specs.declared.cmp.Ordering.{Ordering}
 use Rattle.std.specs.declared.cmp.Ordering.TheVariants.{Less, Equal, Greater}
-use Rattle.std.proofs.Common.{refl, sym, ap, subst, ◌∙◌, arith, inl, inr, zero, suc}
-use Rattle.object_tables.specs.Models.{ModelData}
-use Rattle.qv_syntax.specs.declared.program.Program.{Program}
-use Rattle.qv_syntax.specs.declared.program.Rel.{Rel}
-use Rattle.qvtr_semantics.specs.declared.datum.Datum.{Datum}
+use Rattle.std.proofs.Common.{refl, sym, subst, ◌∙◌, arith, inl, inr, zero, suc}
 use Rattle.qvtr_semantics.specs.declared.binding.Binding.{Binding}
-use Rattle.qvtr_semantics.specs.Templates.{Values, value_at}
+use Rattle.qvtr_semantics.specs.Templates.{Values}
 use Rattle.qvtr_semantics.specs.Satisfaction.{IsLess}
 use Rattle.template_match.proofs.ListLaws.{contains_later}
 use Rattle.template_match.specs.Order.{values_order, binding_order}
 use Rattle.template_match.specs.Each.{IsEachOnce}
 use Rattle.template_match.specs.Problems.{Problem}
 use Rattle.template_match.specs.Search.{sought, search_from, values_of}
-use Rattle.template_match.specs.Posed.{IsPosed, IsPartial, IsSought}
+use Rattle.template_match.specs.Posed.{IsPosed, IsSought}
 use Rattle.template_match.proofs.ListLaws.{contains_map}
-use Rattle.template_match.proofs.ValueLaws.{same_values}
-use Rattle.template_match.proofs.SideLaws.{Meets, meets_parts, Valued, valued}
+use Rattle.template_match.proofs.SideLaws.{meets_parts, valued}
 use Rattle.template_match.proofs.OrderLaws.{AreBound, values_total, less_is, ties_are, in_pairs}
 use Rattle.template_match.proofs.SearchLaws.{exact, one_binding}
 

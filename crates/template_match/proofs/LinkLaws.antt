@@ -1,5 +1,5 @@
 -- The links of a template hold in each binding that meets the template.
-use Rattle.std.specs.Prelude.{◌≡◌, ℕ, zero, suc, Bool, true, false, ◌&&◌, ◌||◌, not, if◌then◌else◌, List, [], ◌∷◌, ◌++◌, map, Option, None, Some, ⊤, length}
+use Rattle.std.specs.Prelude.{◌≡◌, ℕ, zero, suc, Bool, true, false, ◌&&◌, ◌||◌, not, if◌then◌else◌, List, [], ◌∷◌, ◌++◌, map, Option, None, Some, length}
 use Rattle.std.specs.List.{AllByRecursion, flat_map, list_all}
 use Rattle.std.specs.Option.{option_map_or}
 use Rattle.std.proofs.Common.{refl, sym, ap, subst, ◌∙◌}
@@ -7,7 +7,6 @@ use Rattle.std.proofs.lemmas.Bool.{and_parts, true≢false}
 use Rattle.mof_metamodel.specs.declared.desc.PropId.{PropId}
 use Rattle.object_tables.specs.Models.{ModelData}
 use Rattle.qv_syntax.specs.declared.program.Program.{Program}
-use Rattle.qv_syntax.specs.declared.program.Rel.{Rel}
 use Rattle.qv_syntax.specs.declared.program.Dom.{Dom}
 use Rattle.qv_syntax.specs.declared.program.Tmpl.{Tmpl, out-Tmpl, roll-Tmpl, map-Tmpl, ind-Tmpl, fold-roll-Tmpl, roll-out-Tmpl}
 use Rattle.qv_syntax.specs.declared.program.Item.{Item, roll-Item, map-Item, fold-roll-Item}
@@ -23,7 +22,7 @@ use Rattle.qvtr_semantics.specs.declared.datum.Datum.{Datum}
 use Rattle.qvtr_semantics.specs.declared.out.Out.TheVariants.{Invalid}
 use Rattle.qvtr_semantics.specs.Outs.{datum_of}
 use Rattle.qvtr_semantics.specs.Objects.{held_at}
-use Rattle.qvtr_semantics.specs.Expressions.{Queries, setting, queries_within, node_meaning, meaning, bound_value, scope_of, variable, value_for}
+use Rattle.qvtr_semantics.specs.Expressions.{Queries, setting, queries_within, scope_of, variable, value_for}
 use Rattle.qvtr_semantics.specs.Templates.{Values, SlotMeaning, ItemMeaning, Pattern, slot_meaning, item_meaning, tmpl_meaning, object_matches, is_of_class, pattern, meets, value_at, has}
 use Rattle.qvtr_semantics.specs.Bindings.{template_meets, is_target_domain}
 use Rattle.qvtr_semantics.proofs.ExpressionLaws.{typed_is, variable_is, node_of}
@@ -31,7 +30,7 @@ use Rattle.template_match.specs.declared.side.Side.{Side}
 use Rattle.template_match.specs.declared.side.Side.TheVariants.{Source, Target}
 use Rattle.template_match.specs.declared.link.Link.{Link}
 use Rattle.template_match.specs.Meeting.{slot_of, item_of}
-use Rattle.template_match.specs.Links.{Held, Linked, variable_alone, own_link, value_links, item_links, tmpl_links, linked, links_of_item, held_in, links_of, domain_links, side_links}
+use Rattle.template_match.specs.Links.{Held, Linked, variable_alone, own_link, value_links, item_links, tmpl_links, linked, links_of_item, held_in, links_of, domain_links}
 use Rattle.template_match.specs.Sides.{is_of_side, domain_meets}
 use Rattle.template_match.proofs.ListLaws.{all_append}
 

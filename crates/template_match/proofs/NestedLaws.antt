@@ -1,11 +1,10 @@
 -- An item that is a variable alone, at any depth of a side's domain, is one of the side's links.
-use Rattle.std.specs.Prelude.{◌≡◌, ℕ, zero, suc, Bool, true, false, List, [], ◌∷◌, ◌++◌, map, Option, None, Some, Contains, if◌then◌else◌}
+use Rattle.std.specs.Prelude.{◌≡◌, ℕ, true, List, [], ◌++◌, map, Some, Contains, if◌then◌else◌}
 use Rattle.std.specs.List.{flat_map}
 use Rattle.std.specs.Option.{option_map_or}
-use Rattle.std.proofs.Common.{refl, sym, ap, subst, ◌∙◌, arith}
+use Rattle.std.proofs.Common.{refl, sym, ap, subst, ◌∙◌}
 use Rattle.mof_metamodel.specs.declared.desc.PropId.{PropId}
 use Rattle.mof_metamodel.proofs.PropLemmas.{to_flat_map}
-use Rattle.qv_syntax.specs.declared.ty.Ty.{Ty}
 use Rattle.qv_syntax.specs.declared.program.Program.{Program}
 use Rattle.qv_syntax.specs.declared.program.Rel.{Rel}
 use Rattle.qv_syntax.specs.declared.program.Dom.{Dom}
@@ -19,8 +18,8 @@ use Rattle.qv_syntax.specs.declared.typed.Node.{Node, out-Node, out-roll-Node}
 use Rattle.qv_syntax.specs.declared.typed.Node.TheVariants as forms
 use Rattle.qv_syntax.specs.declared.typed.Call.TheOpen as nodes
 use Rattle.qv_syntax.specs.Parts.{IsNested, HasItem}
-use Rattle.qv_syntax.specs.Relations.{IsTemplateOf, IsItemOf, IsItemExpression, IsItemAlone}
-use Rattle.template_match.proofs.ListLaws.{contains_first, contains_later, contains_left, contains_right}
+use Rattle.qv_syntax.specs.Relations.{IsItemAlone}
+use Rattle.template_match.proofs.ListLaws.{contains_first, contains_right}
 use Rattle.template_match.specs.declared.side.Side.{Side}
 use Rattle.template_match.specs.declared.link.Link.{Link}
 use Rattle.template_match.specs.Links.{Held, Linked, variable_alone, own_link, value_links, item_links, tmpl_links, linked, links_of_item, held_in, links_of, domain_links, side_links}

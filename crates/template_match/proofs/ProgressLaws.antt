@@ -1,14 +1,10 @@
 -- Where a variable that is sought has no value yet, the next branch is for such a variable, and names the value that it has in each binding
 -- that is looked for.
-use Rattle.std.specs.Prelude.{◌≡◌, ◌≢◌, ◌⊎◌, ◌<◌, ℕ, zero, suc, Bool, true, false, ◌&&◌, ◌==◌, not, List, [], ◌∷◌, length, Option, None, Some, is_some, slice_get, Contains}
-use Rattle.std.specs.List.{AllByRecursion, find, list_any}
+use Rattle.std.specs.Prelude.{◌≡◌, ◌≢◌, ◌⊎◌, ◌<◌, ℕ, zero, suc, Bool, true, false, ◌==◌, not, List, [], ◌∷◌, length, Option, None, Some, is_some, slice_get, Contains}
+use Rattle.std.specs.List.{find}
 use Rattle.std.proofs.Common.{refl, sym, ap, subst, ◌∙◌, arith, inl, inr}
 use Rattle.std.proofs.lemmas.Bool.{and_parts, and_from, true≢false, eqb-true, eq-eqb}
-use Rattle.std.proofs.lemmas.Option.{slice_get_within}
-use Rattle.object_tables.specs.declared.value.Value.{Value}
 use Rattle.object_tables.specs.declared.value.ObjId.{ObjId}
-use Rattle.qv_syntax.specs.declared.ty.Ty.{Ty}
-use Rattle.qv_syntax.specs.declared.ty.Ty.TheVariants as types
 use Rattle.qv_syntax.specs.declared.program.Program.{Program}
 use Rattle.qv_syntax.specs.declared.program.Rel.{Rel}
 use Rattle.qv_syntax.specs.declared.program.Var.{Var}
@@ -21,9 +17,9 @@ use Rattle.qvtr_semantics.specs.declared.datum.Datum.{Datum}
 use Rattle.qvtr_semantics.specs.declared.datum.Datum.TheVariants.{Obj, Val}
 use Rattle.qvtr_semantics.specs.Outs.{and_then, datum_of}
 use Rattle.qvtr_semantics.specs.Objects.{held_at, is_number_among}
-use Rattle.qvtr_semantics.specs.Expressions.{setting, value_for}
+use Rattle.qvtr_semantics.specs.Expressions.{setting}
 use Rattle.qvtr_semantics.specs.Templates.{Values, value_at, has}
-use Rattle.qvtr_semantics.specs.Bindings.{is_model, is_target_domain, is_datum_for, conjunct_holds, Extends}
+use Rattle.qvtr_semantics.specs.Bindings.{is_model, is_datum_for, conjunct_holds, Extends}
 use Rattle.ocl_eval.proofs.ClassLaws.{among_from, among_to}
 use Rattle.template_match.specs.declared.side.Side.{Side}
 use Rattle.template_match.specs.declared.side.Side.TheVariants.{Source, Target}
@@ -33,14 +29,14 @@ use Rattle.template_match.specs.Sides.{clause_of, is_of_side}
 use Rattle.template_match.specs.Ready.{is_ready}
 use Rattle.template_match.specs.Links.{side_links}
 use Rattle.template_match.specs.Problems.{Problem}
-use Rattle.template_match.specs.Search.{sought, conjuncts_in, is_open, usable_link, usable_saying, usable_conjunct, usable_variable, saying, extent_by, extent_for, slot_at, some_data, one_datum, objects_of, saying_branch, link_branch, object_branch, conjunct_branch, branch_by, branch, is_any_open}
-use Rattle.template_match.specs.Posed.{HasValue, HasRoots, SeeksSource, Seeks, IsPosed, IsPartial, IsSought}
+use Rattle.template_match.specs.Search.{sought, conjuncts_in, is_open, usable_link, usable_saying, usable_conjunct, usable_variable, saying, extent_for, some_data, one_datum, objects_of, saying_branch, link_branch, object_branch, conjunct_branch, branch_by, branch, is_any_open}
+use Rattle.template_match.specs.Posed.{HasValue, HasRoots, SeeksSource, Seeks, IsPosed, IsSought}
 use Rattle.template_match.proofs.ListLaws.{all_at, list_all_at, any_from, find_none, find_some}
 use Rattle.template_match.proofs.LinkLaws.{Holds, domains_hold}
 use Rattle.template_match.proofs.NestedLaws.{alone_linked}
-use Rattle.template_match.proofs.ValueLaws.{some_datum, not_some, ready_value, known_if}
+use Rattle.template_match.proofs.ValueLaws.{some_datum, ready_value, known_if}
 use Rattle.template_match.proofs.ReadyLaws.{ready_from_known}
-use Rattle.template_match.proofs.SideLaws.{Meets, meets_parts, Valued, valued, Extended, extended, data_type, no_extent}
+use Rattle.template_match.proofs.SideLaws.{Meets, meets_parts, Valued, valued, extended, data_type, no_extent}
 use Rattle.template_match.proofs.TellingLaws.{has_contains, no_slot, said, says_saying, says_names}
 
 -- what is not false is true

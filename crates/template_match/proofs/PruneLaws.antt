@@ -2,7 +2,7 @@
 use Rattle.std.specs.Prelude.{◌≡◌, ℕ, Bool, true, false, ◌&&◌, ◌||◌, not, List, [], ◌∷◌, map, length, Option, None, Some}
 use Rattle.std.specs.List.{list_all}
 use Rattle.std.proofs.Common.{refl, sym, ap, subst, ◌∙◌}
-use Rattle.std.proofs.lemmas.Bool.{and_parts, and_from, true≢false}
+use Rattle.std.proofs.lemmas.Bool.{and_parts, and_from}
 use Rattle.object_tables.specs.Models.{ModelData}
 use Rattle.qv_syntax.specs.declared.program.Program.{Program}
 use Rattle.qv_syntax.specs.declared.program.Dom.{Dom}
@@ -12,7 +12,6 @@ use Rattle.qv_syntax.specs.declared.program.Tmpl.{Tmpl, out-Tmpl, roll-Tmpl, map
 use Rattle.qv_syntax.specs.declared.program.Item.{Item, roll-Item, map-Item, fold-roll-Item}
 use Rattle.qv_syntax.specs.declared.program.ItemValue.{ItemValue, roll-ItemValue, map-ItemValue, fold-roll-ItemValue}
 use Rattle.qv_syntax.specs.declared.program.ItemValue.TheOpen as layers
-use Rattle.qv_syntax.specs.declared.typed.Typed.{Typed}
 use Rattle.qvtr_semantics.specs.declared.datum.Datum.{Datum}
 use Rattle.qvtr_semantics.specs.Outs.{datum_of, boolean_of}
 use Rattle.qvtr_semantics.specs.Equality.{is_known_true}
@@ -26,7 +25,7 @@ use Rattle.template_match.specs.Sides.{is_of_side, clause_of, domain_meets, meet
 use Rattle.template_match.specs.Problems.{Problem}
 use Rattle.template_match.specs.Pruning.{may_have, may_hold_value, may_hold_item, may_match_step, object_may_match, may_pattern, may_item, may_value, may_match, may_template, may_domain, may_be_one, may_conjunct, may_meet}
 use Rattle.template_match.proofs.LinkLaws.{asked_of}
-use Rattle.template_match.proofs.SideLaws.{Meets, meets_parts}
+use Rattle.template_match.proofs.SideLaws.{meets_parts}
 use Rattle.template_match.proofs.ValueLaws.{ready_value}
 
 list_all_more : {X : Type 0} (p q : X → Bool) (xs : List X) → ((x : X) → p x ≡ true → q x ≡ true) → list_all p xs ≡ true → list_all q xs ≡ true

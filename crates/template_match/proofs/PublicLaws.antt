@@ -1,6 +1,6 @@
 -- What the search looks for is what meets the source of a relation, or its target.
-use Rattle.std.specs.Prelude.{◌≡◌, ◌⊎◌, ◌↔◌, ℕ, not, List, [], length, Some, None, slice_get, Contains, IsTrue}
-use Rattle.std.proofs.Common.{refl, sym, ap, subst, ◌∙◌}
+use Rattle.std.specs.Prelude.{◌≡◌, ◌⊎◌, ◌↔◌, ℕ, not, List, [], Some, slice_get, Contains}
+use Rattle.std.proofs.Common.{refl, sym, ap, ◌∙◌}
 use Rattle.object_tables.specs.Models.{ModelData}
 use Rattle.object_tables.proofs.ListLemmas.{Contains-filter}
 use Rattle.object_tables.proofs.SlotLemmas.{Contains-to_filter}
@@ -25,7 +25,7 @@ use Rattle.template_match.specs.Sources.{IsAsked, is_target_variable, source_var
 use Rattle.template_match.proofs.TellingLaws.{says_names}
 use Rattle.template_match.proofs.ProgressLaws.{named_universal}
 use Rattle.template_match.proofs.BindingLaws.{one_or_less}
-use Rattle.template_match.specs.Posed.{HasPrimitives, HasUniversals, IsPosed, IsPartial, IsSought}
+use Rattle.template_match.specs.Posed.{HasPrimitives, HasUniversals, IsPosed, IsSought}
 
 abbrev pub posing : Side → Program → List ModelData → Rel → List Link → List ℕ → Problem
 posing side program models rel links variables = record { side = side; program = program; models = models; rel = rel; links = links; variables = variables }

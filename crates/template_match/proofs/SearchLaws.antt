@@ -1,6 +1,6 @@
 -- The search finds exactly the bindings that are looked for.
-use Rattle.std.specs.Prelude.{◌≡◌, ◌≢◌, ◌⊎◌, ◌≤◌, ◌<◌, ◌+◌, ◌↔◌, ℕ, zero, suc, Bool, true, false, ◌&&◌, not, List, [], ◌∷◌, length, Option, None, Some, is_some, Contains, if◌then◌else◌}
-use Rattle.std.specs.List.{flat_map, list_any, find}
+use Rattle.std.specs.Prelude.{◌≡◌, ◌≢◌, ◌⊎◌, ◌≤◌, ◌<◌, ◌↔◌, ℕ, zero, suc, Bool, true, false, not, [], ◌∷◌, length, Option, None, Some, is_some, Contains, if◌then◌else◌}
+use Rattle.std.specs.List.{flat_map, find}
 use Rattle.std.proofs.Common.{refl, sym, ap, subst, ◌∙◌, arith, inl, inr}
 use Rattle.std.proofs.lemmas.Bool.{and_parts, and_from, true≢false, cases_eq}
 use Rattle.std.proofs.lemmas.List.{length-set}
@@ -14,18 +14,17 @@ use Rattle.qvtr_semantics.specs.Bindings.{Extends}
 use Rattle.template_match.proofs.ListLaws.{contains_first}
 use Rattle.ocl_eval.proofs.ClassLaws.{among_from, among_to}
 use Rattle.template_match.specs.declared.link.Link.{Link}
-use Rattle.template_match.specs.declared.branch.Branch.{Branch}
 use Rattle.template_match.specs.Sides.{meets_side}
 use Rattle.template_match.specs.Ready.{is_ready}
 use Rattle.template_match.specs.Problems.{Problem}
 use Rattle.template_match.specs.Pruning.{may_meet}
-use Rattle.template_match.specs.Search.{sought, conjuncts_in, is_open, usable_link, usable_saying, usable_conjunct, usable_variable, saying, extent_for, saying_branch, link_branch, object_branch, conjunct_branch, branch_by, branch, is_any_open, with_value, tried, tested, search_from}
+use Rattle.template_match.specs.Search.{sought, conjuncts_in, is_open, usable_link, usable_saying, usable_conjunct, usable_variable, saying, saying_branch, object_branch, conjunct_branch, branch_by, branch, is_any_open, with_value, tried, tested, search_from}
 use Rattle.template_match.specs.Posed.{IsPosed, IsPartial, IsSought}
 use Rattle.template_match.proofs.ListLaws.{any_at, find_some}
-use Rattle.template_match.proofs.ValueLaws.{some_datum, not_some, same_values, within_values, same_place, other_place, missing, missing_within, fewer_missing}
-use Rattle.template_match.proofs.SideLaws.{Meets, meets_parts, Valued, valued}
+use Rattle.template_match.proofs.ValueLaws.{not_some, same_values, within_values, same_place, other_place, missing, missing_within, fewer_missing}
+use Rattle.template_match.proofs.SideLaws.{meets_parts, valued}
 use Rattle.template_match.proofs.PruneLaws.{not_dropped}
-use Rattle.template_match.proofs.ProgressLaws.{value_of, IsTold, next_is_told}
+use Rattle.template_match.proofs.ProgressLaws.{next_is_told}
 
 open_parts : (p : Problem) (a : Values) (v : ℕ) → is_open p a v ≡ true → Contains (sought p) v × (value_at a v ≡ None)
 open_parts p a v h =

@@ -1,8 +1,8 @@
 -- What a binding that meets a side has: values of its variables, templates that match and conjuncts that hold.
-use Rattle.std.specs.Prelude.{◌≡◌, ℕ, zero, suc, Bool, true, false, ◌&&◌, ◌==◌, List, [], ◌∷◌, map, length, Option, None, Some, is_some, slice_get, Contains}
-use Rattle.std.specs.List.{list_all, filter, range_with_len, slice_index_or}
+use Rattle.std.specs.Prelude.{◌≡◌, ℕ, zero, suc, Bool, true, false, ◌&&◌, ◌==◌, List, [], ◌∷◌, length, Option, None, Some, is_some, slice_get, Contains}
+use Rattle.std.specs.List.{list_all, range_with_len, slice_index_or}
 use Rattle.std.specs.Option.{option_map}
-use Rattle.std.proofs.Common.{refl, sym, ap, subst, ◌∙◌, arith, ◌<◌, ◌+◌}
+use Rattle.std.proofs.Common.{refl, sym, ap, ◌∙◌, arith, ◌<◌, ◌+◌}
 use Rattle.std.proofs.lemmas.Bool.{and_parts, true≢false, eqb-true}
 use Rattle.std.proofs.lemmas.List.FromFn.{length-range_with_len, get_or-range_with_len}
 use Rattle.object_tables.specs.declared.value.Value.{Value}
@@ -19,7 +19,7 @@ use Rattle.qv_syntax.specs.declared.ty.Ty.TheOpen as of
 use Rattle.qv_syntax.specs.declared.ty.Ty.TheVariants as types
 use Rattle.qvtr_semantics.specs.declared.datum.Datum.{Datum}
 use Rattle.qvtr_semantics.specs.declared.datum.Datum.TheVariants.{Obj, Val}
-use Rattle.qvtr_semantics.specs.Objects.{ObjectClass, object_datum, conforms_if, conforms_at, extent_of}
+use Rattle.qvtr_semantics.specs.Objects.{object_datum, conforms_if, conforms_at, extent_of}
 use Rattle.qvtr_semantics.specs.Outs.{and_then}
 use Rattle.qvtr_semantics.specs.Expressions.{setting}
 use Rattle.qvtr_semantics.specs.Templates.{Values, value_at, conforms, is_of_class}

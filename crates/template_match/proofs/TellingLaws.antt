@@ -1,18 +1,16 @@
 -- What gives a variable its values names, in each binding that is looked for, the value that the variable has there.
-use Rattle.std.specs.Prelude.{◌≡◌, ℕ, zero, Bool, true, false, ◌&&◌, List, [], ◌∷◌, map, length, Option, None, Some, is_some, slice_get, Contains}
-use Rattle.std.specs.List.{list_any}
+use Rattle.std.specs.Prelude.{◌≡◌, ℕ, zero, Bool, true, false, List, [], ◌∷◌, length, Option, None, Some, Contains}
 use Rattle.std.proofs.Common.{refl, sym, ap, subst, ◌∙◌, arith}
-use Rattle.std.proofs.lemmas.Bool.{and_parts, true≢false}
+use Rattle.std.proofs.lemmas.Bool.{true≢false}
 use Rattle.object_tables.specs.declared.value.Value.{Value}
 use Rattle.object_tables.specs.Models.{ModelData}
-use Rattle.qv_syntax.specs.declared.ty.Ty.{Ty}
 use Rattle.qv_syntax.specs.declared.operator.Operator.{Operator}
 use Rattle.qv_syntax.specs.declared.operator.Operator.TheVariants as operators
 use Rattle.qv_syntax.specs.declared.program.Program.{Program}
 use Rattle.qv_syntax.specs.declared.program.Conj.{Conj}
 use Rattle.qv_syntax.specs.declared.program.Conj.TheVariants as conjuncts
 use Rattle.qv_syntax.specs.declared.typed.Typed.{Typed}
-use Rattle.qv_syntax.specs.declared.typed.Node.{Node, out-Node, roll-Node, map-Node, roll-out-Node, out-roll-Node, fold-roll-Node}
+use Rattle.qv_syntax.specs.declared.typed.Node.{Node, out-Node, roll-Node, roll-out-Node, out-roll-Node, fold-roll-Node}
 use Rattle.qv_syntax.specs.declared.typed.Node.TheVariants as forms
 use Rattle.qv_syntax.specs.declared.typed.Call.{Call, fold-Call}
 use Rattle.qv_syntax.specs.declared.typed.Call.TheOpen as nodes
@@ -22,14 +20,14 @@ use Rattle.qv_syntax.specs.Parts.{IsWithin, Names, parts_of, node_parts}
 use Rattle.qv_syntax.specs.Relations.{Says, InConjunct}
 use Rattle.template_match.proofs.ListLaws.{contains_first, contains_later}
 use Rattle.qvtr_semantics.specs.declared.datum.Datum.{Datum}
-use Rattle.qvtr_semantics.specs.declared.datum.Datum.TheVariants.{Obj, Val}
+use Rattle.qvtr_semantics.specs.declared.datum.Datum.TheVariants.{Val}
 use Rattle.qvtr_semantics.specs.declared.out.Out.{Out}
 use Rattle.qvtr_semantics.specs.declared.out.Out.TheVariants as outs
 use Rattle.qvtr_semantics.specs.Outs.{datum_of, boolean_of, truth}
-use Rattle.qvtr_semantics.specs.Data.{same_datum, is_among}
+use Rattle.qvtr_semantics.specs.Data.{same_datum}
 use Rattle.qvtr_semantics.specs.Equality.{equal, is_known_true}
 use Rattle.qvtr_semantics.specs.Objects.{held_at}
-use Rattle.qvtr_semantics.specs.Expressions.{Queries, Meaning, Operated, Called, setting, queries_within, node_meaning, call_meaning, typed_meaning, infix_meaning, postfix_meaning, meaning, operated, scope_of, value_for, is_true}
+use Rattle.qvtr_semantics.specs.Expressions.{Queries, Meaning, Operated, Called, setting, queries_within, node_meaning, call_meaning, typed_meaning, infix_meaning, postfix_meaning, operated, scope_of, value_for, is_true}
 use Rattle.qvtr_semantics.specs.Templates.{Values, value_at, has}
 use Rattle.qvtr_semantics.specs.Bindings.{are_one, conjunct_holds}
 use Rattle.qvtr_semantics.proofs.ExpressionLaws.{typed_is, node_of}

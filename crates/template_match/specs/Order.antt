@@ -1,5 +1,5 @@
 -- The order of bindings of one relation: by the values of some of its variables, one after another.
-use Rattle.std.specs.Prelude.{ℕ, List, [], ◌∷◌, map, AllPairs}
+use Rattle.std.specs.Prelude.{ℕ, List, [], ◌∷◌}
 use Rattle.std.specs.Option.{option_cmp}
 use Rattle.std.specs.Ordering.{ordering_then}
 use Rattle.std.specs.declared.cmp.Ordering.{Ordering}

@@ -1,6 +1,6 @@
 -- What of a side can be asked of a binding in which some variables have no value yet: each item of an object that has been chosen, if all
 -- that it names has a value, and each conjunct of which that holds (QVT 1.3, sections 7.10.1 and 7.11.2).
-use Rattle.std.specs.Prelude.{ℕ, Bool, true, ◌&&◌, ◌||◌, not, List, Option, None, Some, is_some}
+use Rattle.std.specs.Prelude.{ℕ, Bool, true, ◌&&◌, ◌||◌, not, List, Option, None, Some}
 use Rattle.std.specs.List.{list_all}
 use Rattle.object_tables.specs.Models.{ModelData}
 use Rattle.qv_syntax.specs.declared.program.Program.{Program}

@@ -1,6 +1,6 @@
 -- A search for the bindings of one side of a relation: one variable gets a value after another. The value of a variable is taken from a slot
 -- of an object that has been chosen, or from a conjunct that says what it is, or from the objects of its class.
-use Rattle.std.specs.Prelude.{ℕ, zero, suc, Bool, true, false, ◌&&◌, not, List, [], ◌∷◌, map, Option, None, Some, is_some, slice_get, slice_set, if◌then◌else◌}
+use Rattle.std.specs.Prelude.{ℕ, zero, suc, Bool, false, ◌&&◌, not, List, [], ◌∷◌, map, Option, None, Some, is_some, slice_get, slice_set, if◌then◌else◌}
 use Rattle.std.specs.List.{flat_map, list_any, find}
 use Rattle.mof_metamodel.specs.declared.desc.ClassId.{ClassId}
 use Rattle.object_tables.specs.Models.{ModelData}
@@ -14,8 +14,6 @@ use Rattle.qv_syntax.specs.declared.typed.Call.{Call}
 use Rattle.qv_syntax.specs.declared.typed.Call.TheOpen as nodes
 use Rattle.qv_syntax.specs.declared.typed.TypedInfix.{TypedInfix}
 use Rattle.qv_syntax.specs.declared.typed.TypedPostfix.{TypedPostfix}
-use Rattle.qv_syntax.specs.declared.program.Program.{Program}
-use Rattle.qv_syntax.specs.declared.program.Rel.{Rel}
 use Rattle.qv_syntax.specs.declared.program.Var.{Var}
 use Rattle.qv_syntax.specs.declared.program.Conj.{Conj}
 use Rattle.qv_syntax.specs.declared.program.Conj.TheVariants as conjuncts
@@ -25,7 +23,6 @@ use Rattle.qvtr_semantics.specs.Outs.{datum_of, and_then}
 use Rattle.qvtr_semantics.specs.Objects.{Setting, is_number_among, held_at, object_datum, extent_of}
 use Rattle.qvtr_semantics.specs.Expressions.{setting, value_for}
 use Rattle.qvtr_semantics.specs.Templates.{Values, value_at}
-use Rattle.template_match.specs.declared.side.Side.{Side}
 use Rattle.template_match.specs.declared.link.Link.{Link}
 use Rattle.template_match.specs.declared.branch.Branch.{Branch}
 use Rattle.template_match.specs.Problems.{Problem}

@@ -4,8 +4,6 @@ ghost use Rattle.qv_syntax.specs.Directions.{AreMeant};
 ghost use Rattle.qvtr_semantics.specs.Templates.{Values};
 ghost use Rattle.qvtr_semantics.specs.Bindings.{Source, Target};
 ghost use Rattle.qvtr_semantics.specs.Satisfaction.{IsLess};
-ghost use Rattle.template_match.specs.Order.{binding_order};
-ghost use Rattle.template_match.specs.Each.{IsEachOnce};
 ghost use Rattle.template_match.specs.Plans.{IsPlanOf};
 ghost use Rattle.template_match.specs.Posed.{HasPrimitives, HasUniversals, IsPosed, IsSought};
 ghost use Rattle.template_match.specs.Search.{values_of, search_from, sought};

@@ -1,7 +1,7 @@
 ghost use Rattle.std.specs.Prelude.{◌≡◌, ◌||◌, not, map, IfOk};
 ghost use Rattle.std.specs.List.{list_all};
 ghost use Rattle.std.specs.Option.{option_copied};
-ghost use Rattle.qvtr_semantics.specs.Expressions.{value_for, is_true};
+ghost use Rattle.qvtr_semantics.specs.Expressions.{value_for};
 ghost use Rattle.qvtr_semantics.specs.Outs.{datum_of};
 ghost use Rattle.qvtr_semantics.specs.Templates.{value_at, has};
 ghost use Rattle.template_match.specs.Pruning.{may_have, may_match, may_item, may_value, may_template, may_domain, may_be_one, may_conjunct, may_meet};

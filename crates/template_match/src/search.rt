@@ -1,5 +1,5 @@
-ghost use Rattle.std.specs.Prelude.{◌≡◌, ◌++◌, [], ◌∷◌, slice_get, IfOk, OnOk, if◌then◌else◌};
-ghost use Rattle.std.specs.List.{flat_map, list_any, find};
+ghost use Rattle.std.specs.Prelude.{◌≡◌, ◌++◌, [], slice_get, IfOk, OnOk};
+ghost use Rattle.std.specs.List.{flat_map, find};
 ghost use Rattle.std.specs.Option.{option_copied, option_map};
 ghost use Rattle.qvtr_semantics.specs.Objects.{is_number_among};
 ghost use Rattle.template_match.specs.Search.{sought, is_open, usable_link, usable_saying, usable_conjunct, extent_by, extent_for, usable_variable, slot_at, some_data, one_datum, objects_in, objects_of, saying_branch, link_branch, object_branch, conjunct_branch, branch, with_value, tested, is_any_open, search_from, values_of, conjuncts_in};
