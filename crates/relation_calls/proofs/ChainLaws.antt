@@ -7,7 +7,7 @@ use Rattle.qvtr_semantics.specs.Calls.{RelationCall}
 use Rattle.qvtr_semantics.specs.Chains.{Role, as_top, as_match, as_called, ReachedFrom, AsksWhen, CallsWhere, BeginsFrom, GoesOn, ChainFrom, IsOnlyCall, MatchChain, ChainOf, HoldsChain}
 use Rattle.relation_calls.specs.Seen.{Seen, SeenBehind, TopChain}
 
-shift : {X : Type 0} (xs : List X) (x : X) (ys : List X) → (xs ++ x ∷ []) ++ ys ≡ xs ++ x ∷ ys
+pub shift : {X : Type 0} (xs : List X) (x : X) (ys : List X) → (xs ++ x ∷ []) ++ ys ≡ xs ++ x ∷ ys
 shift [] x ys = refl
 shift (z ∷ xs) x ys = ap (λ zs. z ∷ zs) (shift xs x ys)
 

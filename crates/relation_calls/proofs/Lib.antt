@@ -10,3 +10,5 @@ pub mod OutsideLaws
 pub mod HeightLaws
 pub mod StepLaws
 pub mod MakingLaws
+pub mod MemoLaws
+pub mod HeldLaws

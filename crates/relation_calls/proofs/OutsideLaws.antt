@@ -76,12 +76,12 @@ module _ (program : Program) (models : List ModelData) where
   -- ---- a call that is to match
 
   module _ (d : RelationCall) (names : List CallName) (none : names ≡ []) where
-    pub matched_clean : AreClean (Seen program models (chain_named names) d) → AreClean (MatchChain program models d)
-    matched_clean clean =
+    pub match_chains_clean : AreClean (Seen program models (chain_named names) d) → AreClean (MatchChain program models d)
+    match_chains_clean clean =
         clean_from (Seen program models [] d) (MatchChain program models d) (λ chain h. (match_chains program models d chain).0 h) (match_clean program models d names none clean)
 
-    pub matched_fault : (e : CallError) → IsFault (Seen program models (chain_named names) d) e → IsFault (MatchChain program models d) e
-    matched_fault e f =
+    pub match_chains_fault : (e : CallError) → IsFault (Seen program models (chain_named names) d) e → IsFault (MatchChain program models d) e
+    match_chains_fault e f =
         fault_in (Seen program models [] d) (MatchChain program models d) (λ chain h. (match_chains program models d chain).1 h) e (match_fault program models d names e none f)
 
   -- ---- a top relation

@@ -5,4 +5,6 @@ pub mod Askable
 pub mod Outcomes
 pub mod Founds
 pub mod Visits
+pub mod CallOrder
 pub mod Memos
+pub mod Links

@@ -4,7 +4,6 @@ use Rattle.object_tables.specs.Models.{ModelData}
 use Rattle.qv_syntax.specs.declared.program.Program.{Program}
 use Rattle.qv_syntax.specs.declared.program.Rel.{Rel}
 use Rattle.qvtr_semantics.specs.Templates.{Values}
-use Rattle.qvtr_semantics.specs.Bindings.{Target}
 use Rattle.qvtr_semantics.specs.Calls.{AllAsked, Match, HoldsFor, TargetHolds, calls_of}
 use Rattle.relation_calls.specs.declared.outcome.Outcome.{Outcome}
 use Rattle.relation_calls.specs.declared.outcome.Outcome.TheVariants as outcomes

@@ -1,8 +1,6 @@
 -- A visit to a relation by a call, and the chains that are come to by parts of it.
-use Rattle.std.specs.Prelude.{◌≡◌, ◌≢◌, ◌⊎◌, ◌≤◌, ◌-◌, ℕ, List, [], Option, Some, length, slice_get, Contains, AllPairs}
+use Rattle.std.specs.Prelude.{◌≡◌, ◌≢◌, ◌⊎◌, ◌≤◌, ◌-◌, ℕ, List, [], Option, Some, length, Contains, AllPairs}
 use Rattle.mof_metamodel.specs.declared.limits.TheConstants.{MAX_CALLS}
-use Rattle.object_tables.specs.Models.{ModelData}
-use Rattle.qv_syntax.specs.declared.program.Program.{Program}
 use Rattle.qv_syntax.specs.declared.program.Rel.{Rel}
 use Rattle.qvtr_semantics.specs.Templates.{Values}
 use Rattle.qvtr_semantics.specs.Bindings.{Target}
@@ -13,6 +11,7 @@ use Rattle.relation_calls.specs.declared.visit.Visit.{Visit}
 use Rattle.relation_calls.specs.Names.{chain_named}
 use Rattle.relation_calls.specs.Seen.{Seen, SeenBehind}
 use Rattle.relation_calls.specs.Askable.{IsFormed}
+use Rattle.relation_calls.specs.Links.{AreLinked}
 
 -- a chain that may have a further call
 pub record IsChain (upto : List RelationCall) : Type 0 where
@@ -49,6 +48,14 @@ whens_of v b = calls_of v.program.now v.models.now b v.rel.now.whens
 
 abbrev pub wheres_of : Visit → Values → List (Option RelationCall)
 wheres_of v g = calls_of v.program.now v.models.now g v.rel.now.wheres
+
+-- the chain of the visit goes on with each of the calls
+abbrev pub GoesOnWith : Visit → List (Option RelationCall) → Type 0
+GoesOnWith v calls = AreLinked v.program.now v.models.now (upto_of v) calls
+
+-- with those that the partners make that meet the target for a binding
+abbrev pub GoesOnWithTargets : Visit → Values → Type 0
+GoesOnWithTargets v b = (g : Values) → Target v.program.now v.models.now v.rel.now b g → GoesOnWith v (wheres_of v g)
 
 -- the chains that are come to by one of the calls in a when clause, or in a where clause
 abbrev pub SeenInWhens : Visit → List (Option RelationCall) → List RelationCall → Type 0

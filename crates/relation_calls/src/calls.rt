@@ -11,14 +11,14 @@ ghost use Rattle.relation_calls.specs.Askable.{IsFormed, IsAskable};
 ghost use Rattle.relation_calls.specs.Founds.{IsLeastOf};
 ghost use Rattle.relation_calls.specs.Memos.{IsTold};
 
-use crate::asking::explore;
+use crate::asking::{explore, is_match};
 use crate::chain::longer_chain;
 use crate::copying::duplicate_binding;
 use crate::error::CallError;
 use crate::making::free;
 use crate::memo::Memo;
 use crate::name::CallName;
-use crate::outcome::{first_alone, is_any_alone, is_any_partnered};
+use crate::outcome::{first_alone, is_any_alone};
 use mof_metamodel::{NoMemory, Seq};
 use ocl_eval::Models;
 use qv_syntax::Program;
@@ -47,36 +47,21 @@ fn holds_alone(
     alloc: Global,
     program: &Program,
     models: &Models<'_>,
+    memo: &mut Memo,
     name: &CallName,
 ) -> Result<bool, CallError>
     requires formed { IsFormed program.now }
     requires askable { IsAskable program.now (call_named name.now) }
+    requires told { IsTold program.now models.now memo.old }
     ensures value { IfOk result (λ holds. IsTrue holds ↔ Holds program.now models.now (call_named name.now)) }
     ensures clean { IfOk result (λ _. AreClean (HoldsChain program.now models.now (call_named name.now))) }
     ensures fault { IfErr result (IsFault (HoldsChain program.now models.now (call_named name.now))) }
+    ensures told { IsTold program.now models.now memo.new }
 {
     let none = Seq::new(alloc);
     let upto = longer_chain(alloc, none.as_slice(), name)?;
-    let found = explore(alloc, program, models, upto.as_slice(), name)?;
+    let found = explore(alloc, program, models, memo, upto.as_slice(), name)?;
     Ok(!is_any_alone(found.outcomes.as_slice()))
-}
-
-/// Whether a call matches.
-fn matches_alone(
-    alloc: Global,
-    program: &Program,
-    models: &Models<'_>,
-    name: &CallName,
-) -> Result<bool, CallError>
-    requires formed { IsFormed program.now }
-    requires askable { IsAskable program.now (call_named name.now) }
-    ensures value { IfOk result (λ matches. IsTrue matches ↔ Match program.now models.now (call_named name.now)) }
-    ensures clean { IfOk result (λ _. AreClean (MatchChain program.now models.now (call_named name.now))) }
-    ensures fault { IfErr result (IsFault (MatchChain program.now models.now (call_named name.now))) }
-{
-    let none = Seq::new(alloc);
-    let found = explore(alloc, program, models, none.as_slice(), name)?;
-    Ok(is_any_partnered(found.outcomes.as_slice()))
 }
 
 /// Whether a relation that is called in a where clause holds for these roots (QVT 1.3, section 7.10.2). It is refused where a chain of
@@ -99,7 +84,7 @@ pub fn holds_call(
     ensures told { IsTold program.now models.now memo.new }
 {
     let name = name_of(alloc, rel, roots)?;
-    holds_alone(alloc, program, models, &name)
+    holds_alone(alloc, program, models, memo, &name)
 }
 
 /// Whether some binding of a relation that is called in a when clause has these roots and a partner (QVT 1.3, section 7.10.2). It is
@@ -122,7 +107,7 @@ pub fn match_call(
     ensures told { IsTold program.now models.now memo.new }
 {
     let name = name_of(alloc, rel, roots)?;
-    matches_alone(alloc, program, models, &name)
+    is_match(alloc, program, models, memo, &name)
 }
 
 /// The least binding of a top relation that meets its source, whose calls match, and that has no partner (QVT 1.3, sections 7.2.1 and
@@ -145,6 +130,6 @@ pub fn failing_binding(
 {
     let name = top_name(alloc, program, number)?;
     let none = Seq::new(alloc);
-    let found = explore(alloc, program, models, none.as_slice(), &name)?;
+    let found = explore(alloc, program, models, memo, none.as_slice(), &name)?;
     Ok(first_alone(alloc, found.bindings.as_slice(), found.outcomes.as_slice())?)
 }

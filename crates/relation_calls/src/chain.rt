@@ -1,4 +1,5 @@
-ghost use Rattle.std.specs.Prelude.{◌≡◌, [], ◌∷◌, ◌++◌, IfOk, IfErr};
+ghost use Rattle.std.specs.Prelude.{◌≡◌, ◌-◌, [], ◌∷◌, ◌++◌, length, IfOk, IfErr};
+ghost use Rattle.mof_metamodel.specs.declared.limits.TheConstants.{MAX_CALLS};
 ghost use Rattle.relation_calls.specs.Names.{call_named, chain_named};
 ghost use Rattle.relation_calls.specs.Faults.{IsFault};
 ghost use Rattle.relation_calls.specs.Visits.{IsChain};
@@ -8,6 +9,14 @@ use crate::error::CallError;
 use crate::name::CallName;
 use mof_metamodel::{MAX_CALLS, Seq};
 use std::alloc::Global;
+
+/// How many calls a chain may still have.
+pub(crate) fn calls_left(upto: &[CallName]) -> usize
+    requires { IsChain (chain_named upto.now) }
+    ensures { result ≡ MAX_CALLS - length (chain_named upto.now) }
+{
+    MAX_CALLS - upto.len()
+}
 
 /// The chain with one call more. It is refused where the call is one of the chain, and where the chain has as many as there may be.
 pub(crate) fn longer_chain(

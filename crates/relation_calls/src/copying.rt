@@ -8,7 +8,10 @@ use qvtr_semantics::{Binding, Datum};
 use std::alloc::Global;
 
 /// Another of the same value, or of none.
-fn duplicate_value(alloc: Global, value: &Option<Datum>) -> Result<Option<Datum>, NoMemory>
+pub(crate) fn duplicate_value(
+    alloc: Global,
+    value: &Option<Datum>,
+) -> Result<Option<Datum>, NoMemory>
     ensures { IfOk result (λ d. d ≡ value.now) }
 {
     match value {

@@ -1,25 +1,28 @@
-ghost use Rattle.std.specs.Prelude.{List};
+ghost use Rattle.std.specs.Prelude.{◌≡◌, ◌≤◌, ℕ, List, Some, Bool, IfSome, OnOk, OnErr};
+ghost use Rattle.std.specs.BTreeMap.{get, IsUnchanged, Updates};
 ghost use Rattle.object_tables.specs.Models.{ModelData};
 ghost use Rattle.qv_syntax.specs.declared.program.Program.{Program};
-ghost use Rattle.relation_calls.specs.Memos.{IsTold};
+ghost use Rattle.relation_calls.specs.CallOrder.{call_order};
+ghost use Rattle.relation_calls.specs.Memos.{IsMatching, IsHolding, IsTold};
 
-use crate::name::CallName;
-use mof_metamodel::Seq;
+use crate::call_key::CallKey;
+use mof_metamodel::NoMemory;
 use std::alloc::Global;
+use std::collections::BTreeMap;
 
-/// An answer to a call: whether it holds, and how many calls a chain has at most that begins with it.
+/// Whether a call holds, and how many calls a chain has at most that begins with it.
 #[derive(Drop)]
 pub(crate) struct Answer {
-    pub(crate) call: CallName,
     pub(crate) holds: bool,
-    pub(crate) height: u32,
+    pub(crate) height: usize,
 }
 
-/// Answers to calls of one program over one state of its models.
+/// Answers to calls of one program over one state of its models: whether a call that was asked for a match matches, and whether one in a
+/// where clause holds. A look-up takes the logarithm of their number.
 #[derive(Drop)]
 pub struct Memo {
-    holding: Seq<Answer>,
-    matching: Seq<Answer>,
+    matching: BTreeMap<CallKey, bool>,
+    holding: BTreeMap<CallKey, Answer>,
 }
 
 impl Memo {
@@ -28,8 +31,52 @@ impl Memo {
         ensures { (program : Program) (models : List ModelData) → IsTold program models result }
     {
         Memo {
-            holding: Seq::new(alloc),
-            matching: Seq::new(alloc),
+            matching: BTreeMap::new(alloc),
+            holding: BTreeMap::new(alloc),
         }
+    }
+
+    /// Whether the call matches, if an answer is kept.
+    pub(crate) fn kept_match(&self, call: &CallKey) -> Option<bool>
+        ensures { result ≡ get call_order self.now.matching call.now }
+    {
+        match self.matching.get(call) {
+            Some(one) => Some(*one),
+            None => None,
+        }
+    }
+
+    /// Keeps whether the call matches.
+    pub(crate) fn keep_match(&mut self, call: CallKey, one: bool) -> Result<(), NoMemory>
+        ensures kept { OnOk result (Updates call_order self.old.matching self.new.matching call (Some one)) }
+        ensures unchanged { OnErr result (IsUnchanged self.old.matching self.new.matching) }
+        ensures told { (program : Program) (models : List ModelData) → IsTold program models self.old → IsMatching program models call one → IsTold program models self.new }
+    {
+        self.matching.insert(call, one)?;
+        Ok(())
+    }
+
+    /// Whether the call holds, if an answer is kept and no chain that begins with the call has more than `left` calls.
+    pub(crate) fn kept_hold(&self, call: &CallKey, left: usize) -> Option<bool>
+        ensures { IfSome result (λ holds. (height : ℕ) × (height ≤ left) × (get call_order self.now.holding call.now ≡ Some (record { holds = holds; height = height }))) }
+    {
+        match self.holding.get(call) {
+            Some(answer) => if answer.height <= left {
+                Some(answer.holds)
+            } else {
+                None
+            },
+            None => None,
+        }
+    }
+
+    /// Keeps whether the call holds.
+    pub(crate) fn keep_hold(&mut self, call: CallKey, answer: Answer) -> Result<(), NoMemory>
+        ensures kept { OnOk result (Updates call_order self.old.holding self.new.holding call (Some answer)) }
+        ensures unchanged { OnErr result (IsUnchanged self.old.holding self.new.holding) }
+        ensures told { (program : Program) (models : List ModelData) → IsTold program models self.old → IsHolding program models call answer → IsTold program models self.new }
+    {
+        self.holding.insert(call, answer)?;
+        Ok(())
     }
 }

@@ -1,10 +1,11 @@
-use Rattle.std.proofs.Common.{List, not, false, ◌≡◌, ◌<◌, ◌+◌, ◌-◌, refl, sym, ap, subst, ◌∙◌, arith, inl, inr, suc, length, take, ℕ, ◌∷◌, [], true}
+use Rattle.std.proofs.Common.{List, not, false, ◌≡◌, ◌<◌, ◌+◌, ◌-◌, refl, sym, ap, subst, ◌∙◌, arith, inl, inr, suc, length, take, ℕ, ◌∷◌, []}
 use Rattle.std.specs.Prelude.{Some, IsTrue, IfOk, IfErr, ◌↔◌, Contains}
 use Rattle.std.specs.Option.{option_map}
 use Rattle.std.proofs.lemmas.Result.{IfOk-weaker, IfErr-weaker, err_from_is_err_and}
 use Rattle.std.proofs.lemmas.Option.{slice_get_within, same_Some}
 use Rattle.qv_syntax.specs.declared.program.Rel.{Rel}
-use Rattle.qvtr_semantics.specs.Calls.{AllAsked, HoldsFor, TargetHolds, calls_of}
+use Rattle.qvtr_semantics.specs.Calls.{RelationCall, AllAsked, Match, HoldsFor, TargetHolds, calls_of}
+use Rattle.qvtr_semantics.specs.Chains.{MatchChain}
 use Rattle.qvtr_semantics.specs.Bindings.{Target}
 use Rattle.qvtr_semantics.specs.Templates.{Values}
 use Rattle.qvtr_semantics.specs.declared.binding.Binding.{Binding}
@@ -12,11 +13,12 @@ use Rattle.template_match.specs.Search.{values_of}
 use Rattle.relation_calls.specs.Names.{call_named, chain_named, calls_named}
 use Rattle.relation_calls.specs.Seen.{Seen, SeenBehind, AreClean}
 use Rattle.relation_calls.specs.Faults.{IsFault}
+use Rattle.relation_calls.specs.Memos.{IsMatching}
 use Rattle.relation_calls.specs.Askable.{AreBelow, stratum_in}
 use Rattle.relation_calls.specs.Outcomes.{AreOutcomes, is_alone, is_partnered}
-use Rattle.relation_calls.specs.Visits.{upto_of, left_of, match_in, hold_in, whens_of, wheres_of, SeenInWhens, SeenInWheres, SeenByPartners, SeenByTargets, SeenBy, SeenByAny, IsChain}
+use Rattle.relation_calls.specs.Visits.{upto_of, left_of, match_in, hold_in, whens_of, wheres_of, GoesOnWith, SeenInWhens, SeenInWheres, SeenByPartners, SeenByTargets, SeenBy, SeenByAny, IsChain}
 use Rattle.relation_calls.proofs.VisitLaws.{ends_with, fault_in, clean_from, clean_no_calls, clean_no_values, any_none, by_one, by_none, asked_one}
-use Rattle.relation_calls.proofs.StepLaws.{call_below, call_fault, call_value, call_clean, calls_value, calls_clean, value_here, value_fault, value_clean, value_any, value_outcomes, values_clean, values_any, values_outcomes}
+use Rattle.relation_calls.proofs.StepLaws.{call_below, call_linked, call_fault, call_value, call_clean, calls_value, calls_clean, value_here, value_fault, value_clean, value_any, value_outcomes, values_clean, values_any, values_outcomes}
 use Rattle.std.proofs.lemmas.List.{length-map}
 use Rattle.std.proofs.lemmas.Bool.{true≢false}
 use Rattle.relation_calls.proofs.CallLaws.{below_whens, below_wheres}
@@ -24,18 +26,21 @@ use Rattle.std.specs.List.{list_any}
 use Rattle.mof_metamodel.specs.declared.limits.TheConstants.{MAX_CALLS}
 use Rattle.relation_calls.specs.declared.name.CallName.{CallName}
 use Rattle.relation_calls.specs.Founds.{IsFound}
+use Rattle.relation_calls.proofs.ChainLaws.{match_chains}
+use Rattle.relation_calls.proofs.OutsideLaws.{match_chains_clean, match_chains_fault}
 use Rattle.relation_calls.proofs.RefusalLaws.{no_chain, length_more}
 use Rattle.relation_calls.proofs.VisitLaws.{source_binding}
-use Rattle.relation_calls.proofs.AskingLaws.{planned_at, clean_call, fault_call, refused_fault, called_clean, called_fault, called_value, match_value, match_clean, match_fault, partner_value, partner_seen, unmatched_clean, matched_clean, visited, all_sources, found_all}
+use Rattle.relation_calls.proofs.HeldLaws.{linked_first, linked_behind, all_linked, kept_holding, taken_value, taken_clean}
+use Rattle.relation_calls.proofs.AskingLaws.{planned_at, clean_call, fault_call, refused_fault, called_clean, called_fault, called_value, match_value, partner_value, partner_seen, unmatched_clean, matched_clean, visited, all_sources, found_all}
 use Rattle.relation_calls.proofs.asking.+asking.Goals as goal
 
 pub all_match-loop-call-init : goal.all_match-loop-call-init
-all_match-loop-call-init t c = record { value = (λ h. tt, λ h. refl); clean = clean_no_calls (Seen c.args.visit.now.program.now c.args.visit.now.models.now []) }
+all_match-loop-call-init t c = record { value = (λ h. tt, λ h. refl); clean = clean_no_calls (Seen c.args.visit.now.program.now c.args.visit.now.models.now []); told = c.requires.told }
 
 pub all_match-one_matches-requires : goal.all_match-one_matches-requires
 all_match-one_matches-requires t c =
     let within : c.loop-call.call-index < length c.args.calls.now = omega arith in
-    (omega (arith, c.decreases), (c.requires.visit, call_below c.args.calls.now c.loop-call.call-index c.call-item.result within c.call-item.is c.args.visit.now.program.now c.args.visit.now.rel.now.stratum c.requires.below))
+    (omega (arith, c.decreases), (c.requires.visit, (c.loop-call.invariant.told, call_below c.args.calls.now c.loop-call.call-index c.call-item.result within c.call-item.is c.args.visit.now.program.now c.args.visit.now.rel.now.stratum c.requires.below)))
 
 pub all_match-returns-in_err-one-clause-fault : goal.all_match-returns-in_err-one-clause-fault
 all_match-returns-in_err-one-clause-fault t c =
@@ -51,6 +56,7 @@ all_match-loop-call-preserved t c =
     record {
       value = call_value c.args.calls.now i c.call-item.result within c.call-item.is (match_in c.args.visit.now) (i + 1) c.loop-call.all c.in_ok-one.one (omega arith) c.loop-call.invariant.value c.in_ok-one.ensures.value;
       clean = call_clean c.args.calls.now i c.call-item.result within c.call-item.is (Seen c.args.visit.now.program.now c.args.visit.now.models.now []) (i + 1) (omega arith) c.loop-call.invariant.clean c.in_ok-one.ensures.clean;
+      told = c.in_ok-one.ensures.told;
     }
 
 pub all_match-returns-clause-value : goal.all_match-returns-clause-value
@@ -64,12 +70,23 @@ all_match-returns-clause-clean t c =
 -- ---- calls in where clauses
 
 pub all_hold-loop-call-init : goal.all_hold-loop-call-init
-all_hold-loop-call-init t c = record { value = (λ h. tt, λ h. refl); clean = clean_no_calls (SeenBehind c.args.visit.now.program.now c.args.visit.now.models.now (upto_of c.args.visit.now)) }
+all_hold-loop-call-init t c = record { value = (λ h. tt, λ h. refl); clean = clean_no_calls (SeenBehind c.args.visit.now.program.now c.args.visit.now.models.now (upto_of c.args.visit.now)); told = c.requires.told }
 
 pub all_hold-one_holds-requires : goal.all_hold-one_holds-requires
 all_hold-one_holds-requires t c =
-    let within : c.loop-call.call-index < length c.args.calls.now = omega arith in
-    (omega (arith, c.decreases), (c.requires.visit, call_below c.args.calls.now c.loop-call.call-index c.call-item.result within c.call-item.is c.args.visit.now.program.now (suc c.args.visit.now.rel.now.stratum) c.requires.below))
+    let within : c.loop-call.call-index < length c.args.calls.now = omega arith in (
+      omega (arith, c.decreases),
+      (
+        c.requires.visit,
+        (
+          c.loop-call.invariant.told,
+          (
+            call_below c.args.calls.now c.loop-call.call-index c.call-item.result within c.call-item.is c.args.visit.now.program.now (suc c.args.visit.now.rel.now.stratum) c.requires.below,
+            call_linked c.args.calls.now c.loop-call.call-index c.call-item.result within c.call-item.is c.args.visit.now.program.now c.args.visit.now.models.now (upto_of c.args.visit.now) c.requires.linked,
+          ),
+        ),
+      ),
+    )
 
 pub all_hold-returns-in_err-one-clause-fault : goal.all_hold-returns-in_err-one-clause-fault
 all_hold-returns-in_err-one-clause-fault t c =
@@ -85,6 +102,7 @@ all_hold-loop-call-preserved t c =
     record {
       value = call_value c.args.calls.now i c.call-item.result within c.call-item.is (hold_in c.args.visit.now) (i + 1) c.loop-call.all c.in_ok-one.one (omega arith) c.loop-call.invariant.value c.in_ok-one.ensures.value;
       clean = call_clean c.args.calls.now i c.call-item.result within c.call-item.is (SeenBehind c.args.visit.now.program.now c.args.visit.now.models.now (upto_of c.args.visit.now)) (i + 1) (omega arith) c.loop-call.invariant.clean c.in_ok-one.ensures.clean;
+      told = c.in_ok-one.ensures.told;
     }
 
 pub all_hold-returns-clause-value : goal.all_hold-returns-clause-value
@@ -102,6 +120,7 @@ any_partner-loop-g-init t c =
     record {
       value = any_none (λ g. AllAsked (hold_in c.args.visit.now) (wheres_of c.args.visit.now g));
       clean = clean_no_values (λ g. SeenInWheres c.args.visit.now (wheres_of c.args.visit.now g));
+      told = c.requires.told;
     }
 
 pub any_partner-returns-in_err-one-clause-fault : goal.any_partner-returns-in_err-one-clause-fault
@@ -119,6 +138,7 @@ any_partner-loop-g-preserved t c =
       value = value_any c.args.gs.now i c.g-item.result within c.g-item.is (λ g. AllAsked (hold_in c.args.visit.now) (wheres_of c.args.visit.now g)) (i + 1) c.loop-g.any c.in_ok-one.one (omega arith)
           c.loop-g.invariant.value c.in_ok-one.ensures.value;
       clean = value_clean c.args.gs.now i c.g-item.result within c.g-item.is (λ g. SeenInWheres c.args.visit.now (wheres_of c.args.visit.now g)) (i + 1) (omega arith) c.loop-g.invariant.clean c.in_ok-one.ensures.clean;
+      told = c.in_ok-one.ensures.told;
     }
 
 pub any_partner-returns-clause-value : goal.any_partner-returns-clause-value
@@ -132,12 +152,23 @@ any_partner-returns-clause-clean t c =
 -- ---- bindings
 
 pub outcomes_of-loop-b-init : goal.outcomes_of-loop-b-init
-outcomes_of-loop-b-init t c = record { value = subst (AreOutcomes c.args.visit.now.program.now c.args.visit.now.models.now (left_of c.args.visit.now) c.args.visit.now.rel.now []) (sym c.new-outcomes.ensures) tt; clean = clean_no_values (SeenBy c.args.visit.now) }
+outcomes_of-loop-b-init t c = record { value = subst (AreOutcomes c.args.visit.now.program.now c.args.visit.now.models.now (left_of c.args.visit.now) c.args.visit.now.rel.now []) (sym c.new-outcomes.ensures) tt; clean = clean_no_values (SeenBy c.args.visit.now); told = c.requires.told }
 
 pub outcomes_of-outcome_of-requires : goal.outcomes_of-outcome_of-requires
 outcomes_of-outcome_of-requires t c =
-    let within : c.loop-b.b-index < length c.args.bs.now = omega arith in
-    (omega (arith, c.decreases), (c.requires.visit, c.requires.sources c.b-item.result.values (value_here c.args.bs.now c.loop-b.b-index c.b-item.result within c.b-item.is)))
+    let within : c.loop-b.b-index < length c.args.bs.now = omega arith in (
+      omega (arith, c.decreases),
+      (
+        c.requires.visit,
+        (
+          c.loop-b.invariant.told,
+          (
+            c.requires.sources c.b-item.result.values (value_here c.args.bs.now c.loop-b.b-index c.b-item.result within c.b-item.is),
+            c.requires.linked c.b-item.result.values (value_here c.args.bs.now c.loop-b.b-index c.b-item.result within c.b-item.is),
+          ),
+        ),
+      ),
+    )
 
 pub outcomes_of-returns-in_err-outcome-clause-fault : goal.outcomes_of-returns-in_err-outcome-clause-fault
 outcomes_of-returns-in_err-outcome-clause-fault t c =
@@ -158,7 +189,7 @@ outcomes_of-returns-clause-clean t c = values_clean c.args.bs.now c.loop-b.b-ind
 -- ---- optional calls
 
 pub one_holds-called-requires : goal.one_holds-called-requires
-one_holds-called-requires t c = (omega (arith, c.decreases), (c.requires.visit, subst (λ o. AreBelow c.args.visit.now.program.now (suc c.args.visit.now.rel.now.stratum) (option_map call_named o ∷ [])) c.in-Some.is c.requires.below))
+one_holds-called-requires t c = (omega (arith, c.decreases), (c.requires.visit, (c.requires.told, (subst (λ o. AreBelow c.args.visit.now.program.now (suc c.args.visit.now.rel.now.stratum) (option_map call_named o ∷ [])) c.in-Some.is c.requires.below, subst (λ o. GoesOnWith c.args.visit.now (option_map call_named o ∷ [])) c.in-Some.is c.requires.linked))))
 
 pub is_partner-all_hold-requires : goal.is_partner-all_hold-requires
 is_partner-all_hold-requires t c =
@@ -167,7 +198,13 @@ is_partner-all_hold-requires t c =
       omega (arith, c.decreases),
       (
         c.requires.visit,
-        subst (AreBelow v.program.now (suc v.rel.now.stratum)) (sym same) (below_wheres v.program.now v.models.now c.requires.visit.formed v.plan.now.rel v.rel.now c.args.g.now.values c.requires.visit.planned.found),
+        (
+          c.requires.told,
+          (
+            subst (AreBelow v.program.now (suc v.rel.now.stratum)) (sym same) (below_wheres v.program.now v.models.now c.requires.visit.formed v.plan.now.rel v.rel.now c.args.g.now.values c.requires.visit.planned.found),
+            subst (GoesOnWith v) (sym same) c.requires.linked,
+          ),
+        ),
       ),
     )
 
@@ -197,7 +234,7 @@ is_matched-all_match-requires t c =
       omega (arith, c.decreases),
       (
         c.requires.visit,
-        subst (AreBelow v.program.now v.rel.now.stratum) (sym same) (below_whens v.program.now v.models.now c.requires.visit.formed v.plan.now.rel v.rel.now c.args.b.now.values c.requires.visit.planned.found),
+        (c.requires.told, subst (AreBelow v.program.now v.rel.now.stratum) (sym same) (below_whens v.program.now v.models.now c.requires.visit.formed v.plan.now.rel v.rel.now c.args.b.now.values c.requires.visit.planned.found)),
       ),
     )
 
@@ -212,11 +249,11 @@ outcome_of-returns-in_err-matched-clause-fault t c =
 
 -- ---- a call in a where clause
 
-pub called-longer_chain-requires : goal.called-longer_chain-requires
-called-longer_chain-requires t c = c.requires.visit.chain
+pub called_anew-longer_chain-requires : goal.called_anew-longer_chain-requires
+called_anew-longer_chain-requires t c = c.requires.visit.chain
 
-pub called-explore-requires : goal.called-explore-requires
-called-explore-requires t c =
+pub called_anew-explore-requires : goal.called_anew-explore-requires
+called_anew-explore-requires t c =
     let v = c.args.visit.now in
     let d = call_named c.args.name.now in
     let below = c.requires.below d (0, omega arith, refl) in
@@ -229,12 +266,21 @@ called-explore-requires t c =
       omega (arith, c.decreases, below.1, long, longer, one_more, more, few, names),
       (
         c.requires.visit.formed,
-        (below.0, subst (λ (ns : List CallName). IsChain (chain_named ns)) (sym c.as_slice.ensures) c.in_ok-upto.ensures.whole),
+        (
+          below.0,
+          (
+            c.requires.told,
+            (
+              subst (λ (ns : List CallName). IsChain (chain_named ns)) (sym c.as_slice.ensures) c.in_ok-upto.ensures.whole,
+              λ e calls. linked_behind v.program.now v.models.now (upto_of v) d e c.as_slice.result.now (ap chain_named c.as_slice.ensures ∙ c.in_ok-upto.ensures.longer) (c.requires.linked d (0, omega arith, refl)) calls,
+            ),
+          ),
+        ),
       ),
     )
 
-pub called-returns-in_err-upto-clause-fault : goal.called-returns-in_err-upto-clause-fault
-called-returns-in_err-upto-clause-fault t c =
+pub called_anew-returns-in_err-upto-clause-fault : goal.called_anew-returns-in_err-upto-clause-fault
+called_anew-returns-in_err-upto-clause-fault t c =
     let v = c.args.visit.now in
     let d = call_named c.args.name.now in
     let e = c.in_err-upto.field-0.0 in
@@ -242,8 +288,8 @@ called-returns-in_err-upto-clause-fault t c =
     ends_with (IsFault (SeenBehind v.program.now v.models.now (upto_of v) d)) c.from_residual.result e p.0 p.1 (cc p.2)
     (refused_fault v.program.now v.models.now (upto_of v) d e c.in_err-upto.ensures.fault)
 
-pub called-returns-in_err-found-clause-fault : goal.called-returns-in_err-found-clause-fault
-called-returns-in_err-found-clause-fault t c =
+pub called_anew-returns-in_err-found-clause-fault : goal.called_anew-returns-in_err-found-clause-fault
+called_anew-returns-in_err-found-clause-fault t c =
     let v = c.args.visit.now in
     let d = call_named c.args.name.now in
     let e = c.in_err-found.field-0.0 in
@@ -252,15 +298,15 @@ called-returns-in_err-found-clause-fault t c =
     (called_fault v.program.now v.models.now (upto_of v) d c.in_ok-upto.upto c.in_ok-upto.ensures.longer c.in_ok-upto.ensures.whole e
     (subst (λ (ns : List CallName). IsFault (Seen v.program.now v.models.now (chain_named ns) d) e) c.as_slice.ensures c.in_err-found.ensures.fault))
 
-pub called-returns-clause-clean : goal.called-returns-clause-clean
-called-returns-clause-clean t c =
+pub called_anew-returns-clause-clean : goal.called_anew-returns-clause-clean
+called_anew-returns-clause-clean t c =
     let v = c.args.visit.now in
     let d = call_named c.args.name.now in
     called_clean v.program.now v.models.now (upto_of v) d c.in_ok-upto.upto c.in_ok-upto.ensures.longer c.in_ok-upto.ensures.whole
     (subst (λ (ns : List CallName). AreClean (Seen v.program.now v.models.now (chain_named ns) d)) c.as_slice.ensures c.in_ok-found.ensures.clean)
 
-pub called-returns-clause-value : goal.called-returns-clause-value
-called-returns-clause-value t c =
+pub called_anew-returns-clause-value : goal.called_anew-returns-clause-value
+called_anew-returns-clause-value t c =
     let v = c.args.visit.now in
     let d = call_named c.args.name.now in
     let below = c.requires.below d (0, omega arith, refl) in
@@ -336,46 +382,98 @@ is_partner-returns-clause-fault t c =
 
 -- ---- a call in a when clause
 
-pub one_matches-explore-requires : goal.one_matches-explore-requires
-one_matches-explore-requires t c =
-    let v = c.args.visit.now in
+pub one_matches-is_match-requires : goal.one_matches-is_match-requires
+one_matches-is_match-requires t c =
     let d = call_named c.in-Some.name in
-    let none : c.as_slice.result.now ≡ [] = c.as_slice.ensures ∙ c.new-none.ensures in
     let below = c.requires.below d (subst (λ o. Contains (option_map call_named o ∷ []) (Some d)) (sym c.in-Some.is) (0, omega arith, refl)) in
-    (omega (arith, c.decreases, below.1), (c.requires.visit.formed, (below.0, subst (λ (ns : List CallName). IsChain (chain_named ns)) (sym none) no_chain)))
+    (omega (arith, c.decreases, below.1), (c.requires.visit.formed, (below.0, c.requires.told)))
 
-pub one_matches-returns-in_ok-found-in-Some-clause-value : goal.one_matches-returns-in_ok-found-in-Some-clause-value
-one_matches-returns-in_ok-found-in-Some-clause-value t c =
+pub one_matches-returns-in-Some-clause-value : goal.one_matches-returns-in-Some-clause-value
+one_matches-returns-in-Some-clause-value t c =
     let v = c.args.visit.now in
     let d = call_named c.in-Some.name in
-    let none : c.as_slice.result.now ≡ [] = c.as_slice.ensures ∙ c.new-none.ensures in
-    let below = c.requires.below d (subst (λ o. Contains (option_map call_named o ∷ []) (Some d)) (sym c.in-Some.is) (0, omega arith, refl)) in
-    let found = c.in_ok-found-in-Some.found in
-    let by = match_value v.program.now v.models.now c.requires.visit.formed below.0.rel found d c.as_slice.result.now none below.0.found (c.in_ok-found-in-Some.ensures.value below.0.rel below.0.found) in
-    let asked = asked_one (match_in v) d in
-    subst (λ x. IsTrue x ↔ AllAsked (match_in v) (option_map call_named c.args.call.now ∷ [])) (sym (c.is_any_partnered.ensures ∙ ap (list_any is_partnered) c.as_slice-in-Some.ensures))
-    (subst (λ o. IsTrue (list_any is_partnered found.outcomes) ↔ AllAsked (match_in v) (option_map call_named o ∷ [])) (sym c.in-Some.is) (λ x. asked.1 (by.0 x), λ y. by.1 (asked.0 y)))
+    IfOk-weaker c.is_match.result (λ one. IsTrue one ↔ match_in v d) (λ one. IsTrue one ↔ AllAsked (match_in v) (option_map call_named c.args.call.now ∷ []))
+    (λ one h. subst (λ o. IsTrue one ↔ AllAsked (match_in v) (option_map call_named o ∷ [])) (sym c.in-Some.is)
+    (λ x. (asked_one (match_in v) d).1 (h.0 x), λ y. h.1 ((asked_one (match_in v) d).0 y)))
+    c.is_match.ensures.value
 
-pub one_matches-returns-in_ok-found-in-Some-clause-clean : goal.one_matches-returns-in_ok-found-in-Some-clause-clean
-one_matches-returns-in_ok-found-in-Some-clause-clean t c =
+pub one_matches-returns-in-Some-clause-clean : goal.one_matches-returns-in-Some-clause-clean
+one_matches-returns-in-Some-clause-clean t c =
     let v = c.args.visit.now in
     let d = call_named c.in-Some.name in
-    let none : c.as_slice.result.now ≡ [] = c.as_slice.ensures ∙ c.new-none.ensures in
-    subst (λ o. AreClean (SeenInWhens v (option_map call_named o ∷ []))) (sym c.in-Some.is)
-    (clean_from (Seen v.program.now v.models.now [] d) (SeenInWhens v (Some d ∷ [])) (λ chain. (by_one (Seen v.program.now v.models.now []) d chain).0)
-    (match_clean v.program.now v.models.now d c.as_slice.result.now none c.in_ok-found-in-Some.ensures.clean))
+    IfOk-weaker c.is_match.result (λ one. AreClean (MatchChain v.program.now v.models.now d)) (λ one. AreClean (SeenInWhens v (option_map call_named c.args.call.now ∷ [])))
+    (λ one h. subst (λ o. AreClean (SeenInWhens v (option_map call_named o ∷ []))) (sym c.in-Some.is)
+    (clean_from (MatchChain v.program.now v.models.now d) (SeenInWhens v (Some d ∷ []))
+    (λ chain seen. (match_chains v.program.now v.models.now d chain).1 ((by_one (Seen v.program.now v.models.now []) d chain).0 seen)) h))
+    c.is_match.ensures.clean
 
-pub one_matches-returns-in_err-found-in-Some-clause-fault : goal.one_matches-returns-in_err-found-in-Some-clause-fault
-one_matches-returns-in_err-found-in-Some-clause-fault t c =
+pub one_matches-returns-in-Some-clause-fault : goal.one_matches-returns-in-Some-clause-fault
+one_matches-returns-in-Some-clause-fault t c =
     let v = c.args.visit.now in
     let d = call_named c.in-Some.name in
+    IfErr-weaker c.is_match.result (IsFault (MatchChain v.program.now v.models.now d)) (IsFault (SeenInWhens v (option_map call_named c.args.call.now ∷ [])))
+    (λ e h. subst (λ o. IsFault (SeenInWhens v (option_map call_named o ∷ [])) e) (sym c.in-Some.is)
+    (fault_in (MatchChain v.program.now v.models.now d) (SeenInWhens v (Some d ∷ []))
+    (λ chain seen. (by_one (Seen v.program.now v.models.now []) d chain).1 ((match_chains v.program.now v.models.now d chain).0 seen)) e h))
+    c.is_match.ensures.fault
+
+pub is_match_kept-is_match_anew-requires : goal.is_match_kept-is_match_anew-requires
+is_match_kept-is_match_anew-requires t c = (omega (arith, c.decreases), (c.requires.formed, (c.requires.askable, c.requires.told)))
+
+pub is_match-is_match_kept-requires : goal.is_match-is_match_kept-requires
+is_match-is_match_kept-requires t c = (omega (arith, c.decreases), (c.requires.formed, (c.requires.askable, (c.requires.told, c.in_ok-key.ensures))))
+
+pub is_match-returns-in-Some-clause-value : goal.is_match-returns-in-Some-clause-value
+is_match-returns-in-Some-clause-value t c =
+    let kept = c.requires.told.matching c.in_ok-key.key c.in-Some.one (sym c.kept_match.ensures ∙ c.in-Some.is) in
+    subst (λ (d : RelationCall). IsTrue c.in-Some.one ↔ Match c.args.program.now c.args.models.now d) c.in_ok-key.ensures kept.value
+
+pub is_match-returns-in-Some-clause-clean : goal.is_match-returns-in-Some-clause-clean
+is_match-returns-in-Some-clause-clean t c =
+    let kept = c.requires.told.matching c.in_ok-key.key c.in-Some.one (sym c.kept_match.ensures ∙ c.in-Some.is) in
+    subst (λ (d : RelationCall). AreClean (MatchChain c.args.program.now c.args.models.now d)) c.in_ok-key.ensures kept.clean
+
+pub is_match_anew-explore-requires : goal.is_match_anew-explore-requires
+is_match_anew-explore-requires t c =
+    let none : c.as_slice.result.now ≡ [] = c.as_slice.ensures ∙ c.new-none.ensures in (
+      omega (arith, c.decreases),
+      (
+        c.requires.formed,
+        (
+          c.requires.askable,
+          (
+            c.requires.told,
+            (
+              subst (λ (ns : List CallName). IsChain (chain_named ns)) (sym none) no_chain,
+              λ d calls. linked_first c.args.program.now c.args.models.now c.as_slice.result.now none d,
+            ),
+          ),
+        ),
+      ),
+    )
+
+pub is_match_anew-returns-in_err-found-clause-fault : goal.is_match_anew-returns-in_err-found-clause-fault
+is_match_anew-returns-in_err-found-clause-fault t c =
+    let d = call_named c.args.name.now in
     let none : c.as_slice.result.now ≡ [] = c.as_slice.ensures ∙ c.new-none.ensures in
-    let e = c.in_err-found-in-Some.field-0.0 in
+    let e = c.in_err-found.field-0.0 in
     let p = err_from_is_err_and c.from_residual.result c.from_residual.ensures.1 in
-    ends_with (IsFault (SeenInWhens v (option_map call_named c.args.call.now ∷ []))) c.from_residual.result e p.0 p.1 (cc p.2)
-    (subst (λ o. IsFault (SeenInWhens v (option_map call_named o ∷ [])) e) (sym c.in-Some.is)
-    (fault_in (Seen v.program.now v.models.now [] d) (SeenInWhens v (Some d ∷ [])) (λ chain. (by_one (Seen v.program.now v.models.now []) d chain).1) e
-    (match_fault v.program.now v.models.now d c.as_slice.result.now e none c.in_err-found-in-Some.ensures.fault)))
+    ends_with (IsFault (MatchChain c.args.program.now c.args.models.now d)) c.from_residual.result e p.0 p.1 (cc p.2)
+    (match_chains_fault c.args.program.now c.args.models.now d c.as_slice.result.now none e c.in_err-found.ensures.fault)
+
+pub is_match_anew-returns-clause-clean : goal.is_match_anew-returns-clause-clean
+is_match_anew-returns-clause-clean t c =
+    let none : c.as_slice.result.now ≡ [] = c.as_slice.ensures ∙ c.new-none.ensures in
+    match_chains_clean c.args.program.now c.args.models.now (call_named c.args.name.now) c.as_slice.result.now none c.in_ok-found.ensures.clean
+
+pub is_match_anew-returns-clause-value : goal.is_match_anew-returns-clause-value
+is_match_anew-returns-clause-value t c =
+    let d = call_named c.args.name.now in
+    let none : c.as_slice.result.now ≡ [] = c.as_slice.ensures ∙ c.new-none.ensures in
+    let a = c.requires.askable in
+    let found = c.in_ok-found.found in
+    subst (λ x. IsTrue x ↔ Match c.args.program.now c.args.models.now d) (sym (c.is_any_partnered.ensures ∙ ap (list_any is_partnered) c.as_slice-2.ensures))
+    (match_value c.args.program.now c.args.models.now c.requires.formed a.rel found d c.as_slice.result.now none a.found (c.in_ok-found.ensures.value a.rel a.found))
 
 -- ---- partners that meet the target
 
@@ -431,7 +529,7 @@ is_matched-returns-clause-fault t c =
     subst (λ cs. IfErr c.all_match.result (IsFault (SeenInWhens v cs))) same c.all_match.ensures.fault
 
 pub outcome_of-has_partner-requires : goal.outcome_of-has_partner-requires
-outcome_of-has_partner-requires t c = (omega (arith, c.decreases), (c.requires.visit, c.requires.source))
+outcome_of-has_partner-requires t c = (omega (arith, c.decreases), (c.requires.visit, (c.in_ok-matched.ensures.told, (c.requires.source, c.requires.linked (c.in_ok-matched.ensures.value.0 c.if-not-matched.false)))))
 
 pub outcome_of-returns-in_err-partnered-clause-fault : goal.outcome_of-returns-in_err-partnered-clause-fault
 outcome_of-returns-in_err-partnered-clause-fault t c =
@@ -486,6 +584,7 @@ outcomes_of-loop-b-preserved t c =
       value = subst (AreOutcomes v.program.now v.models.now (left_of v) v.rel.now (values_of (take (i + 1) c.args.bs.now))) (sym c.in_ok-push.ensures.ok)
           (value_outcomes c.args.bs.now i c.b-item.result within c.b-item.is v.program.now v.models.now (left_of v) v.rel.now c.loop-b.outcomes c.in_ok-outcome.outcome (i + 1) (omega arith) c.loop-b.invariant.value c.in_ok-outcome.ensures.value);
       clean = value_clean c.args.bs.now i c.b-item.result within c.b-item.is (SeenBy v) (i + 1) (omega arith) c.loop-b.invariant.clean c.in_ok-outcome.ensures.clean;
+      told = c.in_ok-outcome.ensures.told;
     }
 
 -- ---- a visit of a relation
@@ -505,8 +604,16 @@ explore-outcomes_of-requires t c =
       omega (arith, c.decreases, level),
       (
         record { formed = c.requires.formed; planned = planned; chain = c.requires.chain },
-        λ b has. source_binding c.args.program.now c.args.models.now rel c.args.name.now.roots.values b
-            ((c.in_ok-bindings.ensures.exact rel planned b).0 (subst (λ (bs : List Binding). Contains (values_of bs) b) c.as_slice-2.ensures has)),
+        (
+          c.requires.told,
+          (
+            λ b has. source_binding c.args.program.now c.args.models.now rel c.args.name.now.roots.values b
+                ((c.in_ok-bindings.ensures.exact rel planned b).0 (subst (λ (bs : List Binding). Contains (values_of bs) b) c.as_slice-2.ensures has)),
+            all_linked c.args.program.now c.args.models.now (chain_named c.args.upto.now) rel (call_named c.args.name.now) (values_of c.as_slice-2.result.now) is
+                (all_sources c.args.program.now c.args.models.now rel c.args.name.now.roots.values c.in_ok-bindings.bindings c.as_slice-2.result.now c.as_slice-2.ensures (c.in_ok-bindings.ensures.exact rel planned))
+                c.requires.linked,
+          ),
+        ),
       ),
     )
 
@@ -540,3 +647,56 @@ explore-returns-clause-value t c =
     let planned = planned_at c.args.program.now c.args.name.now.rel r c.in_ok-plan.plan c.in_ok-plan.ensures there in
     found_all c.args.program.now c.args.models.now (MAX_CALLS - length (chain_named c.args.upto.now)) rel r (same_Some rel r (sym is ∙ there)) c.args.name.now.roots.values c.in_ok-bindings.bindings
     c.as_slice-2.result.now c.as_slice-2.ensures c.in_ok-outcomes.outcomes (c.in_ok-bindings.ensures.exact r planned) (c.in_ok-bindings.ensures.sorted r planned) c.in_ok-outcomes.ensures.value
+
+-- ---- partners are made by the last call of the chain
+
+pub any_partner-is_partner-requires : goal.any_partner-is_partner-requires
+any_partner-is_partner-requires t c =
+    let within : c.loop-g.g-index < length c.args.gs.now = omega arith in
+    (omega (arith, c.decreases), (c.requires.visit, (c.loop-g.invariant.told, c.requires.linked c.g-item.result.values (value_here c.args.gs.now c.loop-g.g-index c.g-item.result within c.g-item.is))))
+
+pub has_partner-any_partner-requires : goal.has_partner-any_partner-requires
+has_partner-any_partner-requires t c =
+    let v = c.args.visit.now in
+    (omega (arith, c.decreases), (c.requires.visit, (c.requires.told, λ g has. c.requires.linked g ((c.in_ok-gs.ensures.exact v.rel.now c.requires.visit.planned g).0 (subst (λ (gs : List Binding). Contains (values_of gs) g) c.as_slice.ensures has)))))
+
+-- ---- answers that are kept
+
+pub is_match_kept-returns-in_err-keep_match-clause-told : goal.is_match_kept-returns-in_err-keep_match-clause-told
+is_match_kept-returns-in_err-keep_match-clause-told t c =
+    let p = c.args.program.now in
+    let m = c.args.models.now in
+    c.in_err-keep_match.ensures.told p m c.in_ok-one.ensures.told
+    (subst (λ (d : RelationCall). IsMatching p m d c.in_ok-one.one) (sym c.requires.key) (record { value = c.in_ok-one.ensures.value; clean = c.in_ok-one.ensures.clean }))
+
+pub is_match_kept-returns-clause-told : goal.is_match_kept-returns-clause-told
+is_match_kept-returns-clause-told t c =
+    let p = c.args.program.now in
+    let m = c.args.models.now in
+    c.in_ok-keep_match.ensures.told p m c.in_ok-one.ensures.told
+    (subst (λ (d : RelationCall). IsMatching p m d c.in_ok-one.one) (sym c.requires.key) (record { value = c.in_ok-one.ensures.value; clean = c.in_ok-one.ensures.clean }))
+
+pub called_kept-returns-in_err-keep_hold-clause-told : goal.called_kept-returns-in_err-keep_hold-clause-told
+called_kept-returns-in_err-keep_hold-clause-told t c =
+    let v = c.args.visit.now in
+    c.in_err-keep_hold.ensures.told v.program.now v.models.now c.in_ok-holds.ensures.told
+    (kept_holding v.program.now v.models.now (upto_of v) c.args.key (call_named c.args.name.now) c.requires.key c.in_ok-holds.holds c.requires.visit.chain c.in_ok-holds.ensures.clean c.in_ok-holds.ensures.value _
+    c.calls_left-height.ensures)
+
+pub called_kept-returns-clause-told : goal.called_kept-returns-clause-told
+called_kept-returns-clause-told t c =
+    let v = c.args.visit.now in
+    c.in_ok-keep_hold.ensures.told v.program.now v.models.now c.in_ok-holds.ensures.told
+    (kept_holding v.program.now v.models.now (upto_of v) c.args.key (call_named c.args.name.now) c.requires.key c.in_ok-holds.holds c.requires.visit.chain c.in_ok-holds.ensures.clean c.in_ok-holds.ensures.value _
+    c.calls_left-height.ensures)
+
+pub called-returns-in-Some-clause-value : goal.called-returns-in-Some-clause-value
+called-returns-in-Some-clause-value t c =
+    let v = c.args.visit.now in
+    taken_value v.program.now v.models.now _ c.requires.told (upto_of v) c.in_ok-key.key (call_named c.args.name.now) c.in_ok-key.ensures _ c.calls_left.ensures _ c.in-Some.holds c.in-Some.is c.kept_hold.ensures
+
+pub called-returns-in-Some-clause-clean : goal.called-returns-in-Some-clause-clean
+called-returns-in-Some-clause-clean t c =
+    let v = c.args.visit.now in
+    taken_clean v.program.now v.models.now _ c.requires.told (upto_of v) c.in_ok-key.key (call_named c.args.name.now) c.in_ok-key.ensures _ c.calls_left.ensures _ c.in-Some.holds c.in-Some.is c.kept_hold.ensures
+    c.requires.visit.chain (c.requires.linked (call_named c.args.name.now) (0, omega arith, refl))

@@ -11,6 +11,7 @@ use Rattle.relation_calls.specs.Askable.{IsAskable}
 use Rattle.relation_calls.specs.Visits.{IsChain}
 use Rattle.relation_calls.proofs.RefusalLaws.{no_chain}
 use Rattle.relation_calls.proofs.VisitLaws.{ends_with}
+use Rattle.relation_calls.proofs.HeldLaws.{linked_first}
 use Rattle.relation_calls.proofs.OutsideLaws.{top_askable, found_at, top_value, top_clean, top_fault}
 use Rattle.relation_calls.proofs.calls.failing_binding.Goals as goal
 
@@ -21,6 +22,9 @@ explore-requires-clause-askable c =
 
 pub explore-requires-clause-chain : goal.explore-requires-clause-chain
 explore-requires-clause-chain c = subst (λ (ns : List CallName). IsChain (chain_named ns)) (sym (c.as_slice.ensures ∙ c.new-none.ensures)) no_chain
+
+pub explore-requires-clause-linked : goal.explore-requires-clause-linked
+explore-requires-clause-linked c = λ d calls. linked_first c.args.program.now c.args.models.now c.as_slice.result.now (c.as_slice.ensures ∙ c.new-none.ensures) d
 
 pub returns-in_err-found-clause-fault : goal.returns-in_err-found-clause-fault
 returns-in_err-found-clause-fault c =

@@ -14,6 +14,7 @@ use Rattle.relation_calls.specs.Founds.{IsFound}
 use Rattle.relation_calls.specs.Visits.{IsChain}
 use Rattle.relation_calls.proofs.RefusalLaws.{no_chain}
 use Rattle.relation_calls.proofs.VisitLaws.{ends_with}
+use Rattle.relation_calls.proofs.HeldLaws.{linked_first, linked_behind}
 use Rattle.relation_calls.proofs.OutsideLaws.{refused_alone, held_value, held_clean, held_fault}
 use Rattle.relation_calls.proofs.calls.holds_alone.Goals as goal
 
@@ -22,6 +23,13 @@ longer_chain-requires c = subst (λ (ns : List CallName). IsChain (chain_named n
 
 pub explore-requires-clause-chain : goal.explore-requires-clause-chain
 explore-requires-clause-chain c = subst (λ (ns : List CallName). IsChain (chain_named ns)) (sym c.as_slice-2.ensures) c.in_ok-upto.ensures.whole
+
+pub explore-requires-clause-linked : goal.explore-requires-clause-linked
+explore-requires-clause-linked c = λ e calls.
+    let d = call_named c.args.name.now in
+    let none : c.as_slice.result.now ≡ [] = c.as_slice.ensures ∙ c.new-none.ensures in
+    linked_behind c.args.program.now c.args.models.now (chain_named c.as_slice.result.now) d e c.as_slice-2.result.now (ap chain_named c.as_slice-2.ensures ∙ c.in_ok-upto.ensures.longer)
+    (linked_first c.args.program.now c.args.models.now c.as_slice.result.now none d) calls
 
 pub returns-in_err-upto-clause-fault : goal.returns-in_err-upto-clause-fault
 returns-in_err-upto-clause-fault c =

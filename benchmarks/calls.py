@@ -1,0 +1,70 @@
+#!/usr/bin/env python3
+"""Times `qvtr check` on scripts with ever more paths of calls between few relations.
+
+    python3 benchmarks/calls.py PROGRAM
+
+PROGRAM is the built program. A script has layers of two relations, each of which calls both of the next layer, in its where clause or in
+its when clause: 2 ^ n paths of calls with n layers, and 2 n different calls. Each line tells the clause and the layers, the seconds and
+the peak memory of the run, and what was printed. The metamodels are those of crates/qvtr_cmd/data; the rest is made in a temporary folder.
+"""
+import os
+import shutil
+import subprocess
+import sys
+import tempfile
+import time
+
+DATA = os.path.join(os.path.dirname(os.path.abspath(__file__)), '..', 'crates', 'qvtr_cmd', 'data')
+SCRIPT = 'layers.qvtr'
+LAYERS = (5, 10, 20, 40, 60)
+HEAD = ('<?xml version="1.0" encoding="UTF-8"?>\n'
+        '<xmi:XMI xmi:version="20131001" xmlns:xmi="http://www.omg.org/spec/XMI/20131001" xmlns:m="%s">\n')
+FOOT = '</xmi:XMI>\n'
+SOURCE = HEAD % 'Cls' + '<m:Package xmi:id="p" name="p"><classes xmi:id="c" name="C"/></m:Package>\n' + FOOT
+TARGET = HEAD % 'Rdb' + '<m:Schema xmi:id="s" name="p"><tables xmi:id="t" name="C"/></m:Schema>\n' + FOOT
+
+
+def relation(head, clause, callees):
+    """A relation between classes and tables of one name that calls others."""
+    calls = ' '.join(f'{name}(c, t);' for name in callees)
+    return (f'  {head} {{\n    n : String;\n    checkonly domain uml c : Class {{name = n}};\n    enforce domain rdb t : Table {{name = n}};\n'
+            + (f'    {clause} {{ {calls} }}\n' if callees else '') + '  }\n')
+
+
+def script(clause, layers):
+    parts = [relation('top relation Top', clause, ('A0', 'B0'))]
+    for i in range(layers):
+        callees = (f'A{i + 1}', f'B{i + 1}') if i + 1 < layers else ()
+        parts += [relation(f'relation {side}{i}', clause, callees) for side in 'AB']
+    return 'transformation Layers (uml : Cls, rdb : Rdb) {\n' + ''.join(parts) + '}\n'
+
+
+def timed(words, folder):
+    before = time.time()
+    process = subprocess.Popen(words, cwd=folder, stdout=subprocess.PIPE, stderr=subprocess.STDOUT)
+    printed = process.stdout.read()
+    _, _, usage = os.wait4(process.pid, 0)
+    return time.time() - before, usage.ru_maxrss * 1024, ' / '.join(printed.decode(errors='replace').split('\n'))[:120]
+
+
+def main():
+    if len(sys.argv) != 2:
+        sys.exit(__doc__)
+    program = os.path.abspath(sys.argv[1])
+    with tempfile.TemporaryDirectory() as folder:
+        for name in ('cls.xmi', 'rdb.xmi'):
+            shutil.copy(os.path.join(DATA, name), folder)
+        for file, text in (('u.xmi', SOURCE), ('r.xmi', TARGET)):
+            with open(os.path.join(folder, file), 'w') as out:
+                out.write(text)
+        words = [program, 'check', SCRIPT, 'rdb', 'Cls=cls.xmi', 'Rdb=rdb.xmi', 'uml=u.xmi', 'rdb=r.xmi']
+        for clause in ('where', 'when'):
+            for layers in LAYERS:
+                with open(os.path.join(folder, SCRIPT), 'w') as out:
+                    out.write(script(clause, layers))
+                seconds, memory, printed = timed(words, folder)
+                print(f'{clause}, {layers} layers: {seconds:.2f} s, {memory / 1e6:.0f} MB: {printed}', flush=True)
+
+
+if __name__ == '__main__':
+    main()
