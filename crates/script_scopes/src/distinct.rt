@@ -1,4 +1,4 @@
-ghost use Rattle.std.specs.Prelude.{◌≡◌, ◌++◌, ◌∷◌, [], map, IfOk, OnOk, if◌then◌else◌};
+ghost use Rattle.std.specs.Prelude.{◌≡◌, ◌++◌, ◌∷◌, [], map, IfOk, OnOk, OnErr, if◌then◌else◌};
 ghost use Rattle.std.specs.Set.{is_member};
 ghost use Rattle.mof_metamodel.specs.Characters.{same_name};
 ghost use Rattle.script_scopes.specs.ScriptNames.{each_once as distinct};
@@ -6,9 +6,10 @@ ghost use Rattle.script_scopes.specs.ScriptNames.{each_once as distinct};
 use mof_metamodel::{NameTable, NoMemory, Seq, Text};
 use std::alloc::Global;
 
-/// Puts a name behind the others, if it isn't among them.
+/// Puts a name behind the others, if it isn't among them. After `NoMemory` they are as they were.
 pub fn add_new(met: &mut NameTable<u32>, name: Text) -> Result<(), NoMemory>
-    ensures { OnOk result (map (λ e. e.0) met.new ≡ map (λ e. e.0) met.old ++ (if is_member same_name (map (λ e. e.0) met.old) name then [] else name ∷ [])) }
+    ensures ok { OnOk result (map (λ e. e.0) met.new ≡ map (λ e. e.0) met.old ++ (if is_member same_name (map (λ e. e.0) met.old) name then [] else name ∷ [])) }
+    ensures err { OnErr result (met.new ≡ met.old) }
 {
     if met.contains(&name) {
         return Ok(());

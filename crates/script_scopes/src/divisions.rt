@@ -1,4 +1,4 @@
-ghost use Rattle.std.specs.Prelude.{◌≡◌, ◌+◌, ◌++◌, ◌∷◌, [], map, chars, not, IsTrue, ◌↔◌, IfOk, OnOk, if◌then◌else◌};
+ghost use Rattle.std.specs.Prelude.{◌≡◌, ◌+◌, ◌++◌, ◌∷◌, [], map, chars, IsTrue, ◌↔◌, IfOk, OnOk, if◌then◌else◌};
 ghost use Rattle.script_scopes.specs.Occurrences.{template_count, domain_variables};
 ghost use Rattle.script_scopes.specs.UniversalNames.{is_of_model as of_model, has_domain_of as domain_of, names_outside as outside, universal_names as universals, is_among, numbers_from};
 ghost use Rattle.script_scopes.specs.Divisions.{IsUniversal};
@@ -9,7 +9,7 @@ ghost use Rattle.script_scopes.specs.Resolutions.{AreThose};
 use crate::distinct::each_once;
 use crate::names::is_name;
 use crate::occurrences::{add_clause, add_domain, variables_listed};
-use crate::pieces::{add_pieces, next};
+use crate::pieces::{add_pieces, next_number};
 use mof_metamodel::{NameTable, NoMemory, Seq, Text};
 use qv_syntax::{DomainTree, RelationTree};
 use std::alloc::Global;
@@ -128,7 +128,7 @@ fn numbers_where(
     let mut k = 0;
     for variable in variables {
         push_number(k, is_sought(names, wanted, variable), &mut out)?;
-        k = next(k)?;
+        k = next_number(k)?;
     }
     Ok(out)
 }

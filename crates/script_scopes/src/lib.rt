@@ -49,7 +49,7 @@ pub use names::{is_given, is_name, model_place, names_match};
 pub use object_models::{is_class, named_relations, variable_models};
 pub use occurrences::{add_variables, root_name, variable_text, variables_listed, variables_of};
 pub use piece::{BorrowedPiece, BorrowedProperty, VariableName};
-pub use pieces::{add_pieces, next, variable_of};
+pub use pieces::{add_pieces, next_number, variable_of};
 pub use relation_names::{domain_models, template_variables, typed_names};
 pub use repeats::first_repeat;
 pub use script_names::{

@@ -1,4 +1,4 @@
-ghost use Rattle.std.specs.Prelude.{◌≡◌, ◌+◌, ◌++◌, map, IfOk, OnOk};
+ghost use Rattle.std.specs.Prelude.{◌≡◌, ◌<◌, ◌+◌, ◌++◌, map, IfOk, OnOk, OnErr};
 ghost use Rattle.std.specs.Option.{option_map};
 ghost use Rattle.script_scopes.specs.Occurrences.{begun, in_turn, template_body, item_pieces, value_pieces, variable_text, template_count, pieces_of};
 ghost use Rattle.script_scopes.specs.BorrowedPieces.{shown_property, shown_variable, shown_piece};
@@ -17,9 +17,14 @@ pub fn variable_of(variable: &Option<Name>, k: u32) -> VariableName<'_>
     }
 }
 
-/// The next number, as far as numbers go.
-pub fn next(k: u32) -> Result<u32, NoMemory>
-    ensures { IfOk result (λ n. n ≡ k + 1) }
+/// The number behind this one.
+///
+/// # Errors
+///
+/// `NoMemory` where it passes 4,294,967,295.
+pub fn next_number(k: u32) -> Result<u32, NoMemory>
+    ensures next { IfOk result (λ n. n ≡ k + 1) }
+    ensures full { OnErr result (u32.MAX < k + 1) }
 {
     match k.checked_add(1) {
         Some(n) => Ok(n),
@@ -44,7 +49,12 @@ fn add_template<'a>(
         variable,
         class: &template.class,
     })?;
-    add_items(next(k)?, &template.class, template.items.as_slice(), out)
+    add_items(
+        next_number(k)?,
+        &template.class,
+        template.items.as_slice(),
+        out,
+    )
 }
 
 /// Items of a template one behind the other.

@@ -1,7 +1,7 @@
 ghost use Rattle.std.specs.Prelude.{◌≡◌, ◌+◌, ◌++◌, map, IfOk, OnOk};
 ghost use Rattle.std.specs.List.{flat_map, filter_map};
 ghost use Rattle.std.specs.Option.{option_to_list};
-ghost use Rattle.script_scopes.specs.Occurrences.{declared_names, root_of, template_count, pieces_of, piece_template, templates_from, template_variables as templates};
+ghost use Rattle.script_scopes.specs.Occurrences.{root_of, template_count, pieces_of, piece_template, templates_from, template_variables as templates};
 ghost use Rattle.script_scopes.specs.Divisions.{model_of};
 ghost use Rattle.script_scopes.specs.Faults.{root_where, typed_names as typed, domain_models as models};
 ghost use Rattle.script_scopes.specs.BorrowedPieces.{shown_piece};

@@ -1,8 +1,9 @@
-ghost use Rattle.std.specs.Prelude.{◌≡◌, ◌++◌, ℕ, List, map, chars, Contains, IfOk, OnOk};
+ghost use Rattle.std.specs.Prelude.{◌≡◌, ◌<◌, ◌++◌, ℕ, List, map, chars, Contains, IfOk, OnOk, OnErr};
 ghost use Rattle.ocl_types.specs.Written.{IfFault};
+ghost use Rattle.ocl_types.specs.declared.limits.TheConstants.{MAX_NUMBERED};
 ghost use Rattle.ocl_types.specs.declared.fault.TypeFault.TheVariants as faults;
 ghost use Rattle.script_scopes.specs.ScriptNames.{model_names, meta_names, script_names as names_of};
-ghost use Rattle.script_scopes.specs.Environments.{metamodel_names as metamodels, place_of as place, slot_of as slot, slots_of as slots};
+ghost use Rattle.script_scopes.specs.Environments.{metamodel_names as metamodels, place_of as place, slots_of as slots};
 ghost use Rattle.script_scopes.specs.Declarations.{relation_names, global_names as globals, IsRepeated};
 ghost use Rattle.script_scopes.specs.Refusals.{IsRepeatFault};
 
@@ -131,8 +132,13 @@ fn global_names(alloc: Global, script: &Script) -> Result<Seq<Text>, NoMemory>
 }
 
 /// A place as a number of 32 bits.
+///
+/// # Errors
+///
+/// `NoMemory` where the place passes `MAX_NUMBERED`.
 pub fn numbered(place: usize) -> Result<u32, NoMemory>
-    ensures { IfOk result (λ number. number ≡ place) }
+    ensures number { IfOk result (λ number. number ≡ place) }
+    ensures full { OnErr result (MAX_NUMBERED < place) }
 {
     if place > MAX_NUMBERED {
         return Err(NoMemory);
@@ -146,7 +152,8 @@ pub fn numbered(place: usize) -> Result<u32, NoMemory>
 ///
 /// `NoMemory` where the place passes `MAX_NUMBERED`.
 pub fn place_of(names: &NameTable<u32>, name: &Text) -> Result<u32, NoMemory>
-    ensures { IfOk result (λ number. number ≡ place name.now (map (λ e. e.0) names.now)) }
+    ensures number { IfOk result (λ number. number ≡ place name.now (map (λ e. e.0) names.now)) }
+    ensures full { OnErr result (MAX_NUMBERED < place name.now (map (λ e. e.0) names.now)) }
 {
     match names.find(name) {
         Some((number, _)) => numbered(number),

@@ -6,5 +6,5 @@ use Rattle.script_scopes.proofs.distinct.each_once.Goals as goal
 
 pub loop-name-preserved : goal.loop-name-preserved
 loop-name-preserved c =
-    c.in_ok-add_new.ensures ∙ ap (λ (ns : List (List ℕ)). ns ++ cond (is_member same_name ns c.in-Some.name) [] (c.in-Some.name ∷ [])) c.loop-name.invariant
+    c.in_ok-add_new.ensures.ok ∙ ap (λ (ns : List (List ℕ)). ns ++ cond (is_member same_name ns c.in-Some.name) [] (c.in-Some.name ∷ [])) c.loop-name.invariant
     ∙ sym (once_more c.loop-name.yielded c.in-Some.name)
