@@ -4,7 +4,7 @@ use Rattle.std.specs.Prelude.{Option, Some, None, Contains, slice_get, is_some, 
 use Rattle.std.specs.List.{flat_map, position_or_len}
 use Rattle.std.specs.Set.{is_member}
 use Rattle.std.specs.Option.{option_map_or, option_to_list}
-use Rattle.std.proofs.lemmas.Bool.{lt-ltb, ltb-true}
+use Rattle.std.proofs.lemmas.Bool.{lt-ltb, ltb-true, not-true, not_from_false}
 use Rattle.std.proofs.lemmas.Option.{same_Some, none-some, slice_get-get_or, slice_get_within}
 use Rattle.std.proofs.lemmas.List.{length-map}
 use Rattle.std.proofs.lemmas.List.Sums.{passes_at_first}
@@ -134,13 +134,6 @@ bound_from false v rule (k, l, at) = absurd (omega arith)
 bound_to : (b : Bool) (v : List ℕ) → b ≡ true → Contains (bound_if b v) (v, [])
 bound_to b v h = subst (λ (a : Bool). Contains (bound_if a v) (v, [])) (sym h) (0, omega arith, refl)
 
-not_true : (b : Bool) → not b ≡ true → b ≡ false
-not_true true h = absurd (true≢false (sym h))
-not_true false h = refl
-
-true_not : (b : Bool) → b ≡ false → not b ≡ true
-true_not b h = ap not h
-
 module _ (target : List ℕ) (r : RelationTree) where
   abbrev universal : List (List ℕ)
   universal = each_once (universal_names target r)
@@ -152,14 +145,14 @@ module _ (target : List ℕ) (r : RelationTree) where
   universal_among v u = name_had universal v (once_has (universal_names target r) v (universal_listed target r v u))
 
   pub among_existential : (v : List ℕ) → is_among universal false v ≡ true → ¬ IsUniversal target r v
-  among_existential v h u = true≢false (sym (universal_among v u) ∙ not_true (is_member same_name universal v) h)
+  among_existential v h u = true≢false (sym (universal_among v u) ∙ not-true (is_member same_name universal v) h)
 
   pub existential_among : (v : List ℕ) → ¬ IsUniversal target r v → is_among universal false v ≡ true
   existential_among v h = by (is_member same_name universal v) refl
     where
       by : (b : Bool) → is_member same_name universal v ≡ b → not (is_member same_name universal v) ≡ true
       by true e = absurd (h (listed_universal target r v (has_once (universal_names target r) v (has_name universal v e))))
-      by false e = true_not (is_member same_name universal v) e
+      by false e = not_from_false (is_member same_name universal v) e
 
   module _ (Data : List ℕ → Type 0) where
     abbrev Bound : List ℕ → Type 0
@@ -255,7 +248,7 @@ module _ (target : List ℕ) (r : RelationTree) where
     primitive_binds (domains.Pattern mark model root template span) among rule (k, l, at) = absurd (omega arith)
     primitive_binds (domains.Primitive root ty span) among rule c =
         let (allowed, same) = bound_from (not r.top) root.text rule c in
-        bare root.text rule same (IsBound.primitive root.text (domains.Primitive root ty span) (not_true r.top allowed) among refl refl)
+        bare root.text rule same (IsBound.primitive root.text (domains.Primitive root ty span) (not-true r.top allowed) among refl refl)
 
     -- ---- all of them
 
@@ -328,7 +321,7 @@ module _ (target : List ℕ) (r : RelationTree) where
       primitive_rule (domains.Pattern mark model root template span) top among none n number = absurd (none-some model.text (sym none))
       primitive_rule (domains.Primitive root ty span) top among none n number =
           in_primitives (n, []) (to_flat_map (λ (d : DomainTree). numbered types (primitive_rules r.top d)) r.domains (domains.Primitive root ty span) (n, []) among
-          (numbered_to types (primitive_rules r.top (domains.Primitive root ty span)) root.text [] n (bound_to (not r.top) root.text (true_not r.top top)) number))
+          (numbered_to types (primitive_rules r.top (domains.Primitive root ty span)) root.text [] n (bound_to (not r.top) root.text (not_from_false r.top top)) number))
 
       when_rule : (v : List ℕ) (e : Expr) → IsUniversal target r v → Says r.when v e → (n : ℕ) → Contains (data_number types v) n → Contains rules (n, flat_map (data_number types) (variables_in e))
       when_rule v e u says n number =
