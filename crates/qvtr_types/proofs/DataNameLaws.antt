@@ -3,6 +3,7 @@ use Rattle.std.proofs.Common.{◌≡◌, ℕ, zero, suc, List, [], ◌∷◌, Bo
 use Rattle.std.specs.Prelude.{Option, Some, None, is_some, position, slice_get}
 use Rattle.std.specs.List.{AllZip, position_or_len}
 use Rattle.std.specs.Option.{option_map_or}
+use Rattle.std.proofs.lemmas.Bool.{not-true, and_parts, and_from}
 use Rattle.std.proofs.lemmas.Option.{same_Some, none-some, slice_get_within}
 use Rattle.mof_metamodel.specs.declared.desc.ClassId.{ClassId}
 use Rattle.mof_metamodel.specs.Characters.{same_name}
@@ -43,16 +44,12 @@ record IsPlaced (names : List (List ℕ)) (vars : List Var) (v : List ℕ) : Typ
   pub found : slice_get vars place ≡ Some var
   pub no_class : is_class var.ty ≡ false
 
-not_class_ty : (b : Bool) → not b ≡ true → b ≡ false
-not_class_ty true h = absurd (true≢false (sym h))
-not_class_ty false h = refl
-
 placed : (names : List (List ℕ)) (vars : List Var) (v : List ℕ) → is_data_named names vars v ≡ true → IsPlaced names vars v
 placed names vars v h = by (position (same_name v) names) refl h
   where
     there : (n : ℕ) → position (same_name v) names ≡ Some n → (o : Option Var) → slice_get vars n ≡ o → option_map_or (λ var. not (is_class var.ty)) o false ≡ true → IsPlaced names vars v
     there n at None found g = absurd (true≢false (sym g))
-    there n at (Some var) found g = record { place = n; var = var; named = number_at names v n at; found = found; no_class = not_class_ty (is_class var.ty) g }
+    there n at (Some var) found g = record { place = n; var = var; named = number_at names v n at; found = found; no_class = not-true (is_class var.ty) g }
 
     by : (o : Option ℕ) → position (same_name v) names ≡ o → is_data_at vars o ≡ true → IsPlaced names vars v
     by None at g = absurd (true≢false (sym g))
@@ -90,24 +87,16 @@ module _ (s : Setting) (r : RelationTree) (vars : List Var) (are : AreVariables 
   abbrev universal : List (List ℕ)
   universal = each_once (universal_names s.target r)
 
-  both : (a b : Bool) → (a && b) ≡ true → (a ≡ true) × (b ≡ true)
-  both true true h = (refl, refl)
-  both true false h = absurd (true≢false (sym h))
-  both false b h = absurd (true≢false (sym h))
-
-  and_both : (a b : Bool) → a ≡ true → b ≡ true → (a && b) ≡ true
-  and_both a b g h = ap (λ (x : Bool). x && b) g ∙ h
-
   pub when_passes : (v : List ℕ) → has_equation (variables_of r) vars universal true v ≡ true → IsData s r v × IsUniversal s.target r v
   when_passes v h =
-      let p = both (is_data_named (variables_of r) vars v) (is_among universal true v) h in (named_data v p.0, among_universal s.target r v p.1)
+      let p = and_parts (is_data_named (variables_of r) vars v) (is_among universal true v) h in (named_data v p.0, among_universal s.target r v p.1)
 
   pub when_passed : (v : List ℕ) → IsData s r v → IsUniversal s.target r v → has_equation (variables_of r) vars universal true v ≡ true
-  when_passed v d u = and_both (is_data_named (variables_of r) vars v) (is_among universal true v) (data_named v d) (universal_among s.target r v u)
+  when_passed v d u = and_from (is_data_named (variables_of r) vars v) (is_among universal true v) (data_named v d) (universal_among s.target r v u)
 
   pub where_passes : (v : List ℕ) → has_equation (variables_of r) vars universal false v ≡ true → IsData s r v × (IsUniversal s.target r v → ⊥)
   where_passes v h =
-      let p = both (is_data_named (variables_of r) vars v) (is_among universal false v) h in (named_data v p.0, among_existential s.target r v p.1)
+      let p = and_parts (is_data_named (variables_of r) vars v) (is_among universal false v) h in (named_data v p.0, among_existential s.target r v p.1)
 
   pub where_passed : (v : List ℕ) → IsData s r v → (IsUniversal s.target r v → ⊥) → has_equation (variables_of r) vars universal false v ≡ true
-  where_passed v d u = and_both (is_data_named (variables_of r) vars v) (is_among universal false v) (data_named v d) (existential_among s.target r v u)
+  where_passed v d u = and_from (is_data_named (variables_of r) vars v) (is_among universal false v) (data_named v d) (existential_among s.target r v u)

@@ -1,6 +1,6 @@
 -- Domains that are resolved over what is in reach of a setting are those of the relation.
-use Rattle.std.proofs.Common.{◌≡◌, ℕ, zero, suc, ◌+◌, List, [], ◌∷◌, map, take, length, refl, sym, ap, subst, ◌∙◌, arith, true}
-use Rattle.std.specs.Prelude.{Some, None, Ok, Err, Contains, All, is_some, slice_get}
+use Rattle.std.proofs.Common.{◌≡◌, ℕ, zero, suc, ◌+◌, List, [], ◌∷◌, map, take, length, refl, sym, ap, subst, ◌∙◌, arith}
+use Rattle.std.specs.Prelude.{Some, Ok, Err, Contains, All, is_some, slice_get}
 use Rattle.std.specs.Option.{unwrap_or}
 use Rattle.std.specs.List.{sum_by}
 use Rattle.std.proofs.lemmas.Option.{same_Some, none-some}
@@ -19,17 +19,15 @@ use Rattle.ocl_types.specs.declared.part.TypedPart.{TypedPart}
 use Rattle.ocl_types.specs.Environments.{Environment}
 use Rattle.ocl_types.specs.HasType.{HasType, HasTree, Stands}
 use Rattle.ocl_types.specs.Typing.{typed}
-use Rattle.ocl_types.proofs.TypedParts.{contains_at}
 use Rattle.qvtr_types.specs.declared.domains.RelationScope.{RelationScope}
 use Rattle.script_scopes.specs.ScriptNames.{model_names}
 use Rattle.script_scopes.specs.Occurrences.{Piece, relations_of, variables_of, template_count}
 use Rattle.script_scopes.specs.Divisions.{model_of, HasPiece}
 use Rattle.script_scopes.specs.Environments.{Setting, in_relation, place_of, slots_of}
 use Rattle.script_scopes.specs.Declarations.{meta_of}
-use Rattle.script_scopes.specs.Refusals.{HasNamesInOrder}
-use Rattle.script_scopes.specs.Faults.{StandsInExpressions, domain_models}
+use Rattle.script_scopes.specs.Refusals.{HasNamesInOrder, AreInOrder}
+use Rattle.script_scopes.specs.Faults.{domain_models}
 use Rattle.qvtr_types.specs.PlacedFaults.{StandsInItems}
-use Rattle.script_scopes.specs.FirstEntries.{first_entries}
 use Rattle.script_scopes.specs.VariableTypes.{metamodel_numbers}
 use Rattle.script_scopes.specs.LocatedPieces.{located}
 use Rattle.script_scopes.specs.ResolvedTemplates.{DomainReach, IsTemplate}
@@ -38,12 +36,20 @@ use Rattle.script_scopes.specs.Resolutions.{domain_reach, model_number, marker_o
 use Rattle.qvtr_types.specs.ResolvedDomains.{RelationReach, shown_scope, domain_in, HasKnownModel, IsDomainIn, AreDomainsFrom, IsMeantIn, IsLocatedFault}
 use Rattle.qvtr_types.specs.RelationSettings.{IsReachOf}
 use Rattle.script_scopes.proofs.MemberLemmas.{to_filter_map}
+use Rattle.script_scopes.proofs.CallRowLaws.{some_among}
 use Rattle.script_variables.proofs.FirstEntryLemmas.{first_value}
 use Rattle.script_variables.proofs.LocatedLaws.{located_piece, piece_located}
 use Rattle.script_scopes.proofs.DivisionLaws.{first, past}
 use Rattle.script_variables.proofs.PlaceLaws.{meta_found}
 use Rattle.script_variables.proofs.NameOrderLaws.{model_numbers}
 use Rattle.qvtr_types.proofs.PieceLaws.{piece_stands, items_faultless}
+
+-- a domain of a relation is one of a model of the script
+pub model_known : (s : Setting) → AreInOrder s.script s.target → (r : RelationTree) → Contains (relations_of s.script) r → (domain : DomainTree) (model : List ℕ) → Contains r.domains domain
+    → model_of domain ≡ Some model → Contains (model_names s.script.models) model
+model_known s order r among domain model there of =
+    let own : HasNamesInOrder (model_names s.script.models) r = All-contains (HasNamesInOrder (model_names s.script.models)) (relations_of s.script) r order.relations among in
+    All-contains (Contains (model_names s.script.models)) (domain_models r) model own.known (to_filter_map model_of r.domains domain model there of)
 
 -- ---- domains one behind the other
 
@@ -89,13 +95,6 @@ module _ (s : Setting) (r : RelationTree) (vars : List Var) (scope : RelationSco
   abbrev reach : RelationReach
   reach = shown_scope scope
 
-  in_order : HasNamesInOrder (model_names s.script.models) r
-  in_order = All-contains (HasNamesInOrder (model_names s.script.models)) (relations_of s.script) r h.order.relations h.among
-
-  model_known : (domain : DomainTree) (model : List ℕ) → Contains r.domains domain → model_of domain ≡ Some model → Contains (model_names s.script.models) model
-  model_known domain model among of =
-      All-contains (Contains (model_names s.script.models)) (domain_models r) model in_order.known (to_filter_map model_of r.domains domain model among of)
-
   meta_there : (model : List ℕ) → Contains (model_names s.script.models) model → value_of reach.models model ≡ Some (meta_of s.script model)
   meta_there model known =
       ap (λ (ms : NamesWith ℕ). value_of ms model) h.models ∙ first_value (metamodel_numbers (slots_of s.script)) model ∙ meta_found s.script model known
@@ -112,22 +111,22 @@ module _ (s : Setting) (r : RelationTree) (vars : List Var) (scope : RelationSco
   metas_named = h.metas ∙ ap (λ (e : Environment). e.names) h.reach
 
   pub models_known : All (HasKnownModel reach) r.domains
-  models_known = All-weaker (Contains r.domains) (HasKnownModel reach) (λ domain among model of. ap is_some (meta_there model (model_known domain model among of))) r.domains (All-contains_itself r.domains)
+  models_known = All-weaker (Contains r.domains) (HasKnownModel reach) (λ domain among model of. ap is_some (meta_there model (model_known s h.order r h.among domain model among of))) r.domains (All-contains_itself r.domains)
 
   pub are_domains : (doms : List Dom) → AreDomainsFrom reach 1 r.domains doms → AreDomains s r vars doms
   are_domains doms are =
-      let all = domains_are s r vars reach h.variables reach_is 1 r.domains doms model_known are in
+      let all = domains_are s r vars reach h.variables reach_is 1 r.domains doms (model_known s h.order r h.among) are in
       record { count = all.0; each = all.1 }
 
-  pub located_stands : (f : TypeFault) → IsLocatedFault reach (located r) f → StandsInExpressions s r vars f
+  pub located_stands : (f : TypeFault) → IsLocatedFault reach (located r) f → StandsInItems s r vars f
   located_stands f fault =
       let (domain, has, of_model) = located_piece fault.piece.0 fault.piece.1 r fault.among in
-      let known : Contains (model_names s.script.models) fault.piece.0 = model_known domain fault.piece.0 (domain_among domain fault.piece.1 has) of_model in
-      piece_stands s r vars h.declared h.placed domain fault.piece.0 of_model known fault.piece.1 f has
+      let known : Contains (model_names s.script.models) fault.piece.0 = model_known s h.order r h.among domain fault.piece.0 (domain_among domain fault.piece.1 has) of_model in
+      piece_stands s r vars h.declared domain fault.piece.0 of_model known fault.piece.1 f has
       (subst (λ (d : DomainReach). StandsAtPiece d fault.piece.1 f) (reach_is fault.piece.0 known) fault.stands)
     where
       domain_among : (domain : DomainTree) (piece : Piece) → HasPiece r domain piece → Contains r.domains domain
-      domain_among domain piece has = contains_at r.domains has.place domain has.found
+      domain_among domain piece has = some_among r.domains has.place domain has.found
 
   pub none_in_items : ((e : Expr) (p q : TypedPart) → HasType scope.env.now e p → HasType scope.env.now e q → p ≡ q)
       → ((e : Expr) (t : Typed) → HasTree scope.env.now e t → typed scope.env.now e ≡ Ok t)
@@ -139,7 +138,7 @@ module _ (s : Setting) (r : RelationTree) (vars : List Var) (scope : RelationSco
       (subst (λ (env : Environment). (e : Expr) (t : Typed) → HasTree env e t → typed env e ≡ Ok t) (sym h.reach) only)
       (subst (λ (env : Environment). (e : Expr) (f : TypeFault) → Stands env e f → (g : TypeFault) × (typed env e ≡ Err g)) (sym h.reach) fails)
       (λ domain model piece has of_model.
-      let known : Contains (model_names s.script.models) model = model_known domain model (contains_at r.domains has.place domain has.found) of_model in
+      let known : Contains (model_names s.script.models) model = model_known s h.order r h.among domain model (some_among r.domains has.place domain has.found) of_model in
       subst (λ (d : DomainReach). IsMeant d piece) (reach_is model known)
       (All-contains (IsMeantIn reach) (located r) (model, piece) all (piece_located model piece r domain has of_model)))
       f stands

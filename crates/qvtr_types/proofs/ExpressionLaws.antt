@@ -1,9 +1,8 @@
 -- Types that are related, models that are one, and properties of a class as items ask for them.
-use Rattle.std.proofs.Common.{◌≡◌, ◌<◌, ℕ, List, [], ◌∷◌, Bool, true, false, ◌||◌, refl, sym, ap, subst, ◌∙◌, length, ⊎_elim, inl, inr, ◌⊎◌, true≢false}
-use Rattle.std.specs.Prelude.{Option, Some, None, IsTrue}
+use Rattle.std.proofs.Common.{◌≡◌, List, Bool, true, false, ◌||◌, refl, sym, ap, subst, ◌∙◌, inl, inr, true≢false}
 use Rattle.mof_metamodel.specs.declared.desc.MetaDesc.{MetaDesc}
 use Rattle.qv_syntax.specs.declared.ty.Ty.{Ty}
-use Rattle.qv_syntax.specs.Types.{ConformsTo, AreRelated}
+use Rattle.qv_syntax.specs.Types.{AreRelated}
 use Rattle.ocl_types.specs.Environments.{Environment, is_over, AreWell}
 use Rattle.ocl_types.specs.Agreement.{fits, are_related}
 use Rattle.qv_syntax.specs.declared.expr.Expr.{Expr}
@@ -14,16 +13,12 @@ use Rattle.ocl_types.specs.HasType.{HasType}
 use Rattle.ocl_types.specs.Parts.{tree_of}
 use Rattle.ocl_types.specs.TypedContext.{context_of, variables_of, typing_of}
 use Rattle.qvtr_types.specs.Expressions.{HasTyping}
-use Rattle.ocl_types.proofs.TopLaws.{to_conforms}
-use Rattle.ocl_types.proofs.UpperLaws.{fits_exactly}
+use Rattle.ocl_types.proofs.TopLaws.{fits_where}
 
 module _ (metas : List MetaDesc) (well : AreWell metas) where
-  fits_where : (a b : Ty) → is_over metas a ≡ true → ConformsTo metas a b → fits metas a b ≡ true
-  fits_where a b over conforms = (fits_exactly metas well a b).1 (to_conforms metas a b over conforms)
-
   pub unrelated : (a b : Ty) → is_over metas a ≡ true → is_over metas b ≡ true → are_related metas a b ≡ false → ¬ AreRelated metas a b
-  unrelated a b over_a over_b is (inl one) = true≢false (sym (ap (λ t. t || fits metas b a) (fits_where a b over_a one)) ∙ is)
-  unrelated a b over_a over_b is (inr other) = by (fits metas a b) (fits_where b a over_b other) is
+  unrelated a b over_a over_b is (inl one) = true≢false (sym (ap (λ t. t || fits metas b a) (fits_where metas well a b over_a one)) ∙ is)
+  unrelated a b over_a over_b is (inr other) = by (fits metas a b) (fits_where metas well b a over_b other) is
     where
       by : (t : Bool) → fits metas b a ≡ true → (t || fits metas b a) ≡ false → ⊥
       by true there none = true≢false none

@@ -50,7 +50,16 @@ module _ (s : Setting) (r : RelationTree) (vars : List Var) where
     argument_placed clause called args e of call among name calls named =
         placed name (misplaced clause call.conjunct name of call.among (IsCalledWithin.argument called.name.text args e call.is (called, call.relation, refl) among calls) named)
 
-    -- ---- a fault of a conjunct is one of the relation's expressions
+    -- ---- a fault of an item is one of the relation's expressions
+
+    pub item_stands : (f : TypeFault) → StandsInItems s r vars f → StandsInExpressions s r vars f
+    item_stands _ (StandsInItems.typing domain at e f piece stands) =
+        StandsInExpressions.typing e f (IsExpressionOf.item domain at piece) (λ name calls named. placed name (IsMisplaced.item domain at e piece calls named)) stands
+    item_stands _ (StandsInItems.unknown_property piece model class name here none) = StandsInExpressions.unknown_property piece model class name here none
+    item_stands _ (StandsInItems.value at e model class name of given f here prop null expr stands) = StandsInExpressions.value at e model class name of given f here prop null expr stands
+    item_stands _ (StandsInItems.nested at v path model class inner name of here prop is apart) = StandsInExpressions.nested at v path model class inner name of here prop is apart
+
+    -- ---- as is one of a conjunct
 
     module _ (told : (e : Expr) (tree : Typed) (t : Typing) → HasTyping (in_relation s r vars) e tree t → IsExpression s r vars e t) where
       given_stands : (clause : Option BlockTree) (called : RelationTree) (args : List Expr) (place : ℕ) (e : Expr) (domain : DomainTree) (root : Var) (f : TypeFault)

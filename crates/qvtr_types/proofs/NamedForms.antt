@@ -1,9 +1,9 @@
 -- Which variables names, scopes and calls name, in the words of usages (OCL 2.4, section 9.4).
-use Rattle.std.proofs.Common.{◌≡◌, ◌<◌, ◌≤◌, ℕ, zero, suc, ◌+◌, Bool, true, false, cond, not, List, [], ◌∷◌, ◌++◌, Option, None, Some, map, filter, length, refl, sym, ◌∙◌, ap, subst, arith, inl, inr, append_assoc, append-nil, length-append}
+use Rattle.std.proofs.Common.{◌≡◌, ◌<◌, ℕ, zero, suc, ◌+◌, Bool, true, false, cond, not, List, [], ◌∷◌, ◌++◌, Option, None, Some, length, refl, sym, ◌∙◌, ap, subst, arith, inl, inr, append-nil, length-append}
 use Rattle.std.specs.Prelude.{◌≢◌, ◌⊎◌, Contains, is_some, slice_get, encode_utf8_all}
 use Rattle.std.specs.List.{flat_map}
-use Rattle.std.proofs.lemmas.Bool.{cases_lt, false≢true}
-use Rattle.std.proofs.lemmas.Option.{none-some, same_Some, slice_get_within, slice_get_past}
+use Rattle.std.proofs.lemmas.Bool.{false≢true}
+use Rattle.std.proofs.lemmas.Option.{none-some, same_Some}
 use Rattle.std.proofs.lemmas.Grind.{flat_map-append}
 use Rattle.mof_metamodel.specs.declared.desc.MetaDesc.{MetaDesc}
 use Rattle.mof_metamodel.specs.Characters.{same_name}
@@ -15,14 +15,14 @@ use Rattle.qv_syntax.specs.declared.operation.CollectionOperation.{CollectionOpe
 use Rattle.qv_syntax.specs.declared.operation.CollectionOperation.TheVariants as collections
 use Rattle.qv_syntax.specs.declared.type_tree.Kind.{Kind}
 use Rattle.qv_syntax.specs.declared.typed.Typed.{Typed}
-use Rattle.qv_syntax.specs.declared.typed.Node.{Node, out-Node, out-roll-Node}
+use Rattle.qv_syntax.specs.declared.typed.Node.{Node, out-Node}
 use Rattle.qv_syntax.specs.declared.typed.Node.TheVariants as nodes
 use Rattle.qv_syntax.specs.declared.typed.Call.{Call, out-Call, out-roll-Call}
 use Rattle.qv_syntax.specs.declared.typed.Call.TheVariants as calls
 use Rattle.qv_syntax.specs.declared.typed.Call.TheOpen as layers
 use Rattle.qv_syntax.specs.declared.typed.TypedInfix.{TypedInfix}
 use Rattle.qv_syntax.specs.declared.typed.TypedPostfix.{TypedPostfix}
-use Rattle.qv_syntax.specs.Parts.{IsWithin, Names, parts_of, node_parts, call_parts, parts_of_call}
+use Rattle.qv_syntax.specs.Parts.{IsWithin, node_parts, call_parts, parts_of_call}
 use Rattle.ocl_types.specs.declared.part.TypedPart.{TypedPart}
 use Rattle.ocl_types.specs.declared.part.CallsSoFar.{CallsSoFar}
 use Rattle.ocl_types.specs.declared.variable.Variable.{Variable}
@@ -34,13 +34,15 @@ use Rattle.ocl_types.specs.Classifiers.{named_class}
 use Rattle.ocl_types.specs.Operations.{iterator_row, operation_named, class_operation_named, collection_operation_named, iterator_named}
 use Rattle.ocl_types.specs.TypingCollections.{element_of, gathered, gathered_by}
 use Rattle.ocl_types.specs.Judged.{Judged}
-use Rattle.ocl_types.specs.TypeRules.{IsFirstNamed, variable_judged, exact_judged, operation_judged, class_operation_judged, summed_judged, collection_operation_judged, condition_judged, iterator_judged, property_judged_by, property_judged}
+use Rattle.ocl_types.specs.TypeRules.{variable_judged, exact_judged, operation_judged, class_operation_judged, summed_judged, collection_operation_judged, condition_judged, iterator_judged, property_judged_by, property_judged}
 use Rattle.ocl_types.proofs.TypedParts.{finds_has}
 use Rattle.script_scopes.specs.declared.usage.Usage.{Usage}
 use Rattle.script_scopes.specs.declared.usage.Usage.TheVariants as usages_of
 use Rattle.script_scopes.specs.Usages.{is_of, without, variable_in}
 use Rattle.qvtr_types.specs.TypedUsages.{HasNumber}
-use Rattle.qvtr_types.proofs.NamedVariables.{AreSame, only_in, alone, none_in, beside, out_variable}
+use Rattle.ocl_types.proofs.ConformanceLaws.{nothing_in}
+use Rattle.script_variables.proofs.DerivationLaws.{only_in}
+use Rattle.qvtr_types.proofs.NamedVariables.{AreSame, alone, out_variable, variable_number}
 
 -- ---- a variable
 
@@ -53,10 +55,7 @@ leaf_number ty m number x is w = by (record { ty = ty; node = nodes.Variable m }
   where
     by : (e : Typed) → e.node ≡ nodes.Variable m → IsWithin e x → m ≡ number
     by e at (IsWithin.whole y) = variable_number m number (sym at ∙ is)
-      where
-        variable_number : (a b : ℕ) → nodes.Variable a ≡ nodes.Variable b → a ≡ b
-        variable_number a b same = let layer = sym (out_variable a) ∙ ap out-Node same ∙ out_variable b in cc
-    by e at (IsWithin.inside y part inner c w) = absurd (none_in part (subst (λ d. Contains (node_parts d) part) (ap out-Node at ∙ out_variable m) c))
+    by e at (IsWithin.inside y part inner c w) = absurd (nothing_in part (subst (λ d. Contains (node_parts d) part) (ap out-Node at ∙ out_variable m) c))
 
 pub variable_named : (env : Environment) (name : List ℕ) (p : TypedPart) → (variable_judged env name).has p → AreSame env (usages_of.Variable name ∷ []) (tree_of p ∷ [])
 variable_named env name p is = subst (λ (q : TypedPart). AreSame env (usages_of.Variable name ∷ []) (tree_of q ∷ [])) (sym is.2) (record {
@@ -99,7 +98,7 @@ get_last (x ∷ xs) y (suc k) z at = elim (get_last xs y k z at) [
 ]
 
 kept_others : (name other : List ℕ) (us : List Usage) → Contains (without name us) (usages_of.Variable other) → Contains us (usages_of.Variable other) × (name ≢ other)
-kept_others name other [] c = absurd (none_in (usages_of.Variable other) c)
+kept_others name other [] c = absurd (nothing_in (usages_of.Variable other) c)
 kept_others name other (u ∷ us) c = by (λ d. kept_others name other us d) (is_of name u) refl c
   where
     later : Contains us (usages_of.Variable other) × (name ≢ other) → Contains (u ∷ us) (usages_of.Variable other) × (name ≢ other)

@@ -1,7 +1,7 @@
 -- The variables in reach that an expression names are those that its typed tree names. By induction on the expression.
-use Rattle.std.proofs.Common.{◌≡◌, ◌<◌, ℕ, Bool, true, false, ◌&&◌, List, [], ◌∷◌, ◌++◌, Option, None, Some, map, length, refl, sym, ◌∙◌, ap, subst, inl, inr, append_assoc, append-nil, arith}
-use Rattle.std.specs.Prelude.{◌⊎◌, Contains, is_some, nat_le, if◌then◌else◌}
-use Rattle.std.specs.List.{flat_map, filter_map}
+use Rattle.std.proofs.Common.{◌≡◌, ℕ, Bool, true, false, ◌&&◌, List, [], ◌∷◌, ◌++◌, Option, None, Some, map, length, refl, sym, ◌∙◌, ap, subst, inl, inr, append_assoc, append-nil, arith}
+use Rattle.std.specs.Prelude.{if◌then◌else◌, Contains, is_some, nat_le}
+use Rattle.std.specs.List.{flat_map}
 use Rattle.std.proofs.lemmas.Bool.{false≢true, lt-leb}
 use Rattle.std.proofs.lemmas.Option.{none-some, same_Some}
 use Rattle.std.proofs.lemmas.List.{map-append}
@@ -42,10 +42,12 @@ use Rattle.script_scopes.specs.declared.usage.Usage.{Usage}
 use Rattle.script_scopes.specs.declared.usage.Usage.TheVariants as usages_of
 use Rattle.script_scopes.specs.Usages.{ExprUsages, CallUsages, ArgsUsages, without, variable_in, named_usages, is_extent, calls_usages, expr_step, infix_step, postfix_step, args_step, expr_usages, infix_usages, postfix_usages, args_usages, usages, variables_in}
 use Rattle.script_scopes.specs.Usages as usage
-use Rattle.qvtr_types.specs.TypedUsages.{HasNumber, NamesThose}
+use Rattle.qvtr_types.specs.TypedUsages.{NamesThose}
 use Rattle.script_scopes.proofs.UsageLemmas.{all_instances_alike}
 use Rattle.script_scopes.proofs.MemberLemmas.{from_filter_map, to_filter_map}
-use Rattle.qvtr_types.proofs.NamedVariables.{AreSame, is_variable, only_in, alone, first_or, further, no_names, beside, by_parts}
+use Rattle.ocl_types.proofs.ConformanceLaws.{in_either, later_in}
+use Rattle.script_variables.proofs.DerivationLaws.{only_in}
+use Rattle.qvtr_types.proofs.NamedVariables.{AreSame, is_variable, alone, no_names, beside, by_parts}
 use Rattle.qvtr_types.proofs.NamedForms.{variable_named, outside_named, called_parts, CallsMore, property_calls, operation_calls, class_operation_calls, collection_operation_calls, iterator_calls}
 
 -- ---- usages, layer by layer
@@ -248,7 +250,7 @@ module _ (env : Environment) where
 
   -- ---- what stands between parentheses
 
-  arguments_rest : (types : List Ty) (args : List TypedPart) (rest : Judged TypedPart) (q : TypedPart) → (arguments_judged env.metas types args rest).has q → rest.has q
+  pub arguments_rest : (types : List Ty) (args : List TypedPart) (rest : Judged TypedPart) (q : TypedPart) → (arguments_judged env.metas types args rest).has q → rest.has q
   arguments_rest [] args rest q is = is
   arguments_rest (ty ∷ more) [] rest q is = is
   arguments_rest (ty ∷ more) (p ∷ ps) rest q is = arguments_rest more ps rest q is.1
@@ -266,11 +268,11 @@ module _ (env : Environment) where
 
       behind_call : (n : List ℕ) (ws : List Usage) (ts : List Typed) → Same ws ts → Same (usages_of.Call n ∷ ws) ts
       behind_call n ws ts names = record {
-        listed = λ m c. elim (first_or (usages_of.Call n) (usages_of.Variable m) ws c) [
+        listed = λ m c. elim (in_either (usages_of.Call n) (usages_of.Variable m) ws c) [
           | inl same ↦ absurd (variable_call n m same)
           | inr later ↦ names.listed m later
         ];
-        named = λ number within h. let x = names.named number within h in (x.0, x.1, further (usages_of.Call n) (usages_of.Variable x.0) ws x.2);
+        named = λ number within h. let x = names.named number within h in (x.0, x.1, later_in (usages_of.Call n) (usages_of.Variable x.0) ws x.2);
       }
 
   -- what was called before and one call more

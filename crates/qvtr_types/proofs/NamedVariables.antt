@@ -1,6 +1,6 @@
 -- The variables in reach that an expression names are those that its typed tree names. By induction on the expression.
 use Rattle.std.proofs.Common.{◌≡◌, ◌<◌, ℕ, zero, suc, Bool, true, false, List, [], ◌∷◌, ◌++◌, length, refl, sym, ◌∙◌, ap, subst, arith, inl, inr}
-use Rattle.std.specs.Prelude.{◌≢◌, ◌⊎◌, Contains}
+use Rattle.std.specs.Prelude.{◌≢◌, Contains}
 use Rattle.std.proofs.lemmas.Bool.{false≢true}
 use Rattle.std.proofs.lemmas.List.Elements.{Contains-append_left, Contains-append_right, Contains-append_cases}
 use Rattle.qv_syntax.specs.declared.ty.Ty.{Ty}
@@ -13,28 +13,16 @@ use Rattle.qv_syntax.specs.declared.typed.TypedInfix.{TypedInfix}
 use Rattle.qv_syntax.specs.declared.typed.TypedPostfix.{TypedPostfix}
 use Rattle.qv_syntax.specs.Parts.{IsWithin, Names, parts_of, node_parts}
 use Rattle.ocl_types.specs.Environments.{Environment}
+use Rattle.ocl_types.proofs.ConformanceLaws.{nothing_in}
 use Rattle.script_scopes.specs.declared.usage.Usage.{Usage}
 use Rattle.script_scopes.specs.declared.usage.Usage.TheVariants as usages_of
+use Rattle.script_variables.proofs.DerivationLaws.{only_in}
 use Rattle.qvtr_types.specs.TypedUsages.{HasNumber}
 
 -- ---- lists
 
-pub none_in : {X : Type 0} (x : X) → Contains [] x → ⊥
-none_in x (k, l, at) = omega arith
-
-pub only_in : {X : Type 0} (x y : X) → Contains (x ∷ []) y → x ≡ y
-only_in x y (zero, l, at) = at
-only_in x y (suc k, l, at) = absurd (omega arith)
-
 pub alone : {X : Type 0} (x : X) → Contains (x ∷ []) x
 alone x = (0, omega arith, refl)
-
-pub first_or : {X : Type 0} (x y : X) (xs : List X) → Contains (x ∷ xs) y → (x ≡ y) ⊎ Contains xs y
-first_or x y xs (zero, l, at) = inl at
-first_or x y xs (suc k, l, at) = inr (k, omega arith, at)
-
-pub further : {X : Type 0} (x y : X) (xs : List X) → Contains xs y → Contains (x ∷ xs) y
-further x y xs (k, l, at) = (suc k, omega arith, at)
 
 -- ---- usages and trees
 
@@ -49,8 +37,8 @@ pub record AreSame (env : Environment) (us : List Usage) (trees : List Typed) : 
 
 pub no_names : (env : Environment) → AreSame env [] []
 no_names env = record {
-  listed = λ name c. absurd (none_in (usages_of.Variable name) c);
-  named = λ number within h. absurd (none_in h.0 h.1);
+  listed = λ name c. absurd (nothing_in (usages_of.Variable name) c);
+  named = λ number within h. absurd (nothing_in h.0 h.1);
 }
 
 pub beside : (env : Environment) (us ws : List Usage) (ts rs : List Typed) → AreSame env us ts → AreSame env ws rs → AreSame env (us ++ ws) (ts ++ rs)
@@ -81,6 +69,9 @@ within_parts e x number apart is (IsWithin.inside y part inner c w) = (part, c, 
 
 pub out_variable : (number : ℕ) → out-Node (nodes.Variable number) ≡ layers.Variable number
 out_variable number = ap out-Node (sym (nodes.rolls-Variable number)) ∙ out-roll-Node (layers.Variable number)
+
+pub variable_number : (a b : ℕ) → nodes.Variable a ≡ nodes.Variable b → a ≡ b
+variable_number a b same = let layer = sym (out_variable a) ∙ ap out-Node same ∙ out_variable b in cc
 
 -- a node that is no variable names what its parts name
 pub by_parts : (env : Environment) (us : List Usage) (ty : Ty) (node : Node) (d : Layer) → out-Node node ≡ d → is_variable d ≡ false

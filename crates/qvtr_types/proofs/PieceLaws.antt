@@ -33,11 +33,10 @@ use Rattle.script_scopes.specs.Conjuncts.{is_null}
 use Rattle.script_scopes.specs.Occurrences.{WrittenProperty, Piece, property_of}
 use Rattle.script_scopes.specs.Occurrences.Piece.{begins, asks}
 use Rattle.script_scopes.specs.Divisions.{model_of, HasPiece}
-use Rattle.script_scopes.specs.Directions.{IsMisplaced}
 use Rattle.script_scopes.specs.Environments.{Setting, in_relation}
 use Rattle.script_scopes.specs.Resolutions.{domain_reach}
 use Rattle.qvtr_types.specs.Expressions.{HasTyping, StandsInGiven}
-use Rattle.script_scopes.specs.Faults.{IsProperty, IsExpressionOf, StandsAt, StandsInPlace, StandsInDeclarations, StandsInExpressions}
+use Rattle.script_scopes.specs.Faults.{IsProperty, StandsAt, StandsInPlace, StandsInDeclarations}
 use Rattle.qvtr_types.specs.PlacedFaults.{StandsInItems}
 use Rattle.script_scopes.specs.ResolvedTemplates.{DomainReach, class_named}
 use Rattle.qvtr_types.specs.TemplatePieces.{IsItemProperty, LacksProperty, IsValueOf, StandsInValue, StandsInNested, IsMeant, StandsAtPiece}
@@ -89,7 +88,7 @@ piece_model r (domains.Pattern mark model root template span) piece h = (model.t
 piece_model r (domains.Primitive root ty span) piece h = absurd (omega (arith, h.has.1))
 
 module _ (s : Setting) (r : RelationTree) (vars : List Var) where
-  module _ (declared : (f : TypeFault) → ¬ StandsInDeclarations s r f) (placed : (name : List ℕ) → ¬ IsMisplaced s.script r name)
+  module _ (declared : (f : TypeFault) → ¬ StandsInDeclarations s r f)
       (domain : DomainTree) (model : List ℕ) (of_model : model_of domain ≡ Some model) (known : Contains (model_names s.script.models) model) where
     abbrev reach : DomainReach
     reach = domain_reach s r vars model
@@ -103,33 +102,29 @@ module _ (s : Setting) (r : RelationTree) (vars : List Var) where
     abbrev property : (at : WrittenProperty) (class : ClassId) (prop : PropId) (of : Ty) → IsItemProperty reach at class prop of → IsProperty s model class at.name of
     property at class prop of h = record { prop = prop; gives = h.gives; found = h.number; has = h.has }
 
-    typing_stands : (at : WrittenProperty) (e : Expr) (f : TypeFault) → HasPiece r domain (asks (Some at) e) → Stands (in_relation s r vars) e f → StandsInExpressions s r vars f
-    typing_stands at e f has stands =
-        StandsInExpressions.typing e f (IsExpressionOf.item domain (Some at) has) (λ name calls named. placed name (IsMisplaced.item domain (Some at) e has calls named)) stands
-
     value_stands : (at : WrittenProperty) (class : ClassId) (prop : PropId) (of : Ty) (e : Expr) (f : TypeFault) → HasPiece r domain (asks (Some at) e) → IsItemProperty reach at class prop of
-        → StandsInValue reach of at.name e f → StandsInExpressions s r vars f
-    value_stands at class prop of e f has h (StandsInValue.typing stands) = typing_stands at e f has stands
-    value_stands at class prop of e f has h (StandsInValue.given null (StandsInGiven.typing stands)) = typing_stands at e f has stands
+        → StandsInValue reach of at.name e f → StandsInItems s r vars f
+    value_stands at class prop of e f has h (StandsInValue.typing stands) = StandsInItems.typing domain (Some at) e f has stands
+    value_stands at class prop of e f has h (StandsInValue.given null (StandsInGiven.typing stands)) = StandsInItems.typing domain (Some at) e f has stands
     value_stands at class prop of e f has h (StandsInValue.given null (StandsInGiven.type tree t has_t apart same)) =
-        StandsInExpressions.value (Some at) e model class at.name of t f (standing (asks (Some at) e) at class has refl h.is_class) (property at class prop of h) null
+        StandsInItems.value (Some at) e model class at.name of t f (standing (asks (Some at) e) at class has refl h.is_class) (property at class prop of h) null
         (typing_expression s r vars e tree t has_t) (subst (StandsInPlace s (wanted of) t at.name) (sym same) (StandsInPlace.type apart))
     value_stands at class prop of e f has h (StandsInValue.given null (StandsInGiven.model tree t m has_t is apart same)) =
-        StandsInExpressions.value (Some at) e model class at.name of t f (standing (asks (Some at) e) at class has refl h.is_class) (property at class prop of h) null
+        StandsInItems.value (Some at) e model class at.name of t f (standing (asks (Some at) e) at class has refl h.is_class) (property at class prop of h) null
         (typing_expression s r vars e tree t has_t) (subst (StandsInPlace s (wanted of) t at.name) (sym same) (StandsInPlace.model m is apart))
 
     nested_stands : (at : WrittenProperty) (class : ClassId) (prop : PropId) (of : Ty) (v : List ℕ) (path : Path) (f : TypeFault) → HasPiece r domain (begins (Some at) v path) → IsItemProperty reach at class prop of
-        → StandsInNested reach of path f → StandsInExpressions s r vars f
+        → StandsInNested reach of path f → StandsInItems s r vars f
     nested_stands at class prop of v path f has h (StandsInNested.unknown_class (none, is)) = absurd (declared _ (StandsInDeclarations.unknown_class domain (Some at) v path model has of_model known none))
     nested_stands at class prop of v path f has h (StandsInNested.other_class inner named apart same) =
-        subst (StandsInExpressions s r vars) (sym same)
-        (StandsInExpressions.nested (Some at) v path model class inner at.name of (standing (begins (Some at) v path) at class has refl h.is_class) (property at class prop of h) named apart)
+        subst (StandsInItems s r vars) (sym same)
+        (StandsInItems.nested (Some at) v path model class inner at.name of (standing (begins (Some at) v path) at class has refl h.is_class) (property at class prop of h) named apart)
 
-    -- a fault at a piece stands in the relation's expressions
-    pub piece_stands : (piece : Piece) (f : TypeFault) → HasPiece r domain piece → StandsAtPiece reach piece f → StandsInExpressions s r vars f
+    -- a fault at a piece stands in the relation's items
+    pub piece_stands : (piece : Piece) (f : TypeFault) → HasPiece r domain piece → StandsAtPiece reach piece f → StandsInItems s r vars f
     piece_stands _ _ has (StandsAtPiece.outer v path f (none, is)) = absurd (declared _ (StandsInDeclarations.unknown_class domain None v path model has of_model known none))
     piece_stands _ _ has (StandsAtPiece.property piece at f holder h) =
-        subst (StandsInExpressions s r vars) (sym h.is) (StandsInExpressions.unknown_property piece model h.class at.name (standing piece at h.class has holder h.is_class) h.lacks)
+        subst (StandsInItems s r vars) (sym h.is) (StandsInItems.unknown_property piece model h.class at.name (standing piece at h.class has holder h.is_class) h.lacks)
     piece_stands _ _ has (StandsAtPiece.nested at class prop of v path f h stands) = nested_stands at class prop of v path f has h stands
     piece_stands _ _ has (StandsAtPiece.expression at class prop of e f h stands) = value_stands at class prop of e f has h stands
 

@@ -44,9 +44,9 @@ use Rattle.script_scopes.specs.Divisions.{model_of, HasPiece}
 use Rattle.script_scopes.specs.ObjectModels.{HasModel, IsArgument}
 use Rattle.script_scopes.specs.Environments.{Setting, in_script, metamodel_names, slot_of, slots_of}
 use Rattle.script_scopes.specs.Declarations.{HasVariableType, template_class, meta_of}
-use Rattle.script_scopes.specs.Refusals.{AreInOrder, HasNamesInOrder}
+use Rattle.script_scopes.specs.Refusals.{AreInOrder}
 use Rattle.script_scopes.specs.Resolutions.{IsVariable, model_number}
-use Rattle.script_scopes.specs.Faults.{domain_models, StandsInDeclarations}
+use Rattle.script_scopes.specs.Faults.{StandsInDeclarations}
 use Rattle.qvtr_types.specs.Expressions.{HaveTypes}
 use Rattle.qvtr_types.specs.RootVariables.{IsNamed}
 use Rattle.qvtr_types.specs.ResolvedConjuncts.{ClauseReach}
@@ -55,8 +55,8 @@ use Rattle.qvtr_types.specs.ScriptScopes.{IsDeclared, IsSettledWith, reach_befor
 use Rattle.script_variables.specs.SettledRelations.{HasOneType}
 use Rattle.script_variables.proofs.BindingLaws.{number_at, number_had}
 use Rattle.script_scopes.proofs.CallRowLaws.{number_by, some_among, among_some}
+use Rattle.qvtr_types.proofs.DomainLaws.{model_known}
 use Rattle.qvtr_types.proofs.DataNameLaws.{zip_here}
-use Rattle.script_scopes.proofs.MemberLemmas.{to_filter_map}
 use Rattle.script_variables.proofs.NameOrderLaws.{relations_once as names_once}
 use Rattle.script_scopes.proofs.OnceLemmas.{new_names-distinct}
 use Rattle.qvtr_types.proofs.RootLaws.{one_place}
@@ -109,19 +109,13 @@ flat_written env tree ty is none = declared_is_type env tree ty (ap (λ (r : Rul
 -- ---- one relation
 
 module _ (s : Setting) (order : AreInOrder s.script s.target) (r : RelationTree) (among : Contains (relations_of s.script) r) (faultless : (f : TypeFault) → StandsInDeclarations s r f → ⊥) where
-  in_order : HasNamesInOrder (model_names s.script.models) r
-  in_order = All-contains (HasNamesInOrder (model_names s.script.models)) (relations_of s.script) r order.relations among
-
-  known_model : (domain : DomainTree) (model : List ℕ) → Contains r.domains domain → model_of domain ≡ Some model → Contains (model_names s.script.models) model
-  known_model domain model there of = All-contains (Contains (model_names s.script.models)) (domain_models r) model in_order.known (to_filter_map model_of r.domains domain model there of)
-
   -- the class of a template
   template_named : (domain : DomainTree) (at : Option WrittenProperty) (v : List ℕ) (path : Path) (model : List ℕ) → HasPiece r domain (begins at v path) → model_of domain ≡ Some model
       → (class : ClassId) × HasVariableType s.metas s.script (in_script s) r v (types.Class (meta_of s.script model) class)
   template_named domain at v path model piece of = by (template_class s.metas (metamodel_names s.script) (meta_of s.script model) (names_of path)) refl
     where
       known : Contains (model_names s.script.models) model
-      known = known_model domain model (domain_among r domain (begins at v path) piece) of
+      known = model_known s order r among domain model (domain_among r domain (begins at v path) piece) of
 
       by : (o : Option ClassId) → template_class s.metas (metamodel_names s.script) (meta_of s.script model) (names_of path) ≡ o
           → (class : ClassId) × HasVariableType s.metas s.script (in_script s) r v (types.Class (meta_of s.script model) class)
@@ -218,10 +212,10 @@ module _ (s : Setting) (order : AreInOrder s.script s.target) (roots : List (Lis
     argument_known clause v domain model arg of =
         let (number, found) = among_some (relations_of s.script) arg.called arg.call.relation in
         let (its, at, settled) = zip_right (IsSettledWith s) (relations_of s.script) roots number arg.called all found in
-        known_model s order arg.called arg.call.relation settled.declared.faultless domain model (some_among arg.called.domains arg.place domain arg.asked) of
+        model_known s order arg.called arg.call.relation domain model (some_among arg.called.domains arg.place domain arg.asked) of
 
     model_there : (v model : List ℕ) → HasModel s.script r v model → Contains (model_names s.script.models) model
-    model_there v model (HasModel.template domain at path piece of) = known_model s order r own.among own.faultless domain model (domain_among r domain (begins at v path) piece) of
+    model_there v model (HasModel.template domain at path piece of) = model_known s order r own.among domain model (domain_among r domain (begins at v path) piece) of
     model_there v model (HasModel.when_argument domain arg of) = argument_known r.when v domain model arg of
     model_there v model (HasModel.where_argument domain arg of) = argument_known r.wheres v domain model arg of
 

@@ -134,7 +134,6 @@ module _ (s : Setting) (r : RelationTree) (vars : List Var) (env : Environment) 
     among = h.declared.among;
     are = h.declared.are;
     declared = h.declared.faultless;
-    placed = placed_here;
   }
 
   -- and clauses
@@ -160,10 +159,14 @@ module _ (s : Setting) (r : RelationTree) (vars : List Var) (env : Environment) 
   pub settled_here : IsInOrder env → IsSettled s r vars
   settled_here order = record { in_order = subst IsInOrder (sym h.reach) order; one = h.declared.one; bound = h.declared.bound }
 
-  -- a fault of a clause is one of the relation
+  -- a fault of a clause is one of the relation, as is one of an item
   pub clause_fault : ((s : Setting) (r : RelationTree) (vars : List Var) → ((name : List ℕ) → IsMisplaced s.script r name → ⊥) → (f : TypeFault) → StandsInClauses s r vars f → StandsInExpressions s r vars f)
       → (f : TypeFault) → StandsInClauses s r vars f → StandsInExpressions s r vars f
   clause_fault told = told s r vars placed_here
+
+  pub item_fault : ((s : Setting) (r : RelationTree) (vars : List Var) → ((name : List ℕ) → IsMisplaced s.script r name → ⊥) → (f : TypeFault) → StandsInItems s r vars f → StandsInExpressions s r vars f)
+      → (f : TypeFault) → StandsInItems s r vars f → StandsInExpressions s r vars f
+  item_fault told = told s r vars placed_here
 
   -- where none stands in clauses and in items, none stands
   pub none_here : ((s : Setting) (r : RelationTree) (vars : List Var) → in_relation s r vars ≡ env → HaveOneList s → ((f : TypeFault) → StandsInClauses s r vars f → ⊥)

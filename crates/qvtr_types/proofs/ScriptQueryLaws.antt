@@ -15,10 +15,6 @@ use Rattle.ocl_types.proofs.CycleLaws.{cycle_reached}
 use Rattle.ocl_types.proofs.JudgedLaws.{ok_err, ok_ok}
 use Rattle.script_scopes.specs.ScriptQueries.{StandsInQueries}
 
-pub ok_weaker : {X E : Type 0} (r : Result X E) (P Q : X → Type 0) → ((x : X) → P x → Q x) → IfOk r P → IfOk r Q
-ok_weaker (Ok x) P Q tells is = tells x is
-ok_weaker (Err e) P Q tells is = tt
-
 module _ (env : Environment) (trees : List QueryTree) (none : env.queries ≡ [])
     (told : (bound : Environment) (queries : List Query) → queries_typed env trees ≡ Ok (bound, queries) → AreQueries env trees bound queries)
     (fault : (f : TypeFault) → queries_typed env trees ≡ Err f → StandInQueries env trees f) where

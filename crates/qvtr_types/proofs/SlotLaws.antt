@@ -1,18 +1,15 @@
 -- The metamodel of each model of a script is one that the script names.
-use Rattle.std.proofs.Common.{◌≡◌, ℕ, List, true, length, refl, ap, subst, ◌∙◌}
-use Rattle.std.specs.Prelude.{Option, None, Some, Contains, IsTrue, nat_lt}
+use Rattle.std.proofs.Common.{◌≡◌, true, length, subst}
+use Rattle.std.specs.Prelude.{IsTrue, nat_lt}
 use Rattle.std.proofs.lemmas.Bool.{lt-ltb}
-use Rattle.mof_metamodel.specs.NameTables.{value_of}
 use Rattle.mof_metamodel.proofs.SearchLemmas.{passes_all}
 use Rattle.qv_syntax.specs.declared.query.ModelSlot.{ModelSlot}
 use Rattle.qv_syntax.specs.declared.script.ModelTree.{ModelTree}
 use Rattle.qv_syntax.specs.declared.script.Script.{Script}
 use Rattle.ocl_types.specs.Environments.{have_metas}
-use Rattle.script_scopes.specs.ScriptNames.{meta_names, model_names}
+use Rattle.script_scopes.specs.ScriptNames.{meta_names}
 use Rattle.script_scopes.specs.Environments.{metamodel_names, place_of, slot_of, slots_of}
-use Rattle.script_scopes.specs.VariableTypes.{metamodel_numbers}
 use Rattle.script_scopes.proofs.MemberLemmas.{once_has, from_map, to_map}
-use Rattle.script_variables.proofs.FirstEntryLemmas.{value_among}
 use Rattle.qvtr_types.proofs.well_formed.Numbers.{place_within}
 
 pub slots_placed : (script : Script) → IsTrue (have_metas (slots_of script) (length (metamodel_names script)))
@@ -21,15 +18,3 @@ slots_placed script = passes_all (λ (slot : ModelSlot). nat_lt slot.meta (lengt
     let named = once_has (meta_names script.models) m.meta.text (to_map (λ (m : ModelTree). m.meta.text) script.models m has) in
     subst (λ (x : ModelSlot). nat_lt x.meta (length (metamodel_names script)) ≡ true) is
     (lt-ltb (place_of m.meta.text (metamodel_names script)) (length (metamodel_names script)) (place_within (metamodel_names script) m.meta.text named)))
-
--- a name of no model has no metamodel
-pub no_number : (script : Script) (name : List ℕ) → (Contains (model_names script.models) name → ⊥) → value_of (metamodel_numbers (slots_of script)) name ≡ None
-no_number script name lacks = by (value_of (metamodel_numbers (slots_of script)) name) refl
-  where
-    by : (o : Option ℕ) → value_of (metamodel_numbers (slots_of script)) name ≡ o → value_of (metamodel_numbers (slots_of script)) name ≡ None
-    by None found = found
-    by (Some meta) found =
-        let (slot, among, is) = from_map {X = ModelSlot} {Y = List ℕ × ℕ} (λ s. (s.name, s.meta)) (slots_of script) (name, meta) (value_among (metamodel_numbers (slots_of script)) name meta found) in
-        let (m, has, same) = from_map (slot_of script) script.models slot among in
-        absurd (lacks (subst (Contains (model_names script.models)) (ap (λ (s : ModelSlot). s.name) same ∙ ap (λ (p : List ℕ × ℕ). p.0) is)
-        (to_map (λ (m : ModelTree). m.name.text) script.models m has)))

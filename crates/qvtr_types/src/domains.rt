@@ -11,7 +11,6 @@ ghost use Rattle.qvtr_types.specs.TemplatePieces.{IsMeant, IsPieceFault};
 ghost use Rattle.script_scopes.specs.LocatedPieces.{located_in, located_from};
 ghost use Rattle.script_scopes.specs.Resolutions.{marker_of as marker, AreDomains};
 ghost use Rattle.script_scopes.specs.Environments.{Setting};
-ghost use Rattle.script_scopes.specs.Faults.{StandsInExpressions};
 ghost use Rattle.qvtr_types.specs.PlacedFaults.{StandsInItems};
 ghost use Rattle.qvtr_types.specs.RelationSettings.{IsReachOf};
 ghost use Rattle.qvtr_types.specs.ResolvedDomains.{shown_scope, domain_in, HasKnownModel, IsDomainIn, AreDomainsFrom, IsMeantIn, IsLocatedFault};
@@ -166,7 +165,7 @@ pub fn resolve_domains(
     requires { (s : Setting) × (vars : List Var) × IsReachOf s r.now vars scope.now }
     ensures domains { IfOk result (λ doms. (s : Setting) (vars : List Var) → IsReachOf s r.now vars scope.now → AreDomains s r.now vars doms) }
     ensures none { OnOk result ((s : Setting) (vars : List Var) (f : Fault) → IsReachOf s r.now vars scope.now → ¬ StandsInItems s r.now vars f) }
-    ensures fault { IfFault result (λ f. (s : Setting) (vars : List Var) → IsReachOf s r.now vars scope.now → StandsInExpressions s r.now vars f) }
+    ensures fault { IfFault result (λ f. (s : Setting) (vars : List Var) → IsReachOf s r.now vars scope.now → StandsInItems s r.now vars f) }
 {
     one_type_is_had(scope.env);
     typing_is_told(scope.env);

@@ -44,11 +44,12 @@ pub fn places_are_told(env: &Env<'_>)
     one_type_is_had(env);
 }
 
-/// A fault that stands in a conjunct of a relation stands among those of its expressions, where no relation's name is called in a wrong place.
-/// Where none stands in conjuncts or in items, none stands in expressions, if each relation has one list of variables, and variables that
-/// stand alone as arguments are related to the roots in whose places they stand (QVT 1.3, section 7.11.1.4).
+/// A fault that stands in a conjunct of a relation or in an item stands among those of its expressions, where no relation's name is called in
+/// a wrong place. Where none stands in conjuncts or in items, none stands in expressions, if each relation has one list of variables, and
+/// variables that stand alone as arguments are related to the roots in whose places they stand (QVT 1.3, section 7.11.1.4).
 pub fn expression_faults_are_told(env: &Env<'_>)
     ensures stands { (s : Setting) (r : RelationTree) (vars : List Var) → ((name : List ℕ) → ¬ IsMisplaced s.script r name) → (f : TypeFault) → StandsInClauses s r vars f → StandsInExpressions s r vars f }
+    ensures items { (s : Setting) (r : RelationTree) (vars : List Var) → ((name : List ℕ) → ¬ IsMisplaced s.script r name) → (f : TypeFault) → StandsInItems s r vars f → StandsInExpressions s r vars f }
     ensures none { (s : Setting) (r : RelationTree) (vars : List Var) → in_relation s r vars ≡ env.now → HaveOneList s → ((f : TypeFault) → ¬ StandsInClauses s r vars f)
         → ((f : TypeFault) → ¬ StandsInItems s r vars f) → AreAloneRelated s r vars → (f : TypeFault) → ¬ StandsInExpressions s r vars f }
 {

@@ -12,7 +12,7 @@ use crate::items::{item_property, item_value, nested_class};
 use mof_metamodel::{ClassId, Seq};
 use ocl_types::TypeError;
 use qv_syntax::{Item, ItemTree, ItemValue, ItemValueTree, Path, TemplateTree, Tmpl};
-use script_scopes::{BorrowedProperty, next};
+use script_scopes::{BorrowedProperty, next_number};
 use std::alloc::Global;
 
 /// A template, which has this number, and the number of the next one (QVT 1.3, section 7.11.2). `head` has the number of its variable and
@@ -38,7 +38,7 @@ pub(crate) fn resolve_template(
     ensures fault { IfFault result (IsPieceFault scope.now ((template_body tree.now).items.from (k + 1) (template_body tree.now).class)) }
 {
     let (var, class) = head;
-    let first = next(k)?;
+    let first = next_number(k)?;
     let of = (class, &tree.class);
     let (items, last) = resolve_items(alloc, scope, first, of, tree.items.as_slice())?;
     Ok((Tmpl { var, class, items }, last))

@@ -33,7 +33,8 @@ use Rattle.script_scopes.specs.ResolvedTemplates.{DomainReach, IsTemplate}
 use Rattle.script_scopes.specs.Resolutions.{model_number, domain_reach, IsDomain, AreDomains}
 use Rattle.script_scopes.proofs.CallRowLaws.{within_some, among_some}
 use Rattle.qvtr_types.proofs.OccurrenceLaws.{domain_variable}
-use Rattle.qvtr_types.proofs.NamedVariables.{none_in, first_or, only_in}
+use Rattle.ocl_types.proofs.ConformanceLaws.{in_either, nothing_in}
+use Rattle.script_variables.proofs.DerivationLaws.{only_in}
 use Rattle.qvtr_types.proofs.NamedTrees.{variables_told}
 use Rattle.qvtr_types.proofs.well_formed.Numbers.{place_at, name_at, at_named, variables_apart, number_at, number_is}
 use Rattle.qvtr_types.proofs.well_formed.Templates.{whole_of, IsTold, IsItemTold, IsShown, template_told, template_shown, null_no_expr, nested_no_expr, same_expr}
@@ -137,7 +138,7 @@ module _ (s : Setting) (r : RelationTree) (vars : List Var) where
     model = model.text;
     shown = template_shown (domain_reach s r vars model.text) k is.4.1 (Some variable) tree is.4.0 is.4.3 None p c;
   }
-  shown_in k (domains.Primitive variable ty span) dom is p c = absurd (none_in p c)
+  shown_in k (domains.Primitive variable ty span) dom is p c = absurd (nothing_in p c)
 
   pub root_at : (k : ℕ) (domain : DomainTree) (dom : Dom) → IsDomain s r vars k domain dom → dom.root ≡ place_of (root_of domain) (variables_of r)
   root_at k (domains.Pattern mark model variable tree span) dom is = is.3
@@ -152,7 +153,7 @@ asked_variables : (e : Expr) (v : List ℕ) → Contains (item_variables e) v �
 asked_variables e v c = by (is_null e) refl c
   where
     by : (b : Bool) → is_null e ≡ b → Contains (cond b [] (variables_in e)) v → (is_null e ≡ false) × Contains (variables_in e) v
-    by true at h = absurd (none_in v h)
+    by true at h = absurd (nothing_in v h)
     by false at h = (at, h)
 
 variables_asked : (e : Expr) (v : List ℕ) → is_null e ≡ false → Contains (variables_in e) v → Contains (item_variables e) v
@@ -215,7 +216,7 @@ module _ (s : Setting) (r : RelationTree) (vars : List Var) (v : ℕ) (name : Li
         item_occurs h.model asked.of.template h.told.path asked.item (h.told.items_told asked.item asked.of.has) e asked.is names
 
     pub occurs_to : Contains (domain_variables k domain) name → OccursInTemplates dom v
-    occurs_to c = elim (first_or (root_of domain) name (flat_map piece_variables (pieces_of k domain)) c) [
+    occurs_to c = elim (in_either (root_of domain) name (flat_map piece_variables (pieces_of k domain)) c) [
       | inl same ↦ OccursInTemplates.root (root_at s r vars k domain dom is ∙ ap (λ (w : List ℕ). place_of w (variables_of r)) same ∙ here_named)
       | inr more ↦
           let p = from_flat_map piece_variables (pieces_of k domain) name more in

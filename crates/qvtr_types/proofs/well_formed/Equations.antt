@@ -37,7 +37,7 @@ use Rattle.script_scopes.specs.declared.usage.Usage.TheVariants as usages_of
 use Rattle.script_scopes.specs.Usages.{ExprUsages, CallUsages, ArgsUsages, variable_in, expr_step, infix_step, postfix_step, args_step, expr_usages, infix_usages, postfix_usages, args_usages, usages, variables_in}
 use Rattle.script_scopes.specs.Conjuncts.{one_name, alone_step, name_alone, equal_to, variable_with, equation_in, equation_of, called_with, call_in, call_of, null_step, is_null}
 use Rattle.script_scopes.proofs.MemberLemmas.{from_filter_map, to_filter_map}
-use Rattle.qvtr_types.proofs.NamedVariables.{first_or}
+use Rattle.ocl_types.proofs.ConformanceLaws.{in_either}
 
 abbrev Layer : Type 0
 Layer = of.Expr-F Args Expr Postfix Infix
@@ -253,7 +253,7 @@ equation_part c v e is w has = in_uses (usages c) w (subst (λ (us : List Usage)
 
 pub equation_names : (c : Expr) (v : List ℕ) (e : Expr) → equation_of c ≡ Some (v, e) → (w : List ℕ) → Contains (variables_in c) w → (v ≡ w) ⊎ Contains (variables_in e) w
 equation_names c v e is w has =
-    elim (first_or (usages_of.Variable v) (usages_of.Variable w) (usages e) (subst (λ (us : List Usage). Contains us (usages_of.Variable w)) (equation_uses c v e is) (uses_in (usages c) w has))) [
+    elim (in_either (usages_of.Variable v) (usages_of.Variable w) (usages e) (subst (λ (us : List Usage). Contains us (usages_of.Variable w)) (equation_uses c v e is) (uses_in (usages c) w has))) [
       | inl same ↦ inl (same_Some v w (ap variable_in same))
       | inr more ↦ inr (in_uses (usages e) w more)
     ]
@@ -282,7 +282,7 @@ call_part c name args is a w among has = in_uses (usages c) w (subst (λ (us : L
 
 pub call_names : (c : Expr) (name : List ℕ) (args : List Expr) → call_of c ≡ Some (name, args) → (w : List ℕ) → Contains (variables_in c) w → (a : Expr) × Contains args a × Contains (variables_in a) w
 call_names c name args is w has =
-    elim (first_or (usages_of.Call name) (usages_of.Variable w) (flat_map usages args) (subst (λ (us : List Usage). Contains us (usages_of.Variable w)) (call_uses c name args is) (uses_in (usages c) w has))) [
+    elim (in_either (usages_of.Call name) (usages_of.Variable w) (flat_map usages args) (subst (λ (us : List Usage). Contains us (usages_of.Variable w)) (call_uses c name args is) (uses_in (usages c) w has))) [
       | inl same ↦ absurd (none-some w (ap variable_in same))
       | inr more ↦ let a = from_flat_map usages args (usages_of.Variable w) more in (a.0, a.1, in_uses (usages a.0) w a.2)
     ]

@@ -44,7 +44,7 @@ use Rattle.script_scopes.proofs.CallRowLaws.{within_some, some_among}
 use Rattle.script_variables.proofs.PlaceLaws.{at_place}
 use Rattle.qvtr_types.proofs.ZipLemmas.{zip_right}
 use Rattle.script_scopes.proofs.DivisionLaws.{first, past}
-use Rattle.qvtr_types.proofs.NamedVariables.{none_in}
+use Rattle.ocl_types.proofs.ConformanceLaws.{nothing_in}
 use Rattle.qvtr_types.proofs.OccurrenceLaws.{domain_variable}
 use Rattle.qvtr_types.proofs.well_formed.Numbers.{AreApart, one_name}
 use Rattle.qvtr_types.proofs.well_formed.Templates.{template_listed}
@@ -149,7 +149,7 @@ module _ (s : Setting) (r : RelationTree) (vars : List Var) where
 -- a template's variable is one of the relation
 begun_occurs : (v : List ℕ) (p : Piece) → Contains (piece_template p) v → Contains (piece_variables p) v
 begun_occurs v (begins at variable class) c = c
-begun_occurs v (asks at e) c = absurd (none_in v c)
+begun_occurs v (asks at e) c = absurd (nothing_in v c)
 
 template_among : (v : List ℕ) (k : ℕ) (doms : List DomainTree) → Contains (templates_from k doms) v → Contains (domains_variables k doms) v
 template_among v k [] (i, l, at) = absurd (omega arith)

@@ -33,7 +33,8 @@ use Rattle.script_scopes.specs.Occurrences.Piece.{begins, asks}
 use Rattle.script_scopes.specs.Environments.{place_of}
 use Rattle.script_scopes.specs.ResolvedTemplates.{DomainReach, class_named, IsTemplate, AreItems, IsItem}
 use Rattle.qvtr_types.proofs.PieceForms.{body_is, item_is, expr_is, nested_is}
-use Rattle.qvtr_types.proofs.NamedVariables.{none_in, first_or, only_in}
+use Rattle.ocl_types.proofs.ConformanceLaws.{in_either, nothing_in}
+use Rattle.script_variables.proofs.DerivationLaws.{only_in}
 
 -- ---- pieces of items
 
@@ -218,8 +219,8 @@ module _ (reach : DomainReach) where
 
     items_told : (class : ClassId) (k next : ℕ) (trees : List ItemTree) (list : List Item) → AreItems reach class k trees list next → (path : Path)
         → AreAmong ((in_turn (map item_pieces trees)).from k path) all → (item : Item) → Contains list item → IsItemTold all path class item
-    items_told _ _ _ _ _ (AreItems.none class k) path within item c = absurd (none_in item c)
-    items_told _ _ _ _ _ (AreItems.one_more class k middle next tree trees item rest is are) path within x c = elim (first_or item x rest c) [
+    items_told _ _ _ _ _ (AreItems.none class k) path within item c = absurd (nothing_in item c)
+    items_told _ _ _ _ _ (AreItems.one_more class k middle next tree trees item rest is are) path within x c = elim (in_either item x rest c) [
       | inl same ↦ subst (IsItemTold all path class) same (item_told class k middle tree item is path (first_among k path tree trees within))
       | inr more ↦ items_told class middle next trees rest are path (later_among k middle path tree trees (item_next class k middle tree item is) within) x more
     ]
@@ -244,8 +245,8 @@ module _ (reach : DomainReach) where
 
       items_within : (class : ClassId) (k next : ℕ) (trees : List ItemTree) (list : List Item) → AreItems reach class k trees list next → (path : Path)
           → AreAmong ((in_turn (map item_pieces trees)).from k path) all → (x : Item) → Contains list x → (part : Tmpl) → x.value ≡ items.Nested part → (u : Tmpl) → IsNested part u → IsTold all u
-      items_within _ _ _ _ _ (AreItems.none class k) path within x c part is u below = absurd (none_in x c)
-      items_within _ _ _ _ _ (AreItems.one_more class k middle next tree trees item rest one are) path within x c part is u below = elim (first_or item x rest c) [
+      items_within _ _ _ _ _ (AreItems.none class k) path within x c part is u below = absurd (nothing_in x c)
+      items_within _ _ _ _ _ (AreItems.one_more class k middle next tree trees item rest one are) path within x c part is u below = elim (in_either item x rest c) [
         | inl same ↦ item_within class k middle tree item one path (first_among k path tree trees within) part (ap (λ (i : Item). i.value) same ∙ is) u below
         | inr more ↦ items_within class middle next trees rest are path (later_among k middle path tree trees (item_next class k middle tree item one) within) x more part is u below
       ]
@@ -280,14 +281,14 @@ module _ (reach : DomainReach) where
         → Contains ((whole_of variable tree).from k at) p → IsShown t p
     template_shown _ _ _ _ _ (IsTemplate.template k next variable tree t var class are) at p c =
         let first = begins at (variable_text k variable) (out-TemplateTree tree).class in
-        elim (first_or first p ((items_of tree).from (k + 1) (out-TemplateTree tree).class) (subst (λ (v : ValuePieces). Contains (v.from k at) p) (whole_is variable tree) c)) [
+        elim (in_either first p ((items_of tree).from (k + 1) (out-TemplateTree tree).class) (subst (λ (v : ValuePieces). Contains (v.from k at) p) (whole_is variable tree) c)) [
           | inl same ↦ subst (IsShown t) same (IsShown.begun t at (variable_text k variable) (out-TemplateTree tree).class (IsNested.whole t) var)
           | inr more ↦ items_shown (out-Tmpl t).class (k + 1) next (out-TemplateTree tree).items (out-Tmpl t).items are (out-TemplateTree tree).class t (λ item has. has) p more
         ]
 
     items_shown : (class : ClassId) (k next : ℕ) (trees : List ItemTree) (list : List Item) → AreItems reach class k trees list next → (path : Path) (t : Tmpl)
         → ((item : Item) → Contains list item → HasItem t item) → (p : Piece) → Contains ((in_turn (map item_pieces trees)).from k path) p → IsShown t p
-    items_shown _ _ _ _ _ (AreItems.none class k) path t has p c = absurd (none_in p c)
+    items_shown _ _ _ _ _ (AreItems.none class k) path t has p c = absurd (nothing_in p c)
     items_shown _ _ _ _ _ (AreItems.one_more class k middle next tree trees item rest is are) path t has p c =
         elim (Contains-append_cases ((item_pieces tree).from k path) ((in_turn (map item_pieces trees)).from (k + (item_pieces tree).count) path) p c) [
           | inl here ↦ item_shown class k middle tree item is path t (has item (0, omega arith, refl)) p here

@@ -1,7 +1,7 @@
 -- From the typed tree of a conjunct to its form: a tree that is a variable is that of a variable alone, and one that is `v = e` that of an
 -- equation.
 use Rattle.std.proofs.Common.{◌≡◌, ℕ, List, [], ◌∷◌, ◌++◌, Bool, true, false, ◌≤◌, ◌+◌, length, length-append, refl, sym, ◌∙◌, ap, subst, map, arith, inl, inr, true≢false}
-use Rattle.std.specs.Prelude.{Option, Some, None, Contains, if◌then◌else◌}
+use Rattle.std.specs.Prelude.{if◌then◌else◌, Option, Some, None, Contains}
 use Rattle.std.specs.List.{flat_map, list_all}
 use Rattle.std.proofs.lemmas.List.Elements.{Contains-append_cases}
 use Rattle.mof_metamodel.specs.declared.span.Span.{Span}
@@ -35,7 +35,7 @@ use Rattle.ocl_types.specs.Naming.{names_of, texts_of}
 use Rattle.ocl_types.specs.Typing.{called_whole, path_of_extent}
 use Rattle.ocl_types.specs.TypingScopes.{let_part}
 use Rattle.ocl_types.specs.TypingOperators.{unchained, and_linked, chain_part}
-use Rattle.ocl_types.specs.TypeRules.{linked_judged, names_judged, literal_judged, arguments_judged, extent_judged}
+use Rattle.ocl_types.specs.TypeRules.{linked_judged, names_judged, literal_judged, extent_judged}
 use Rattle.ocl_types.specs.HasType.{Judgment, LinkJudgment, ArgsJudgment, linked, first_judged, query_args, expr_rule, judgment, link_judgment, call_judgment, args_judgment, HasType, HasTree}
 use Rattle.ocl_types.proofs.JudgmentLaws.{expr_unrolled, link_unrolled}
 use Rattle.ocl_types.proofs.TypedParts.{finds_has}
@@ -45,7 +45,10 @@ use Rattle.ocl_types.specs.declared.variable.Variable.{Variable}
 use Rattle.ocl_types.specs.TypeRules.{IsFirstNamed}
 use Rattle.qvtr_types.specs.TypedUsages.{HasNumber}
 use Rattle.script_scopes.proofs.ConjunctLemmas.{by_layer, conjuncts_behind}
-use Rattle.qvtr_types.proofs.NamedVariables.{none_in, only_in}
+use Rattle.ocl_types.proofs.ConformanceLaws.{nothing_in}
+use Rattle.script_variables.proofs.DerivationLaws.{only_in}
+use Rattle.qvtr_types.proofs.NamedVariables.{out_variable, variable_number}
+use Rattle.qvtr_types.proofs.NamedTrees.{arguments_rest}
 use Rattle.qvtr_types.proofs.well_formed.Equations.{alone_of, IsVariablePart, equals}
 
 abbrev Form : Type 0
@@ -94,14 +97,9 @@ module _ (env : Environment) (p : TypedPart) (d : Form) where
       let l = finds_has (named_literal env names) _ _ p h in
       plain_node _ (nodes.EnumLiteral l.0.0 l.0.1 l.0.2) (layers.EnumLiteral l.0.0 l.0.1 l.0.2) l.2 refl (nodes.rolls-EnumLiteral l.0.0 l.0.1 l.0.2) refl
 
-  arguments_rest : (tys : List Ty) (args : List TypedPart) (rest : Judged TypedPart) (q : TypedPart) → (arguments_judged env.metas tys args rest).has q → rest.has q
-  arguments_rest [] args rest q is = is
-  arguments_rest (ty ∷ more) [] rest q is = is
-  arguments_rest (ty ∷ more) (a ∷ args) rest q is = arguments_rest more args rest q is.1
-
   query_node : (name : List ℕ) (args : ArgsJudgment) (o : Option Path) → (query_args env name args o).has p → HasNode env p d
   query_node name args None h =
-      let e = arguments_rest h.2.0.1.params h.0 _ p h.2.2.1 in
+      let e = arguments_rest env h.2.0.1.params h.0 _ p h.2.2.1 in
       plain_node _ (nodes.Query h.2.0.0 (trees_of h.0)) (layers.Query h.2.0.0 (trees_of h.0)) e refl (nodes.rolls-Query h.2.0.0 (trees_of h.0)) refl
   query_node name args (Some path) h = absurd h
 
@@ -166,11 +164,6 @@ unrolled : (env : Environment) (p : TypedPart) (d : Form) → HasType env (roll-
 unfolding HasType
 unrolled env p d has = subst (λ (j : Judgment). (j.part env).has p) (expr_unrolled d) has
 
-variable_number : (m n : ℕ) → nodes.Variable m ≡ nodes.Variable n → m ≡ n
-variable_number m n is =
-    let e : ◌≡◌ {A = Layer} (layers.Variable m) (layers.Variable n) =
-    sym (ap out-Node (sym (nodes.rolls-Variable m)) ∙ out-roll-Node (layers.Variable m)) ∙ ap out-Node is ∙ ap out-Node (sym (nodes.rolls-Variable n)) ∙ out-roll-Node (layers.Variable n) in cc
-
 -- a form behind which another stands, or a name
 abbrev is_open : Form → Bool
 is_open (of.Parens inner span) = true
@@ -191,16 +184,13 @@ chain_layer s = ap out-Node (sym (nodes.rolls-Chain (tree_of s.0) s.1.links)) �
 chain_out : (first : Typed) (rest : List TypedInfix) → out-Node (nodes.Chain first rest) ≡ layers.Chain first rest
 chain_out first rest = ap out-Node (sym (nodes.rolls-Chain first rest)) ∙ out-roll-Node (layers.Chain first rest)
 
-variable_out : (n : ℕ) → out-Node (nodes.Variable n) ≡ layers.Variable n
-variable_out n = ap out-Node (sym (nodes.rolls-Variable n)) ∙ out-roll-Node (layers.Variable n)
-
 no_variable : (env : Environment) (p : TypedPart) (d : Form) → HasNode env p d → is_open d ≡ false → (n : ℕ) → p.node ≡ nodes.Variable n → ⊥
 no_variable env p _ (HasNode.parens inner span has) closed n is = true≢false closed
 no_variable env p _ (HasNode.bare_calls part span has) closed n is = true≢false closed
 no_variable env p _ (HasNode.variable path name at part) closed n is = true≢false closed
 no_variable env p _ (HasNode.chain first rest span s linked whole) closed n is =
     let e : ◌≡◌ {A = Layer} (layers.Chain (tree_of s.0) s.1.links) (layers.Variable n) =
-    sym (chain_layer s) ∙ ap (λ (q : TypedPart). out-Node q.node) (sym whole) ∙ ap out-Node is ∙ variable_out n in cc
+    sym (chain_layer s) ∙ ap (λ (q : TypedPart). out-Node q.node) (sym whole) ∙ ap out-Node is ∙ out_variable n in cc
 no_variable env p _ (HasNode.other d plain) closed n is = true≢false (sym (ap (λ (x : Node). is_special (out-Node x)) is ∙ variable_special n) ∙ plain)
 
 alone_layer : (y : of.Expr-F HeldArgs HeldExpr HeldCall HeldLink) → IsAloneFrom (roll-Expr (bare y))
@@ -218,7 +208,7 @@ alone_layer (of.Named path) env p n has is = by path.names refl (unrolled env p 
         let l = finds_has (named_literal env names) _ _ p h in
         let e : ◌≡◌ {A = Layer} (layers.EnumLiteral l.0.0 l.0.1 l.0.2) (layers.Variable n) =
         sym (ap out-Node (sym (nodes.rolls-EnumLiteral l.0.0 l.0.1 l.0.2)) ∙ out-roll-Node (layers.EnumLiteral l.0.0 l.0.1 l.0.2))
-        ∙ ap (λ (q : TypedPart). out-Node q.node) (sym l.2) ∙ ap out-Node is ∙ variable_out n in cc
+        ∙ ap (λ (q : TypedPart). out-Node q.node) (sym l.2) ∙ ap out-Node is ∙ out_variable n in cc
 
     by : (names : List Name) → path.names ≡ names → (names_judged env (texts_of names)).has p → (v : List ℕ) × (name_alone (roll-Expr (of.Named path)) ≡ Some v) × IsVariablePart env v p
     by [] at h = absurd (no_literal [] h)
@@ -255,7 +245,7 @@ own_closed d c closed is among =
 
 in_links_of : (ls : List ClosedLink) (c : Expr) → Contains (flat_map (λ (l : Infix). (behind l).conjuncts) (map (λ l. l.0) ls)) c → is_through (out-Expr c) ≡ false
 unfolding IsLinkClosed
-in_links_of [] c has = absurd (none_in c has)
+in_links_of [] c has = absurd (nothing_in c has)
 in_links_of (l ∷ ls) c has = elim (Contains-append_cases (behind l.0).conjuncts (flat_map (λ (k : Infix). (behind k).conjuncts) (map (λ k. k.0) ls)) c has) [
   | inl here ↦ l.1 c here
   | inr more ↦ in_links_of ls c more
@@ -295,7 +285,7 @@ conjunct_closed = ind-Expr (λ a. Unit {0}) IsClosed (λ k. Unit {0}) IsLinkClos
 
 pub clause_closed : (clause : Option BlockTree) (c : Expr) → Contains (clause_conjuncts clause) c → is_through (out-Expr c) ≡ false
 clause_closed (Some block) c among = let e = from_flat_map conjuncts block.exprs c among in conjunct_closed e.0 c e.2
-clause_closed None c among = absurd (none_in c among)
+clause_closed None c among = absurd (nothing_in c among)
 
 -- ---- equations
 
@@ -375,7 +365,7 @@ module _ (env : Environment) where
   from_node c p _ (HasNode.bare_calls part span has) closed n ty own link e tree = absurd (true≢false closed)
   from_node c p _ (HasNode.variable path name at part) closed n ty own link e tree =
       let x : ◌≡◌ {A = Layer} (layers.Variable part.number) (layers.Chain (record { ty = own; node = nodes.Variable n }) (equals e link)) =
-      sym (variable_out part.number) ∙ ap (λ (q : TypedPart). out-Node q.node) (sym part.is) ∙ ap (λ (t : Typed). out-Node t.node) tree
+      sym (out_variable part.number) ∙ ap (λ (q : TypedPart). out-Node q.node) (sym part.is) ∙ ap (λ (t : Typed). out-Node t.node) tree
       ∙ chain_out (record { ty = own; node = nodes.Variable n }) (equals e link) in
       absurd cc
   from_node c p _ (HasNode.other d plain) closed n ty own link e tree =

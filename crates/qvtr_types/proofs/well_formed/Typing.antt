@@ -46,11 +46,6 @@ use Rattle.qvtr_types.proofs.well_formed.Numbers.{at_named}
 
 -- ---- what is told
 
-three : (a b c : Bool) → (a && b && c) ≡ true → (a ≡ true) × (b ≡ true) × (c ≡ true)
-three true true c is = (refl, refl, is)
-three true false c is = absurd (false≢true is)
-three false b c is = absurd (false≢true is)
-
 pub same_or : (a b : Ty) → (a ≡ b) ⊎ (a ≢ b)
 same_or a b = by (same_type a b) refl
   where
@@ -161,18 +156,20 @@ module _ (s : Setting) (r : RelationTree) (vars : List Var) (order : IsInOrder (
       by None none is = record { over = (of_type is).0; flat = (of_type is).1; object = λ m has. absurd (none-some m (sym none ∙ has)) }
       by (Some n) some is =
           let within : Bool = nat_lt n (length (slots_of s.script)) in
-          let outer = three within (option_map_or (λ (c : ℕ × ClassId). c.0 == (slot_at (slots_of s.script) n).meta) (class_of var.ty) false) (is_type s.metas var.ty) is in
+          let of_meta : Bool = option_map_or (λ (c : ℕ × ClassId). c.0 == (slot_at (slots_of s.script) n).meta) (class_of var.ty) false in
+          let told = both_true (within && of_meta) (is_type s.metas var.ty) is in
+          let object = both_true within of_meta told.0 in
           record {
-            over = (of_type outer.2).0;
-            flat = (of_type outer.2).1;
+            over = (of_type told.1).0;
+            flat = (of_type told.1).1;
             object = λ m has.
                 let same : n ≡ m = same_Some n m (sym some ∙ has) in
-                let inside : m < length (slots_of s.script) = subst (λ (k : ℕ). k < length (slots_of s.script)) same (ltb-true _ _ outer.0) in (
+                let inside : m < length (slots_of s.script) = subst (λ (k : ℕ). k < length (slots_of s.script)) same (ltb-true _ _ object.0) in (
                   slot_at (slots_of s.script) m,
                   slice_get-get_or (slots_of s.script) m (record { name = []; meta = 0 }) inside,
                   λ meta class is_class.
                       let test : (meta == (slot_at (slots_of s.script) n).meta) ≡ true =
-                      sym (ap (λ (o : Option (ℕ × ClassId)). option_map_or (λ (c : ℕ × ClassId). c.0 == (slot_at (slots_of s.script) n).meta) o false) (ap class_of is_class ∙ class_of_class meta class)) ∙ outer.1 in
+                      sym (ap (λ (o : Option (ℕ × ClassId)). option_map_or (λ (c : ℕ × ClassId). c.0 == (slot_at (slots_of s.script) n).meta) o false) (ap class_of is_class ∙ class_of_class meta class)) ∙ object.1 in
                       ap (λ (k : ℕ). (slot_at (slots_of s.script) k).meta) (sym same) ∙ sym (eqb-true meta (slot_at (slots_of s.script) n).meta test),
                 );
           }

@@ -9,7 +9,7 @@ new-requires c = c.as_slice-metas.ensures ∙ c.requires.named
 
 pub returns : goal.returns
 returns c =
-    let number : c.in_ok-number.number ≡ place_of c.args.model.now (map {A = List ℕ × ℕ} {B = List ℕ} (λ e. e.0) c.args.scope.now.names.now.models) = c.in_ok-number.ensures in
+    let number : c.in_ok-number.number ≡ place_of c.args.model.now (map {A = List ℕ × ℕ} {B = List ℕ} (λ e. e.0) c.args.scope.now.names.now.models) = c.in_ok-number.ensures.number in
     let meta : c.metamodel_of-meta.result ≡ unwrap_or (value_of c.args.scope.now.names.now.models c.args.model.now) 0 = sym (ap (λ o. unwrap_or o 0) c.metamodel_of-meta.ensures) in
     c.new.ensures ∙ (λ i. record {
       env = c.args.scope.now.env.now;

@@ -28,7 +28,7 @@ pub returns-in_ok-template-in-Pattern-clause-is : goal.returns-in_ok-template-in
 returns-in_ok-template-in-Pattern-clause-is c =
     pattern_is (shown_scope c.args.scope.now) c.args.k c.in_ok-template-in-Pattern.next c.in-Pattern.mark c.in-Pattern.model c.in-Pattern.root c.in-Pattern.template c.in-Pattern.span
     c.in_ok-within-in-Pattern.within c.in_ok-within-in-Pattern.ensures c.args.domain.now c.in-Pattern.is c.model.result c.in_ok-root-in-Pattern.root c.marker_of.result c.in_ok-template-in-Pattern.template
-    c.model.ensures c.marker_of.ensures c.in_ok-root-in-Pattern.ensures c.in_ok-template-in-Pattern.ensures.is
+    c.model.ensures c.marker_of.ensures c.in_ok-root-in-Pattern.ensures.number c.in_ok-template-in-Pattern.ensures.is
 
 pub returns-in_ok-template-in-Pattern-clause-next : goal.returns-in_ok-template-in-Pattern-clause-next
 returns-in_ok-template-in-Pattern-clause-next c =

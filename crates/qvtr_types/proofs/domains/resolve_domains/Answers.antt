@@ -7,7 +7,6 @@ use Rattle.qv_syntax.specs.declared.script.DomainTree.{DomainTree}
 use Rattle.ocl_types.specs.declared.fault.TypeFault.{TypeFault}
 use Rattle.ocl_types.proofs.QueryLemmas.{fault_of_result}
 use Rattle.script_scopes.specs.Environments.{Setting}
-use Rattle.script_scopes.specs.Faults.{StandsInExpressions}
 use Rattle.qvtr_types.specs.PlacedFaults.{StandsInItems}
 use Rattle.script_scopes.specs.Resolutions.{AreDomains}
 use Rattle.script_scopes.specs.LocatedPieces.{located_from}
@@ -41,7 +40,7 @@ returns-clause-none c =
 pub returns-clause-fault : goal.returns-clause-fault
 returns-clause-fault c =
     fault_of_result c.resolve_all.result (IsLocatedFault (shown_scope c.args.scope.now) (located_from 1 c.as_slice.result.now))
-    (λ (f : TypeFault). (s : Setting) (vars : List Var) → IsReachOf s c.args.r.now vars c.args.scope.now → StandsInExpressions s c.args.r.now vars f)
+    (λ (f : TypeFault). (s : Setting) (vars : List Var) → IsReachOf s c.args.r.now vars c.args.scope.now → StandsInItems s c.args.r.now vars f)
     (λ f fault s vars h. located_stands s c.args.r.now vars c.args.scope.now h f
     (subst (λ (ds : List DomainTree). IsLocatedFault (shown_scope c.args.scope.now) (located_from 1 ds) f) c.as_slice.ensures fault))
     c.resolve_all.ensures.fault

@@ -8,11 +8,11 @@ use Rattle.qvtr_types.specs.declared.domains.RelationScope.{RelationScope}
 use Rattle.qvtr_types.specs.declared.resolved_conjuncts.ClauseScope.{ClauseScope}
 use Rattle.script_scopes.specs.Environments.{Setting}
 use Rattle.script_scopes.specs.Faults.{StandsInExpressions}
-use Rattle.qvtr_types.specs.PlacedFaults.{StandsInClauses}
+use Rattle.qvtr_types.specs.PlacedFaults.{StandsInClauses, StandsInItems}
 use Rattle.qvtr_types.specs.RelationSettings.{IsReachOf}
 use Rattle.qvtr_types.specs.ClauseSettings.{IsClauseScopeOf}
 use Rattle.qvtr_types.specs.ScriptScopes.{IsRelationReach}
-use Rattle.qvtr_types.proofs.RelationLaws.{reach_for, clause_for, clause_fault, none_here}
+use Rattle.qvtr_types.proofs.RelationLaws.{reach_for, clause_for, clause_fault, item_fault, none_here}
 use Rattle.qvtr_types.proofs.relations.parts_of.Goals as goal
 
 pub resolve_domains-requires : goal.resolve_domains-requires
@@ -36,8 +36,9 @@ returns-in_err-domains-clause-fault c =
     let p = err_from_is_err_and c.from_residual.result c.from_residual.ensures.1 in
     err_told c.from_residual.result p.0 _
     (λ (f : TypeFault). (s : Setting) → IsRelationReach s r vars c.args.env.now c.args.scope.now → StandsInExpressions s r vars f)
-    (λ (f : TypeFault). (s : Setting) (vs : List Var) → IsReachOf s r vs within → StandsInExpressions s r vs f) p.1 p.2
-    (λ f h s reach. h s vars (reach_for s r vars c.args.env.now c.args.scope.now reach within refl refl c.requires.numbers))
+    (λ (f : TypeFault). (s : Setting) (vs : List Var) → IsReachOf s r vs within → StandsInItems s r vs f) p.1 p.2
+    (λ f h s reach. item_fault s r vars c.args.env.now c.args.scope.now reach c.expression_faults_are_told.ensures.items f
+    (h s vars (reach_for s r vars c.args.env.now c.args.scope.now reach within refl refl c.requires.numbers)))
     c.in_err-domains.ensures.fault
 
 pub returns-in_err-clauses-clause-fault : goal.returns-in_err-clauses-clause-fault

@@ -36,6 +36,6 @@ returns-clause-is c =
       roots = roots;
       asked = asked;
       trees = c.in_ok-trees.trees;
-      is = ap (λ (n : ℕ). conjs.Call n c.in_ok-trees.trees) c.in_ok-numbered.ensures;
+      is = ap (λ (n : ℕ). conjs.Call n c.in_ok-trees.trees) c.in_ok-numbered.ensures.number;
       fit = c.in_ok-trees.ensures.are;
     }

@@ -19,5 +19,5 @@ pub returns-clause-is : goal.returns-clause-is
 returns-clause-is c =
     let said : Option (List ℕ × Expr) = Some (c.args.said.0.now, c.args.said.1.now) in
     let (whole, boolean) = c.in_ok-tree.ensures.condition in
-    subst (λ (n : ℕ). IsResolved (reach_of c.args.scope.now) said c.args.conjunct.now (conjs.Equation n c.in_ok-tree.tree)) (sym c.in_ok-number.ensures)
+    subst (λ (n : ℕ). IsResolved (reach_of c.args.scope.now) said c.args.conjunct.now (conjs.Equation n c.in_ok-tree.tree)) (sym c.in_ok-number.ensures.number)
     (IsResolved.equation c.args.said.0.now c.args.said.1.now c.in_ok-tree.tree whole c.requires.uncalled refl c.in_ok-tree.ensures.is boolean)

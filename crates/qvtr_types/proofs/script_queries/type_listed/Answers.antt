@@ -1,4 +1,5 @@
 use Rattle.std.proofs.Common.{ℕ, List, Bor, map, length, subst}
+use Rattle.std.proofs.lemmas.Result.{IfOk-weaker}
 use Rattle.call_graph.specs.Graphs.{IsOnCycle}
 use Rattle.qv_syntax.specs.declared.query.QueryTree.{QueryTree}
 use Rattle.ocl_types.specs.declared.fault.TypeFault.{TypeFault}
@@ -6,7 +7,7 @@ use Rattle.ocl_types.specs.declared.variable.Signature.{Signature}
 use Rattle.ocl_types.specs.Environments.{NamesWith}
 use Rattle.ocl_types.specs.QueryCalls.{rows_of}
 use Rattle.ocl_types.proofs.QueryLemmas.{fault_of_result}
-use Rattle.qvtr_types.proofs.ScriptQueryLaws.{ok_weaker, both_told, first_stands, none_stands}
+use Rattle.qvtr_types.proofs.ScriptQueryLaws.{both_told, first_stands, none_stands}
 use Rattle.script_scopes.specs.ScriptQueries.{StandsInQueries}
 use Rattle.qvtr_types.proofs.script_queries.type_listed.Goals as goal
 
@@ -15,12 +16,12 @@ shown qs = map {A = Bor QueryTree} {B = QueryTree} (λ q. q.now) qs
 
 pub returns-clause-bodies : goal.returns-clause-bodies
 returns-clause-bodies c =
-    ok_weaker c.type_queries.result _ _
+    IfOk-weaker c.type_queries.result _ _
     (λ queries is. c.queries_are_typed.ensures (shown c.args.trees.now) _ queries (c.query_typing_is_told.ensures.told (shown c.args.trees.now) _ queries is)) c.type_queries.ensures.typed
 
 pub returns-clause-acyclic : goal.returns-clause-acyclic
 returns-clause-acyclic c =
-    ok_weaker c.type_queries.result _ _
+    IfOk-weaker c.type_queries.result _ _
     (λ queries none. (c.calls_are_told.ensures.cycles queries).0
     (subst (λ (qs : NamesWith Signature). (u : ℕ) → IsOnCycle (rows_of (length qs) queries) u → ⊥) c.requires none)) c.type_queries.ensures.acyclic
 

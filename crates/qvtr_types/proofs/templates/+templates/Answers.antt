@@ -148,27 +148,27 @@ resolve_template-returns-in_err-items-clause-fault t c =
     err_told c.from_residual-in_err-items.result p.0 _ (IsPieceFault c.args.scope.now ((template_body tree).items.from (c.args.k + 1) (template_body tree).class))
     (IsPieceFault c.args.scope.now (pieces_from c.in_ok-first.first (out-TemplateTree tree).class c.as_slice.result.now)) p.1 p.2
     (λ f h. subst (λ (ps : List Piece). IsPieceFault c.args.scope.now ps f)
-    (ap (λ (n : ℕ). pieces_from n (out-TemplateTree tree).class c.as_slice.result.now) c.in_ok-first.ensures
+    (ap (λ (n : ℕ). pieces_from n (out-TemplateTree tree).class c.as_slice.result.now) c.in_ok-first.ensures.next
     ∙ ap (pieces_from (c.args.k + 1) (out-TemplateTree tree).class) c.as_slice.ensures ∙ sym (body_pieces tree (c.args.k + 1))) h)
     c.in_err-items.ensures.fault
 
 pub resolve_template-returns-clause-is : goal.resolve_template-returns-clause-is
 resolve_template-returns-clause-is t c = λ v var_is.
     template_made c.args.scope.now c.args.k c.in_ok-items.last v c.args.tree.now c.args.head.0 c.args.head.1 c.in_ok-items.items var_is c.requires
-    (subst (λ (n : ℕ). AreItems c.args.scope.now c.args.head.1 n (out-TemplateTree c.args.tree.now).items c.in_ok-items.items c.in_ok-items.last) c.in_ok-first.ensures
+    (subst (λ (n : ℕ). AreItems c.args.scope.now c.args.head.1 n (out-TemplateTree c.args.tree.now).items c.in_ok-items.items c.in_ok-items.last) c.in_ok-first.ensures.next
     (subst (λ (ts : List ItemTree). AreItems c.args.scope.now c.args.head.1 c.in_ok-first.first ts c.in_ok-items.items c.in_ok-items.last) c.as_slice.ensures c.in_ok-items.ensures.are))
 
 pub resolve_template-returns-clause-next : goal.resolve_template-returns-clause-next
 resolve_template-returns-clause-next t c =
     let count : pieces_count c.as_slice.result.now ≡ (template_body c.args.tree.now).items.count = ap pieces_count c.as_slice.ensures ∙ sym (body_count c.args.tree.now) in
     let last = c.in_ok-items.ensures.next in
-    let first = c.in_ok-first.ensures in
+    let first = c.in_ok-first.ensures.next in
     omega (arith, count, last, first)
 
 pub resolve_template-returns-clause-meant : goal.resolve_template-returns-clause-meant
 resolve_template-returns-clause-meant t c =
     let tree : TemplateTree = c.args.tree.now in
     subst (All (IsMeant c.args.scope.now))
-    (ap (λ (n : ℕ). pieces_from n (out-TemplateTree tree).class c.as_slice.result.now) c.in_ok-first.ensures
+    (ap (λ (n : ℕ). pieces_from n (out-TemplateTree tree).class c.as_slice.result.now) c.in_ok-first.ensures.next
     ∙ ap (pieces_from (c.args.k + 1) (out-TemplateTree tree).class) c.as_slice.ensures ∙ sym (body_pieces tree (c.args.k + 1)))
     c.in_ok-items.ensures.meant
