@@ -9,10 +9,10 @@ the peak memory of the run, and what was printed. The metamodels are those of cr
 """
 import os
 import shutil
-import subprocess
 import sys
 import tempfile
-import time
+
+from timing import timed
 
 DATA = os.path.join(os.path.dirname(os.path.abspath(__file__)), '..', 'crates', 'qvtr_cmd', 'data')
 SCRIPT = 'layers.qvtr'
@@ -37,14 +37,6 @@ def script(clause, layers):
         callees = (f'A{i + 1}', f'B{i + 1}') if i + 1 < layers else ()
         parts += [relation(f'relation {side}{i}', clause, callees) for side in 'AB']
     return 'transformation Layers (uml : Cls, rdb : Rdb) {\n' + ''.join(parts) + '}\n'
-
-
-def timed(words, folder):
-    before = time.time()
-    process = subprocess.Popen(words, cwd=folder, stdout=subprocess.PIPE, stderr=subprocess.STDOUT)
-    printed = process.stdout.read()
-    _, _, usage = os.wait4(process.pid, 0)
-    return time.time() - before, usage.ru_maxrss * 1024, ' / '.join(printed.decode(errors='replace').split('\n'))[:120]
 
 
 def main():

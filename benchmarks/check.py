@@ -8,10 +8,10 @@ The script and the metamodels are those of crates/qvtr_cmd/data; models are made
 """
 import os
 import shutil
-import subprocess
 import sys
 import tempfile
-import time
+
+from timing import timed
 
 DATA = os.path.join(os.path.dirname(os.path.abspath(__file__)), '..', 'crates', 'qvtr_cmd', 'data')
 SCRIPT = 's.qvtr'
@@ -78,14 +78,6 @@ CASES = [
     ('a chain of 128 calls', lambda: heirs(64), one_table),
     ('a chain of more', lambda: heirs(65), one_table),
 ]
-
-
-def timed(words, folder):
-    before = time.time()
-    process = subprocess.Popen(words, cwd=folder, stdout=subprocess.PIPE, stderr=subprocess.STDOUT)
-    printed = process.stdout.read()
-    _, _, usage = os.wait4(process.pid, 0)
-    return time.time() - before, usage.ru_maxrss * 1024, ' / '.join(printed.decode(errors='replace').split('\n'))[:120]
 
 
 def main():

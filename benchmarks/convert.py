@@ -7,11 +7,12 @@ PROGRAM is the built program. Each line tells the file, its size, the seconds an
 memory as a multiple of the file, and what was printed. Files are made anew in a temporary folder.
 """
 import os
-import subprocess
 import sys
 import tempfile
 import time
 import xml.etree.ElementTree as tree
+
+from timing import timed
 
 HEAD = ('<?xml version="1.0" encoding="UTF-8"?>\n'
         '<xmi:XMI xmi:version="20131001" xmlns:xmi="http://www.omg.org/spec/XMI/20131001" xmlns:m="Bench">\n')
@@ -98,14 +99,6 @@ CASES = [
     ('100,000 references to nothing', lambda: to_nothing(100_000)),
     ('200,000 chosen names', lambda: chosen_names(200_000)),
 ]
-
-
-def timed(words, folder):
-    before = time.time()
-    process = subprocess.Popen(words, cwd=folder, stdout=subprocess.PIPE, stderr=subprocess.STDOUT)
-    printed = process.stdout.read()
-    _, _, usage = os.wait4(process.pid, 0)
-    return time.time() - before, usage.ru_maxrss * 1024, printed.decode(errors='replace').strip()[:60]
 
 
 def read_and_write(path, target):

@@ -8,10 +8,10 @@ The metamodels are those of crates/qvtr_cmd/data; scripts are made anew in a tem
 """
 import os
 import shutil
-import subprocess
 import sys
 import tempfile
-import time
+
+from timing import timed
 
 DATA = os.path.join(os.path.dirname(os.path.abspath(__file__)), '..', 'crates', 'qvtr_cmd', 'data')
 BOTH = 'domain uml c : Class {}; domain rdb t : Table {};'
@@ -42,14 +42,6 @@ CASES = [
     ('10,000 relations on a cycle of when calls', lambda: calls(10_000, 'when', 0)),
     ('10,000 relations on a cycle of where calls', lambda: calls(10_000, 'where', 0)),
 ]
-
-
-def timed(words, folder):
-    before = time.time()
-    process = subprocess.Popen(words, cwd=folder, stdout=subprocess.PIPE, stderr=subprocess.STDOUT)
-    printed = process.stdout.read()
-    _, _, usage = os.wait4(process.pid, 0)
-    return time.time() - before, usage.ru_maxrss * 1024, printed.decode(errors='replace').strip()[:60]
 
 
 def main():
