@@ -9,10 +9,8 @@ the peak memory of the run, and what was printed. The metamodels are those of cr
 """
 import os
 import shutil
-import sys
-import tempfile
 
-from timing import timed
+from timing import run, timed
 
 DATA = os.path.join(os.path.dirname(os.path.abspath(__file__)), '..', 'crates', 'qvtr_cmd', 'data')
 SCRIPT = 'layers.qvtr'
@@ -39,24 +37,20 @@ def script(clause, layers):
     return 'transformation Layers (uml : Cls, rdb : Rdb) {\n' + ''.join(parts) + '}\n'
 
 
-def main():
-    if len(sys.argv) != 2:
-        sys.exit(__doc__)
-    program = os.path.abspath(sys.argv[1])
-    with tempfile.TemporaryDirectory() as folder:
-        for name in ('cls.xmi', 'rdb.xmi'):
-            shutil.copy(os.path.join(DATA, name), folder)
-        for file, text in (('u.xmi', SOURCE), ('r.xmi', TARGET)):
-            with open(os.path.join(folder, file), 'w') as out:
-                out.write(text)
-        words = [program, 'check', SCRIPT, 'rdb', 'Cls=cls.xmi', 'Rdb=rdb.xmi', 'uml=u.xmi', 'rdb=r.xmi']
-        for clause in ('where', 'when'):
-            for layers in LAYERS:
-                with open(os.path.join(folder, SCRIPT), 'w') as out:
-                    out.write(script(clause, layers))
-                seconds, memory, printed = timed(words, folder)
-                print(f'{clause}, {layers} layers: {seconds:.2f} s, {memory / 1e6:.0f} MB: {printed}', flush=True)
+def measure(program, folder):
+    for name in ('cls.xmi', 'rdb.xmi'):
+        shutil.copy(os.path.join(DATA, name), folder)
+    for file, text in (('u.xmi', SOURCE), ('r.xmi', TARGET)):
+        with open(os.path.join(folder, file), 'w') as out:
+            out.write(text)
+    words = [program, 'check', SCRIPT, 'rdb', 'Cls=cls.xmi', 'Rdb=rdb.xmi', 'uml=u.xmi', 'rdb=r.xmi']
+    for clause in ('where', 'when'):
+        for layers in LAYERS:
+            with open(os.path.join(folder, SCRIPT), 'w') as out:
+                out.write(script(clause, layers))
+            seconds, memory, printed = timed(words, folder)
+            print(f'{clause}, {layers} layers: {seconds:.2f} s, {memory / 1e6:.0f} MB: {printed}', flush=True)
 
 
 if __name__ == '__main__':
-    main()
+    run(__doc__, measure)

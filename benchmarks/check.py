@@ -8,10 +8,8 @@ The script and the metamodels are those of crates/qvtr_cmd/data; models are made
 """
 import os
 import shutil
-import sys
-import tempfile
 
-from timing import timed
+from timing import run, timed
 
 DATA = os.path.join(os.path.dirname(os.path.abspath(__file__)), '..', 'crates', 'qvtr_cmd', 'data')
 SCRIPT = 's.qvtr'
@@ -80,21 +78,17 @@ CASES = [
 ]
 
 
-def main():
-    if len(sys.argv) != 2:
-        sys.exit(__doc__)
-    program = os.path.abspath(sys.argv[1])
-    with tempfile.TemporaryDirectory() as folder:
-        for name in (SCRIPT, 'cls.xmi', 'rdb.xmi'):
-            shutil.copy(os.path.join(DATA, name), folder)
-        words = [program, 'check', SCRIPT, 'rdb', 'Cls=cls.xmi', 'Rdb=rdb.xmi', 'uml=u.xmi', 'rdb=r.xmi']
-        for name, left, right in CASES:
-            for file, make in (('u.xmi', left), ('r.xmi', right)):
-                with open(os.path.join(folder, file), 'w') as out:
-                    out.write(make())
-            seconds, memory, printed = timed(words, folder)
-            print(f'{name}: {seconds:.2f} s, {memory / 1e6:.0f} MB: {printed}', flush=True)
+def measure(program, folder):
+    for name in (SCRIPT, 'cls.xmi', 'rdb.xmi'):
+        shutil.copy(os.path.join(DATA, name), folder)
+    words = [program, 'check', SCRIPT, 'rdb', 'Cls=cls.xmi', 'Rdb=rdb.xmi', 'uml=u.xmi', 'rdb=r.xmi']
+    for name, left, right in CASES:
+        for file, make in (('u.xmi', left), ('r.xmi', right)):
+            with open(os.path.join(folder, file), 'w') as out:
+                out.write(make())
+        seconds, memory, printed = timed(words, folder)
+        print(f'{name}: {seconds:.2f} s, {memory / 1e6:.0f} MB: {printed}', flush=True)
 
 
 if __name__ == '__main__':
-    main()
+    run(__doc__, measure)

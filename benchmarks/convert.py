@@ -7,12 +7,10 @@ PROGRAM is the built program. Each line tells the file, its size, the seconds an
 memory as a multiple of the file, and what was printed. Files are made anew in a temporary folder.
 """
 import os
-import sys
-import tempfile
 import time
 import xml.etree.ElementTree as tree
 
-from timing import timed
+from timing import run, timed
 
 HEAD = ('<?xml version="1.0" encoding="UTF-8"?>\n'
         '<xmi:XMI xmi:version="20131001" xmlns:xmi="http://www.omg.org/spec/XMI/20131001" xmlns:m="Bench">\n')
@@ -107,24 +105,20 @@ def read_and_write(path, target):
     return time.time() - before
 
 
-def main():
-    if len(sys.argv) != 2:
-        sys.exit(__doc__)
-    program = os.path.abspath(sys.argv[1])
-    with tempfile.TemporaryDirectory() as folder:
-        with open(os.path.join(folder, 'meta.xmi'), 'w') as file:
-            file.write(metamodel())
-        for name, make in CASES:
-            path = os.path.join(folder, 'in.xmi')
-            with open(path, 'w') as file:
-                file.write(make())
-            size = os.path.getsize(path)
-            library = read_and_write(path, os.path.join(folder, 'library.xmi'))
-            for form in ('json', 'xmi'):
-                seconds, memory, printed = timed([program, 'convert', form, 'meta.xmi', 'in.xmi', 'out'], folder)
-                print(f'{name}, to {form}: {size / 1e6:.1f} MB, {seconds:.2f} s (xml.etree {library:.2f} s), '
-                      f'{memory / 1e6:.0f} MB ({memory / size:.1f} times the file): {printed}', flush=True)
+def measure(program, folder):
+    with open(os.path.join(folder, 'meta.xmi'), 'w') as file:
+        file.write(metamodel())
+    for name, make in CASES:
+        path = os.path.join(folder, 'in.xmi')
+        with open(path, 'w') as file:
+            file.write(make())
+        size = os.path.getsize(path)
+        library = read_and_write(path, os.path.join(folder, 'library.xmi'))
+        for form in ('json', 'xmi'):
+            seconds, memory, printed = timed([program, 'convert', form, 'meta.xmi', 'in.xmi', 'out'], folder)
+            print(f'{name}, to {form}: {size / 1e6:.1f} MB, {seconds:.2f} s (xml.etree {library:.2f} s), '
+                  f'{memory / 1e6:.0f} MB ({memory / size:.1f} times the file): {printed}', flush=True)
 
 
 if __name__ == '__main__':
-    main()
+    run(__doc__, measure)

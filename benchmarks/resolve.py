@@ -8,10 +8,8 @@ The metamodels are those of crates/qvtr_cmd/data; scripts are made anew in a tem
 """
 import os
 import shutil
-import sys
-import tempfile
 
-from timing import timed
+from timing import run, timed
 
 DATA = os.path.join(os.path.dirname(os.path.abspath(__file__)), '..', 'crates', 'qvtr_cmd', 'data')
 BOTH = 'domain uml c : Class {}; domain rdb t : Table {};'
@@ -44,24 +42,20 @@ CASES = [
 ]
 
 
-def main():
-    if len(sys.argv) != 2:
-        sys.exit(__doc__)
-    program = os.path.abspath(sys.argv[1])
-    with tempfile.TemporaryDirectory() as folder:
-        for name in ('cls.xmi', 'rdb.xmi'):
-            shutil.copy(os.path.join(DATA, name), folder)
-        for name in ('u.xmi', 'r.xmi'):
-            with open(os.path.join(folder, name), 'w') as out:
-                out.write('<xmi:XMI/>')
-        for name, make in CASES:
-            text = make()
-            with open(os.path.join(folder, 'large.qvtr'), 'w') as out:
-                out.write(text)
-            words = [program, 'check', 'large.qvtr', 'rdb', 'Cls=cls.xmi', 'Rdb=rdb.xmi', 'uml=u.xmi', 'rdb=r.xmi']
-            seconds, memory, printed = timed(words, folder)
-            print(f'{name}: {len(text) / 1e6:.1f} MB, {seconds:.1f} s, {memory / 1e6:.0f} MB: {printed}', flush=True)
+def measure(program, folder):
+    for name in ('cls.xmi', 'rdb.xmi'):
+        shutil.copy(os.path.join(DATA, name), folder)
+    for name in ('u.xmi', 'r.xmi'):
+        with open(os.path.join(folder, name), 'w') as out:
+            out.write('<xmi:XMI/>')
+    for name, make in CASES:
+        text = make()
+        with open(os.path.join(folder, 'large.qvtr'), 'w') as out:
+            out.write(text)
+        words = [program, 'check', 'large.qvtr', 'rdb', 'Cls=cls.xmi', 'Rdb=rdb.xmi', 'uml=u.xmi', 'rdb=r.xmi']
+        seconds, memory, printed = timed(words, folder)
+        print(f'{name}: {len(text) / 1e6:.1f} MB, {seconds:.1f} s, {memory / 1e6:.0f} MB: {printed}', flush=True)
 
 
 if __name__ == '__main__':
-    main()
+    run(__doc__, measure)

@@ -1,6 +1,8 @@
 """How long a run of the built program takes, how much memory, and what it prints."""
 import os
 import subprocess
+import sys
+import tempfile
 import time
 
 
@@ -11,3 +13,11 @@ def timed(words, folder):
     printed = process.stdout.read()
     _, _, usage = os.wait4(process.pid, 0)
     return time.time() - before, usage.ru_maxrss * 1024, ' / '.join(printed.decode(errors='replace').strip().split('\n'))[:120]
+
+
+def run(usage, measure):
+    """Calls `measure` with the program that the command line names and a temporary folder; without one word there, prints the usage."""
+    if len(sys.argv) != 2:
+        sys.exit(usage)
+    with tempfile.TemporaryDirectory() as folder:
+        measure(os.path.abspath(sys.argv[1]), folder)
