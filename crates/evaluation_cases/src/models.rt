@@ -4,8 +4,8 @@ use case_texts::Pen;
 use expression_settings::{meta_named, put_if_refused};
 use model_building::Editor;
 use mof_metamodel::NoMemory;
+use ocl_environments::Metas;
 use ocl_eval::Models;
-use ocl_types::Metas;
 use std::alloc::Global;
 
 /// The models of a setting.

@@ -4,7 +4,7 @@ use case_texts::Pen;
 use expression_settings::{bool_word, kind_word};
 use mof_metamodel::EnumId;
 use object_tables::{Model, ObjId, Value};
-use ocl_types::Metas;
+use ocl_environments::Metas;
 use qvtr_semantics::{Datum, Out};
 
 /// A value of an expression: a datum, the kind of a collection with its elements in their order, `null` or `invalid`.

@@ -5,7 +5,7 @@ use expression_settings::{
     Refused, bind_query, bind_variable, over_models, param_types, put_if_refused, slots, type_named,
 };
 use mof_metamodel::{NoMemory, Seq, Text};
-use ocl_types::{Env, Metas};
+use ocl_environments::{Env, Metas};
 use qv_syntax::{Query, Typed};
 use std::alloc::Global;
 

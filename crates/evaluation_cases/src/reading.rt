@@ -1,8 +1,9 @@
 //! Expressions by their text.
 use case_texts::expanded;
 use mof_metamodel::NoMemory;
+use ocl_environments::{Env, TypeError};
 use ocl_parser::{ParseError, parse_expr};
-use ocl_types::{Env, TypeError, type_expr};
+use ocl_types::type_expr;
 use ql_lex::{LexError, Tokens, lex};
 use qv_syntax::{Expr, Typed};
 use std::alloc::Global;

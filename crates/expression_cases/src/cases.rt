@@ -7,7 +7,7 @@ use crate::type_answers::{
 use case_texts::{Pen, expanded};
 use expression_settings::metamodels;
 use mof_metamodel::{NoMemory, Text};
-use ocl_types::{Env, Metas};
+use ocl_environments::{Env, Metas};
 use std::alloc::Global;
 
 /// The answers to the cases of a setting, whose name is its first line.

@@ -3,7 +3,8 @@ use crate::expressions::put_tree;
 use crate::reading::{Reading, read};
 use case_texts::Pen;
 use expression_settings::{put_type_fault, put_typed_tree};
-use ocl_types::{Env, Metas, type_expr, type_text};
+use ocl_environments::{Env, Metas, type_text};
+use ocl_types::type_expr;
 use std::alloc::Global;
 
 /// The number of the token behind an expression, where there is one.

@@ -1,6 +1,6 @@
 use case_texts::Pen;
 use expression_settings::{bool_word, kind_word, operator_word, put_string};
-use ocl_types::path_text;
+use ocl_environments::path_text;
 use qv_syntax::{Args, Expr, Infix, Kind, Name, Path, Postfix, TypeTree};
 use std::alloc::Global;
 

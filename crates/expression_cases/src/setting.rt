@@ -1,7 +1,7 @@
 use case_texts::Pen;
 use expression_settings::{Refused, bind_query, bind_variable, over_models, put_if_refused, slots};
 use mof_metamodel::NoMemory;
-use ocl_types::{Env, Metas};
+use ocl_environments::{Env, Metas};
 use std::alloc::Global;
 
 /// The environment of a setting.

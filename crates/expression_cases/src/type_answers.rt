@@ -3,7 +3,7 @@ use crate::words::yes_or_no;
 use case_texts::Pen;
 use expression_settings::{Refused, meta_named, put_type_fault, type_named};
 use mof_metamodel::{NoMemory, Seq, Span, Text};
-use ocl_types::{Env, Metas, type_text, written_type};
+use ocl_environments::{Env, Metas, type_text, written_type};
 use qv_syntax::{Literal, Name, Path, Ty, TypeTree, Values};
 use std::alloc::Global;
 use std::str;

@@ -2,7 +2,7 @@
 use crate::refused::Refused;
 use crate::type_names::type_named;
 use mof_metamodel::{NoMemory, Seq, Text};
-use ocl_types::{Env, Metas};
+use ocl_environments::{Env, Metas};
 use qv_syntax::Ty;
 use std::alloc::Global;
 

@@ -1,6 +1,6 @@
 use case_texts::Pen;
 use mof_metamodel::Text;
-use ocl_types::{TypeError, TypeFault};
+use ocl_environments::{TypeError, TypeFault};
 
 /// A fault of types: its kind and its texts.
 pub fn put_type_fault(pen: &mut Pen, error: &TypeError) {

@@ -3,7 +3,7 @@ use crate::refused::{Refused, put_if_refused};
 use case_texts::Pen;
 use model_building::described;
 use mof_metamodel::{MetaModel, NoMemory, Text};
-use ocl_types::Metas;
+use ocl_environments::Metas;
 use std::alloc::Global;
 
 /// The metamodels of a setting, whose name is its first line.

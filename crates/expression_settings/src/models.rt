@@ -1,12 +1,12 @@
 //! The models of a setting.
 ghost use Rattle.std.specs.Prelude.{◌≡◌, nat_lt};
-ghost use Rattle.ocl_types.specs.Environments.{have_metas};
+ghost use Rattle.ocl_environments.specs.Environments.{have_metas};
 
 use crate::refused::{Refused, put_if_refused};
 use crate::type_names::meta_named;
 use case_texts::Pen;
 use mof_metamodel::{NoMemory, Seq, Text};
-use ocl_types::{Env, Metas};
+use ocl_environments::{Env, Metas};
 use qv_syntax::ModelSlot;
 use std::alloc::Global;
 

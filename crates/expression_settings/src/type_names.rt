@@ -2,7 +2,7 @@
 use crate::refused::Refused;
 use crate::words::kind_named;
 use mof_metamodel::{Boxed, ClassId, EnumId, MetaModel, NoMemory};
-use ocl_types::Metas;
+use ocl_environments::Metas;
 use qv_syntax::{Kind, Ty};
 use std::alloc::Global;
 

@@ -2,7 +2,7 @@
 use crate::words::{bool_word, kind_word, operator_word};
 use case_texts::Pen;
 use mof_metamodel::{ClassId, EnumId};
-use ocl_types::{Metas, type_text};
+use ocl_environments::{Metas, type_text};
 use qv_syntax::{Call, Literal, Node, Ty, Typed, TypedInfix, TypedPostfix};
 use std::alloc::Global;
 

@@ -14,12 +14,12 @@ use Rattle.mof_metamodel.specs.Metamodels.{same_name, class_number, enum_number,
 use Rattle.qv_syntax.specs.declared.ty.Ty.{Ty}
 use Rattle.qv_syntax.specs.Types.{IsClassIn, IsEnumIn, IsSingleType}
 use Rattle.qv_syntax.specs.TypedTrees.{IsLiteralIn}
-use Rattle.ocl_types.specs.declared.classifier.Classifier.{Classifier}
-use Rattle.ocl_types.specs.declared.classifier.Classifier.TheVariants.{Class, Enum}
-use Rattle.ocl_types.specs.declared.classifier.Wanted.{Wanted}
-use Rattle.ocl_types.specs.declared.classifier.Wanted.TheVariants.{Types, Classes, Enums}
-use Rattle.ocl_types.specs.Environments.{Environment, no_meta, meta_at}
-use Rattle.ocl_types.specs.Classifiers.{class_in, enum_in, is_meant, wanted_classes, wanted_enums, classifiers_in, classifiers_from, path_classifiers, classifier_type, named_type, class_alone, named_class, literal_in, path_literal, named_literal, only}
+use Rattle.ocl_environments.specs.declared.classifier.Classifier.{Classifier}
+use Rattle.ocl_environments.specs.declared.classifier.Classifier.TheVariants.{Class, Enum}
+use Rattle.ocl_environments.specs.declared.classifier.Wanted.{Wanted}
+use Rattle.ocl_environments.specs.declared.classifier.Wanted.TheVariants.{Types, Classes, Enums}
+use Rattle.ocl_environments.specs.Environments.{Environment, no_meta, meta_at}
+use Rattle.ocl_environments.specs.Classifiers.{class_in, enum_in, is_meant, wanted_classes, wanted_enums, classifiers_in, classifiers_from, path_classifiers, classifier_type, named_type, class_alone, named_class, literal_in, path_literal, named_literal, only}
 use Rattle.ocl_types.proofs.ConformanceLaws.{nothing_in, in_either}
 
 -- the class or the enumeration is one of the metamodels

@@ -12,11 +12,10 @@ use Rattle.qv_syntax.specs.declared.ty.Ty.{Ty}
 use Rattle.qv_syntax.specs.declared.ty.Ty.TheVariants as types
 use Rattle.qv_syntax.specs.Types.{ConformsTo, AreRelated, IsTopOf}
 use Rattle.qv_syntax.specs.TypeRules.{AreLikeCollections, AreComparable}
-use Rattle.ocl_types.specs.Environments.{no_meta, meta_at, class_of, AreWell}
-use Rattle.ocl_types.specs.Conformance.{ConformsBy, TypeConforms}
-use Rattle.ocl_types.specs.Agreement.{same_kind, is_null, collection_parts, has_objects, fits, are_related, agreed, upper, IsTop}
-use Rattle.ocl_types.specs.TypingOperators.{comparable_elements, are_comparable}
-use Rattle.ocl_types.proofs.TypeLaws.{same_kinds, both_true}
+use Rattle.ocl_environments.specs.Environments.{no_meta, meta_at, class_of, AreWell}
+use Rattle.ocl_environments.specs.Conformance.{ConformsBy, TypeConforms}
+use Rattle.ocl_environments.specs.Agreement.{same_kind, is_null, collection_parts, has_objects, fits, are_related, agreed, upper, IsTop, comparable_elements, are_comparable}
+use Rattle.ocl_environments.proofs.TypeLaws.{same_kinds, both_true}
 use Rattle.ocl_types.proofs.UpperLaws.{fits_exactly, agreed_sound}
 use Rattle.ocl_types.proofs.LayerLaws.{is_class, is_collection, null_is, objects_of_class}
 

@@ -19,7 +19,8 @@ use Rattle.qv_syntax.specs.declared.typed.TypedInfix.{TypedInfix, roll-TypedInfi
 use Rattle.qv_syntax.specs.declared.typed.TypedPostfix.{TypedPostfix, roll-TypedPostfix, map-TypedPostfix, fold-roll-TypedPostfix}
 use Rattle.qv_syntax.specs.Parts.{IsWithin, CallsQuery, node_parts, call_parts, parts_of_call}
 use Rattle.qv_syntax.specs.QueryCalls.{Calls, Reaches, AreAcyclic}
-use Rattle.ocl_types.specs.QueryCalls.{call_step, node_step, typed_step, infix_step, postfix_step, called_by, called_in_node, called_in_call, called_behind, called_with, rows_of}
+use Rattle.ocl_environments.specs.QueryCalls.{call_step, node_step, typed_step, infix_step, postfix_step, called_by, called_in_node, called_in_call, called_behind, called_with, rows_of}
+use Rattle.ocl_environments.proofs.QueryCallLemmas.{calls_of_step, by_link}
 use Rattle.ocl_types.proofs.ConformanceLaws.{first_in, later_in, nothing_in, in_either}
 use Rattle.ocl_types.proofs.NumberLaws.{mapped_there}
 
@@ -44,16 +45,9 @@ call_calls d = call_step (map-Call Call Node Typed TypedInfix TypedPostfix (List
 call_rolled : (d : of.Call-F Call Node Typed TypedInfix TypedPostfix) → called_in_call (roll-Call d) ≡ call_calls d
 call_rolled d = fold-roll-Call (List ℕ) (List ℕ) (List ℕ) (List ℕ) (List ℕ) call_step node_step typed_step infix_step postfix_step d
 
-pub calls_of_step : (step : TypedPostfix) → called_with step ≡ called_in_call step.call
-calls_of_step step = fold-roll-TypedPostfix (List ℕ) (List ℕ) (List ℕ) (List ℕ) (List ℕ) call_step node_step typed_step infix_step postfix_step (record { call = step.call; ty = step.ty })
-
 -- those of a call behind a part
 by_call : (step : TypedPostfix) → called_with step ≡ call_calls (out-Call step.call)
 by_call step = calls_of_step step ∙ ap called_in_call (sym (roll-out-Call step.call)) ∙ call_rolled (out-Call step.call)
-
--- those of the part behind an operator
-pub by_link : (link : TypedInfix) → called_behind link ≡ called_by link.right
-by_link link = fold-roll-TypedInfix (List ℕ) (List ℕ) (List ℕ) (List ℕ) (List ℕ) call_step node_step typed_step infix_step postfix_step (record { operator = link.operator; right = link.right; ty = link.ty })
 
 -- ---- the calls of a part are calls of the whole
 

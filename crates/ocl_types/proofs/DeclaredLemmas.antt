@@ -15,21 +15,21 @@ use Rattle.qv_syntax.specs.declared.ty.Ty.TheOpen as of
 use Rattle.qv_syntax.specs.declared.type_tree.Kind.{Kind}
 use Rattle.qv_syntax.specs.declared.type_tree.TypeTree.{TypeTree, map-TypeTree, fold-roll-TypeTree, ind-TypeTree}
 use Rattle.qv_syntax.specs.declared.type_tree.TypeTree.TheOpen as trees
-use Rattle.ocl_types.specs.declared.classifier.Classifier.{Classifier}
-use Rattle.ocl_types.specs.declared.classifier.Classifier.TheVariants.{Class, Enum}
-use Rattle.ocl_types.specs.declared.classifier.Wanted.{Wanted}
-use Rattle.ocl_types.specs.declared.classifier.Wanted.TheVariants.{Types, Classes, Enums}
-use Rattle.ocl_types.specs.declared.fault.TypeFault.{TypeFault}
-use Rattle.ocl_types.specs.declared.fault.TypeError.{TypeError}
+use Rattle.ocl_environments.specs.declared.classifier.Classifier.{Classifier}
+use Rattle.ocl_environments.specs.declared.classifier.Classifier.TheVariants.{Class, Enum}
+use Rattle.ocl_environments.specs.declared.classifier.Wanted.{Wanted}
+use Rattle.ocl_environments.specs.declared.classifier.Wanted.TheVariants.{Types, Classes, Enums}
+use Rattle.ocl_environments.specs.declared.fault.TypeFault.{TypeFault}
+use Rattle.ocl_environments.specs.declared.fault.TypeError.{TypeError}
 use Rattle.mof_metamodel.specs.Giving.{Gives}
-use Rattle.ocl_types.specs.Environments.{Environment, meta_at, no_meta, is_over, is_over_step, single_step, is_single_value, is_flat_layer, is_flat, is_type}
-use Rattle.ocl_types.specs.Naming.{names_of}
-use Rattle.ocl_types.specs.Classifiers.{class_in, enum_in, is_meant, wanted_classes, wanted_enums, classifiers_in, classifiers_from, path_classifiers, classifier_type, only}
-use Rattle.ocl_types.specs.Written.{fault_in, found_type, collection_of, written, written_step}
-use Rattle.ocl_types.specs.Outcomes.{RuleResult, and_then}
-use Rattle.ocl_types.specs.Agreement.{collection_layer}
+use Rattle.ocl_environments.specs.Environments.{Environment, meta_at, no_meta, is_over, is_over_step, single_step, is_single_value, is_flat_layer, is_flat, is_type}
+use Rattle.ocl_environments.specs.Naming.{names_of}
+use Rattle.ocl_environments.specs.Classifiers.{class_in, enum_in, is_meant, wanted_classes, wanted_enums, classifiers_in, classifiers_from, path_classifiers, classifier_type, only}
+use Rattle.ocl_environments.specs.Written.{fault_in, found_type, collection_of, written, written_step}
+use Rattle.ocl_environments.specs.Outcomes.{RuleResult, and_then}
+use Rattle.ocl_environments.specs.Agreement.{collection_layer}
 use Rattle.ocl_types.specs.TypingScopes.{no_collection, element, flat_by, flat, declared_type}
-use Rattle.ocl_types.proofs.TypeLaws.{and_true}
+use Rattle.ocl_environments.proofs.TypeLaws.{and_true}
 
 lt_true : (a b : ℕ) → a < b → nat_lt a b ≡ true
 lt_true a b below = grind (arith, nat_tests)

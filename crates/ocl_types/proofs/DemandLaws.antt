@@ -12,21 +12,20 @@ use Rattle.qv_syntax.specs.declared.type_tree.Kind.{Kind}
 use Rattle.qv_syntax.specs.declared.type_tree.Kind.TheVariants as kinds
 use Rattle.qv_syntax.specs.Types.{ConformsTo, AreRelated}
 use Rattle.qv_syntax.specs.TypeRules.{AreLikeCollections, AreComparable, IsOrdered}
-use Rattle.ocl_types.specs.declared.fault.TypeFault.{TypeFault}
+use Rattle.ocl_environments.specs.declared.fault.TypeFault.{TypeFault}
 use Rattle.ocl_types.specs.declared.operations.Receivers.{Receivers}
 use Rattle.ocl_types.specs.declared.operations.Receivers.TheVariants as receivers
 use Rattle.ocl_types.specs.declared.collection_operations.Kinds.{Kinds}
 use Rattle.ocl_types.specs.declared.collection_operations.Kinds.TheVariants as behind
-use Rattle.ocl_types.specs.Environments.{AreWell, is_over, class_of}
-use Rattle.ocl_types.specs.Outcomes.{RuleResult}
-use Rattle.ocl_types.specs.Agreement.{same_kind, same_type, is_null, collection_parts, fits, are_related}
+use Rattle.ocl_environments.specs.Environments.{AreWell, is_over, class_of}
+use Rattle.ocl_environments.specs.Outcomes.{RuleResult}
+use Rattle.ocl_environments.specs.Agreement.{same_kind, same_type, is_null, collection_parts, fits, are_related, comparable_elements, are_comparable}
 use Rattle.ocl_types.specs.Signatures.{is_receiver, is_ordered, is_set, is_of_kind}
-use Rattle.ocl_types.specs.TypingOperators.{comparable_elements, are_comparable}
 use Rattle.ocl_types.specs.TypingSteps.{is_of_meta}
 use Rattle.ocl_types.specs.TypeRules.{IsReceiver, IsObjectOf, IsOfKind}
 use Rattle.ocl_types.specs.Judged.{Judged, says, taking}
 use Rattle.ocl_types.proofs.JudgedLaws.{Decides, ok_err, err_err}
-use Rattle.ocl_types.proofs.TypeLaws.{same_is_one, same_kind_itself, and_true}
+use Rattle.ocl_environments.proofs.TypeLaws.{same_is_one, same_kind_itself, and_true}
 use Rattle.ocl_types.proofs.LayerLaws.{is_class, class_of_class, parts_of_collection, null_is}
 use Rattle.ocl_types.proofs.ConformanceLaws.{fits_conform, comparable_are}
 use Rattle.ocl_types.proofs.RangeLaws.{elements_of}

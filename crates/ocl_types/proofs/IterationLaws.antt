@@ -2,14 +2,14 @@
 use Rattle.std.proofs.Common.{◌≡◌, Option, None, Some, Result, Ok, refl, ap, subst, ◌∙◌}
 use Rattle.qv_syntax.specs.declared.ty.Ty.{Ty}
 use Rattle.qv_syntax.specs.declared.type_tree.TypeTree.{TypeTree}
-use Rattle.ocl_types.specs.declared.fault.TypeError.{TypeError}
-use Rattle.ocl_types.specs.Environments.{Environment}
-use Rattle.ocl_types.specs.Outcomes.{and_then, asking, wrong_type}
-use Rattle.ocl_types.specs.Agreement.{fits}
-use Rattle.ocl_types.specs.Scopes.{Reach, in_reach}
+use Rattle.ocl_environments.specs.declared.fault.TypeError.{TypeError}
+use Rattle.ocl_environments.specs.Environments.{Environment}
+use Rattle.ocl_environments.specs.Outcomes.{and_then, asking, wrong_type}
+use Rattle.ocl_environments.specs.Agreement.{fits}
+use Rattle.ocl_environments.specs.Scopes.{Reach, in_reach}
 use Rattle.ocl_types.specs.TypingCollections.{variable_type}
 use Rattle.mof_metamodel.specs.Giving.{Gives}
-use Rattle.ocl_types.specs.Written.{fault_in}
+use Rattle.ocl_environments.specs.Written.{fault_in}
 use Rattle.ocl_types.proofs.ReachLaws.{declared_reach}
 
 variable_reach : (scope : Reach) (tree : Option TypeTree) (of : Ty) → variable_type scope.outer tree of ≡ variable_type (in_reach scope) tree of

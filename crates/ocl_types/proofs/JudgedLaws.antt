@@ -1,8 +1,8 @@
 -- A rule that is computed decides what is judged: it answers what that is, and a fault only where it stands, and where one stands.
 use Rattle.std.proofs.Common.{◌≡◌, Bool, true, false, Option, None, Some, Ok, Err, refl, sym, ap, ◌∙◌, subst, ◌⊎◌, ⊎_elim, inl, inr, true≢false}
 use Rattle.std.specs.Prelude.{IsTrue, ◌↔◌}
-use Rattle.ocl_types.specs.declared.fault.TypeFault.{TypeFault}
-use Rattle.ocl_types.specs.Outcomes.{RuleResult, and_then, asking}
+use Rattle.ocl_environments.specs.declared.fault.TypeFault.{TypeFault}
+use Rattle.ocl_environments.specs.Outcomes.{RuleResult, and_then, asking}
 use Rattle.ocl_types.specs.Judged.{Judged, gives, refuses, tells, says, asks, finds, taking, both}
 
 pub record Decides {X : Type 0} (r : RuleResult X) (j : Judged X) : Type 0 where

@@ -6,11 +6,11 @@ use Rattle.qv_syntax.specs.declared.expr.Infix.{Infix, roll-Infix, map-Infix, re
 use Rattle.qv_syntax.specs.declared.expr.Postfix.{Postfix, roll-Postfix, map-Postfix, rec-roll-Postfix}
 use Rattle.qv_syntax.specs.declared.expr.Args.{Args, roll-Args, map-Args, rec-roll-Args}
 use Rattle.qv_syntax.specs.declared.expr.Args.TheOpen as of
-use Rattle.ocl_types.specs.declared.part.TypedPart.{TypedPart}
-use Rattle.ocl_types.specs.declared.part.CallsSoFar.{CallsSoFar}
-use Rattle.ocl_types.specs.declared.part.Chained.{Chained}
-use Rattle.ocl_types.specs.Environments.{Environment}
-use Rattle.ocl_types.specs.Parts.{uncalled}
+use Rattle.ocl_environments.specs.declared.part.TypedPart.{TypedPart}
+use Rattle.ocl_environments.specs.declared.part.CallsSoFar.{CallsSoFar}
+use Rattle.ocl_environments.specs.declared.part.Chained.{Chained}
+use Rattle.ocl_environments.specs.Environments.{Environment}
+use Rattle.ocl_environments.specs.Parts.{uncalled}
 use Rattle.ocl_types.specs.TypingOperators.{unchained, chain_part}
 use Rattle.ocl_types.specs.Typing.{given, called_whole, path_of_extent}
 use Rattle.ocl_types.specs.Judged.{Judged, gives, taking, both}

@@ -9,8 +9,8 @@ use Rattle.qv_syntax.specs.declared.ty.Ty.{Ty, map-Ty, roll-Ty, out-Ty, fold-rol
 use Rattle.qv_syntax.specs.declared.ty.Ty.TheOpen as of
 use Rattle.qv_syntax.specs.declared.ty.Ty.TheVariants as types
 use Rattle.qv_syntax.specs.Types.{IsNoCollection}
-use Rattle.ocl_types.specs.Environments.{class_of, class_step}
-use Rattle.ocl_types.specs.Agreement.{is_null, null_step, collection_parts, collection_layer, has_objects, object_step, model_for}
+use Rattle.ocl_environments.specs.Environments.{class_of, class_step}
+use Rattle.ocl_environments.specs.Agreement.{is_null, null_step, collection_parts, collection_layer, has_objects, object_step, model_for}
 
 -- a fact of each type, by its layer
 pub by_layer : (P : Ty → Type 0) → ((l : of.Ty-F Ty) → P (roll-Ty l)) → (ty : Ty) → P ty

@@ -6,12 +6,12 @@ use Rattle.std.proofs.lemmas.Bool.{false≢true}
 use Rattle.std.proofs.lemmas.Option.{none-some, same_Some}
 use Rattle.mof_metamodel.specs.Metamodels.{same_name}
 use Rattle.mof_metamodel.proofs.SearchLemmas.{same_true, true_same}
-use Rattle.ocl_types.specs.declared.fault.TypeFault.TheVariants.{UnknownName}
-use Rattle.ocl_types.specs.Environments.{NamesWith, number_of, value_of}
-use Rattle.ocl_types.specs.Outcomes.{RuleResult}
+use Rattle.ocl_environments.specs.declared.fault.TypeFault.TheVariants.{UnknownName}
+use Rattle.ocl_environments.specs.Environments.{NamesWith, number_of, value_of}
+use Rattle.ocl_environments.specs.Outcomes.{RuleResult}
 use Rattle.ocl_types.specs.Judged.{Judged, taking}
 use Rattle.ocl_types.specs.TypeRules.{IsFirstNamed, named_judged}
-use Rattle.ocl_types.proofs.ScopeLaws.{position-cons}
+use Rattle.ocl_environments.proofs.ScopeLaws.{position-cons}
 use Rattle.ocl_types.proofs.JudgedLaws.{Decides}
 use Rattle.ocl_types.proofs.DemandLaws.{known_decides}
 

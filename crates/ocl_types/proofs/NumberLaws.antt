@@ -21,12 +21,12 @@ use Rattle.qv_syntax.specs.declared.typed.Values.{Values}
 use Rattle.qv_syntax.specs.Types.{IsClassIn}
 use Rattle.qv_syntax.specs.TypeRules.{HasProperty}
 use Rattle.qv_syntax.specs.TypedTrees.{IsOnlyModelOf}
-use Rattle.ocl_types.specs.Environments.{Environment, AreWell, no_meta, meta_at, class_of, models_of, only, only_model}
-use Rattle.ocl_types.specs.Navigation.{value_type, values_of}
+use Rattle.ocl_environments.specs.Environments.{Environment, AreWell, no_meta, meta_at, class_of, models_of, only, only_model}
+use Rattle.ocl_environments.specs.Navigation.{value_type, values_of}
 use Rattle.ocl_types.specs.TypingSteps.{described, class_property, property_of}
 use Rattle.ocl_types.specs.TypedContext.{context_of}
 use Rattle.ocl_types.specs.TypeRules.{HasPropertyNamed}
-use Rattle.ocl_types.proofs.TypeLaws.{both_true, and_true}
+use Rattle.ocl_environments.proofs.TypeLaws.{both_true, and_true}
 use Rattle.ocl_types.proofs.LayerLaws.{is_class, class_of_class}
 use Rattle.ocl_types.proofs.RangeLaws.{true_lt}
 use Rattle.ocl_types.proofs.ConformanceLaws.{first_in, nothing_in, in_either}

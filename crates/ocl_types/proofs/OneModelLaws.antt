@@ -6,9 +6,9 @@ use Rattle.std.proofs.lemmas.Bool.{eqb-true}
 use Rattle.std.proofs.lemmas.Option.{none-some, same_Some}
 use Rattle.qv_syntax.specs.Types.{IsOneModel}
 use Rattle.qv_syntax.specs.TypedTrees.{models_of}
-use Rattle.ocl_types.specs.declared.part.TypedPart.{TypedPart}
-use Rattle.ocl_types.specs.Agreement.{joined_models}
-use Rattle.ocl_types.specs.Parts.{with_models, one_model}
+use Rattle.ocl_environments.specs.declared.part.TypedPart.{TypedPart}
+use Rattle.ocl_environments.specs.Agreement.{joined_models}
+use Rattle.ocl_environments.specs.Parts.{with_models, one_model}
 use Rattle.ocl_types.specs.TypedContext.{typing_of}
 use Rattle.ocl_types.proofs.JudgedLaws.{ok_ok, ok_err}
 use Rattle.ocl_types.proofs.ConformanceLaws.{first_in, later_in, nothing_in, in_either}

@@ -24,12 +24,12 @@ use Rattle.qv_syntax.specs.TypeRules.{OperationGives, ClassOperationGives, Colle
 use Rattle.ocl_types.specs.declared.collection_operations.Argument.TheVariants as takes
 use Rattle.ocl_types.specs.Operations.{operation_row, class_row, collection_row, iterator_row, operations, operation_named}
 use Rattle.ocl_types.specs.Signatures.{parameter_count, parameter_type, result_type, argument_count, collection_result}
-use Rattle.ocl_types.specs.Agreement.{collection_parts}
+use Rattle.ocl_environments.specs.Agreement.{collection_parts}
 use Rattle.ocl_types.specs.TypingSteps.{tested}
 use Rattle.ocl_types.specs.TypeRules.{IsReceiver, IsObjectOf, IsOfKind, GivenConforms}
 use Rattle.ocl_types.specs.OperationRows.{AreAll, IsSummed}
 use Rattle.ocl_types.specs.TypingCollections.{element_by, element_of, iterated_type}
-use Rattle.ocl_types.proofs.TypeLaws.{both_true}
+use Rattle.ocl_environments.proofs.TypeLaws.{both_true}
 use Rattle.ocl_types.proofs.LayerLaws.{is_collection, no_collection_is}
 use Rattle.ocl_types.proofs.ConformanceLaws.{top_related}
 

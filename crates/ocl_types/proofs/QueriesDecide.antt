@@ -10,12 +10,12 @@ use Rattle.qv_syntax.specs.declared.query.Query.{Query}
 use Rattle.qv_syntax.specs.declared.query.QueryTree.{QueryTree}
 use Rattle.qv_syntax.specs.declared.query.ParamTree.{ParamTree}
 use Rattle.qv_syntax.specs.TypedTrees.{QueryType}
-use Rattle.ocl_types.specs.declared.fault.TypeFault.{TypeFault}
-use Rattle.ocl_types.specs.declared.fault.TypeFault.TheVariants.{DuplicateName}
-use Rattle.ocl_types.specs.declared.variable.Signature.{Signature}
-use Rattle.ocl_types.specs.Environments.{Environment, IsInOrder, is_over, is_query_bound, with_query, without_variables}
-use Rattle.ocl_types.specs.Outcomes.{RuleResult, and_then}
-use Rattle.ocl_types.specs.Parts.{tree_of}
+use Rattle.ocl_environments.specs.declared.fault.TypeFault.{TypeFault}
+use Rattle.ocl_environments.specs.declared.fault.TypeFault.TheVariants.{DuplicateName}
+use Rattle.ocl_environments.specs.declared.variable.Signature.{Signature}
+use Rattle.ocl_environments.specs.Environments.{Environment, IsInOrder, is_over, is_query_bound, with_query, without_variables}
+use Rattle.ocl_environments.specs.Outcomes.{RuleResult, and_then}
+use Rattle.ocl_environments.specs.Parts.{tree_of}
 use Rattle.ocl_types.specs.TypingScopes.{let_type, declared_type}
 use Rattle.ocl_types.specs.Typing.{part_of, typed}
 use Rattle.ocl_types.specs.QueryTyping.{with_param, params_from, signature_of, query_bound, queries_bound, body_typed, query_typed, queries_from, queries_typed}

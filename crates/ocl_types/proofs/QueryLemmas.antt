@@ -6,19 +6,19 @@ use Rattle.std.proofs.lemmas.List.{drop_more}
 use Rattle.mof_metamodel.specs.Giving.{Gives}
 use Rattle.qv_syntax.specs.declared.query.Query.{Query}
 use Rattle.qv_syntax.specs.declared.query.QueryTree.{QueryTree}
-use Rattle.ocl_types.specs.declared.fault.TypeFault.{TypeFault}
-use Rattle.ocl_types.specs.declared.variable.Variable.{Variable}
-use Rattle.ocl_types.specs.Environments.{Environment, NamesWith, is_variable, without_variables, without_names, without_queries}
-use Rattle.ocl_types.specs.declared.fault.TypeError.{TypeError}
+use Rattle.ocl_environments.specs.declared.fault.TypeFault.{TypeFault}
+use Rattle.ocl_environments.specs.declared.variable.Variable.{Variable}
+use Rattle.ocl_environments.specs.Environments.{Environment, NamesWith, is_variable, without_variables, without_names, without_queries}
+use Rattle.ocl_environments.specs.declared.fault.TypeError.{TypeError}
 use Rattle.qv_syntax.specs.declared.ty.Ty.{Ty}
 use Rattle.qv_syntax.specs.declared.typed.Typed.{Typed}
-use Rattle.ocl_types.specs.Written.{fault_in, IfFault}
-use Rattle.ocl_types.specs.Agreement.{fits}
+use Rattle.ocl_environments.specs.Written.{fault_in, IfFault}
+use Rattle.ocl_environments.specs.Agreement.{fits}
 use Rattle.ocl_types.specs.TypingScopes.{declared_type}
 use Rattle.ocl_types.specs.Typing.{typed}
-use Rattle.ocl_types.specs.Outcomes.{RuleResult, and_then, asking, wrong_type}
+use Rattle.ocl_environments.specs.Outcomes.{RuleResult, and_then, asking, wrong_type}
 use Rattle.ocl_types.specs.QueryTyping.{params_from, body_typed, query_typed, queries_bound, queries_from, queries_typed, IsFirstFault}
-use Rattle.ocl_types.specs.QueryCalls.{IsCycleFault}
+use Rattle.ocl_environments.specs.QueryCalls.{IsCycleFault}
 
 abbrev pub both_answered : Environment × List Query → RuleResult (Environment × List Query)
 both_answered p = Ok p

@@ -9,9 +9,9 @@ use Rattle.qv_syntax.specs.declared.query.ParamTree.{ParamTree}
 use Rattle.qv_syntax.specs.Types.{IsWrittenType, ConformsTo}
 use Rattle.qv_syntax.specs.declared.typed.Typed.{Typed}
 use Rattle.qv_syntax.specs.TypedTrees.{Context, without_model, IsTyped}
-use Rattle.ocl_types.specs.declared.part.TypedPart.{TypedPart}
-use Rattle.ocl_types.specs.Environments.{Environment, IsInOrder, without_variables}
-use Rattle.ocl_types.specs.Parts.{tree_of}
+use Rattle.ocl_environments.specs.declared.part.TypedPart.{TypedPart}
+use Rattle.ocl_environments.specs.Environments.{Environment, IsInOrder, without_variables}
+use Rattle.ocl_environments.specs.Parts.{tree_of}
 use Rattle.ocl_types.specs.QueryTyping.{with_param}
 use Rattle.ocl_types.specs.Queries.{params_judged, reached_judged, typed_query_judged, bodies_judged, AreQueries}
 use Rattle.ocl_types.specs.TypedContext.{context_of, variable_typing, variables_of, typing_of, IsTypedQuery}

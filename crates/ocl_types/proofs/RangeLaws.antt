@@ -36,8 +36,8 @@ use Rattle.qv_syntax.specs.declared.typed.TypedPostfix.{TypedPostfix}
 use Rattle.qv_syntax.specs.Types.{IsClassIn, IsEnumIn, IsSingleType, IsWrittenType, IsTopOf}
 use Rattle.qv_syntax.specs.TypeRules.{Operated, Branches, Elements, HasProperty, value_type, navigated, OperationGives, CollectionGives, JoinsElement, JoinsCollection, IteratorGives, tested}
 use Rattle.qv_syntax.specs.TypedTrees.{QueryType, Context, Typing, Variables, with_variable, types_of, IsTyped, AreTyped, IsChained, AreCalled, IsCalled}
-use Rattle.ocl_types.specs.Environments.{no_meta, meta_at, is_over, is_over_step}
-use Rattle.ocl_types.proofs.TypeLaws.{and_true}
+use Rattle.ocl_environments.specs.Environments.{no_meta, meta_at, is_over, is_over_step}
+use Rattle.ocl_environments.proofs.TypeLaws.{and_true}
 use Rattle.ocl_types.proofs.ConformanceLaws.{first_in, nothing_in, in_two, in_either, one_more}
 
 pub true_lt : (a b : ℕ) → a < b → nat_lt a b ≡ true

@@ -3,14 +3,15 @@ use Rattle.std.proofs.Common.{◌≡◌, ℕ, List, refl, ap, subst, sym, ◌∙
 use Rattle.qv_syntax.specs.declared.ty.Ty.{Ty}
 use Rattle.qv_syntax.specs.declared.type_tree.TypeTree.{TypeTree, fold-TypeTree}
 use Rattle.qv_syntax.specs.declared.type_tree.TypeTree.TheOpen as of
-use Rattle.ocl_types.specs.declared.fault.TypeError.{TypeError}
-use Rattle.ocl_types.specs.declared.fault.TypeFault.{TypeFault}
-use Rattle.ocl_types.specs.Environments.{Environment}
-use Rattle.ocl_types.specs.Outcomes.{and_then}
-use Rattle.ocl_types.specs.Scopes.{Reach, in_reach}
-use Rattle.ocl_types.specs.TypingScopes.{flat, declared_type, free_name, let_type}
+use Rattle.ocl_environments.specs.declared.fault.TypeError.{TypeError}
+use Rattle.ocl_environments.specs.declared.fault.TypeFault.{TypeFault}
+use Rattle.ocl_environments.specs.Environments.{Environment}
+use Rattle.ocl_environments.specs.Outcomes.{and_then}
+use Rattle.ocl_environments.specs.Scopes.{Reach, in_reach}
+use Rattle.ocl_types.specs.TypingScopes.{flat, declared_type, let_type}
+use Rattle.ocl_environments.specs.Lets.{free_name}
 use Rattle.mof_metamodel.specs.Giving.{Gives}
-use Rattle.ocl_types.specs.Written.{fault_in, written, written_step}
+use Rattle.ocl_environments.specs.Written.{fault_in, written, written_step}
 
 written_layer : (scope : Reach) (layer : of.TypeTree-F (Result Ty TypeFault)) → written_step scope.outer layer ≡ written_step (in_reach scope) layer
 written_layer scope (of.Str span) = refl

@@ -13,22 +13,22 @@ use Rattle.qv_syntax.specs.Types.{ConformsTo, IsTopOf, IsNoCollection, IsOneMode
 use Rattle.qv_syntax.specs.TypeRules.{Branches, Elements}
 use Rattle.qv_syntax.specs.TypedTrees as trees
 use Rattle.qv_syntax.specs.TypedTrees.{Typing}
-use Rattle.ocl_types.specs.declared.fault.TypeFault.{TypeFault}
-use Rattle.ocl_types.specs.declared.fault.TypeFault.TheVariants.{ModelMix}
-use Rattle.ocl_types.specs.declared.part.TypedPart.{TypedPart}
+use Rattle.ocl_environments.specs.declared.fault.TypeFault.{TypeFault}
+use Rattle.ocl_environments.specs.declared.fault.TypeFault.TheVariants.{ModelMix}
+use Rattle.ocl_environments.specs.declared.part.TypedPart.{TypedPart}
 use Rattle.ocl_types.specs.declared.collection_operations.Argument.{Argument}
 use Rattle.ocl_types.specs.declared.collection_operations.Argument.TheVariants as takes
-use Rattle.ocl_types.specs.Environments.{AreWell, is_over}
-use Rattle.ocl_types.specs.Outcomes.{RuleResult, and_then, asking, wrong_type}
-use Rattle.ocl_types.specs.Agreement.{same_kind, same_type, is_null, collection_parts, has_objects, agreed, upper, joined_models}
-use Rattle.ocl_types.specs.Parts.{types_of, with_models, one_model}
+use Rattle.ocl_environments.specs.Environments.{AreWell, is_over}
+use Rattle.ocl_environments.specs.Outcomes.{RuleResult, and_then, asking, wrong_type}
+use Rattle.ocl_environments.specs.Agreement.{same_kind, same_type, is_null, collection_parts, has_objects, agreed, upper, joined_models, branches}
+use Rattle.ocl_environments.specs.Parts.{types_of, with_models, one_model}
 use Rattle.ocl_types.specs.Signatures.{argument_count}
 use Rattle.ocl_types.specs.TypingScopes.{no_collection, element}
-use Rattle.ocl_types.specs.TypingOperators.{branches, literal_type}
+use Rattle.ocl_types.specs.TypingOperators.{literal_type}
 use Rattle.ocl_types.specs.TypingCollections.{given_elements, given_type, given_types}
 use Rattle.ocl_types.specs.TypeRules.{part_models, one_model_judged, branches_judged, DoNotAgree, IsNested, elements_judged, GivenConforms, IsMisgiven, given_judged}
 use Rattle.ocl_types.specs.TypedContext.{AreOver, typing_of}
-use Rattle.ocl_types.proofs.TypeLaws.{same_is_one, same_kinds, same_kind_itself}
+use Rattle.ocl_environments.proofs.TypeLaws.{same_is_one, same_kinds, same_kind_itself}
 use Rattle.ocl_types.proofs.JudgedLaws.{Decides, ok_ok, ok_err, err_err, then_ok, then_err, says_decides}
 use Rattle.ocl_types.proofs.LayerLaws.{is_collection, parts_of_collection, no_parts, null_is, objects_of_class, objects_of_null}
 use Rattle.ocl_types.proofs.ConformanceLaws.{first_in, later_in, agreed_top, upper_top}

@@ -17,7 +17,7 @@ use Rattle.qv_syntax.specs.TypeRules.{OperationGives, CollectionGives, WithEleme
 use Rattle.ocl_types.specs.declared.collection_operations.Argument.{Argument}
 use Rattle.ocl_types.specs.declared.collection_operations.Argument.TheVariants as takes
 use Rattle.ocl_types.specs.Operations.{operation_row, collection_row, iterator_row}
-use Rattle.ocl_types.specs.Agreement.{collection_parts}
+use Rattle.ocl_environments.specs.Agreement.{collection_parts}
 use Rattle.ocl_types.specs.TypingCollections.{element_by, element_of}
 use Rattle.ocl_types.specs.TypeRules.{GivenConforms}
 use Rattle.ocl_types.specs.OperationRows.{AreAll, RowGives, CollectionRowGives, IteratorRowGives}

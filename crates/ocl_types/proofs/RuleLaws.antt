@@ -16,31 +16,32 @@ use Rattle.qv_syntax.specs.declared.ty.Ty.{Ty}
 use Rattle.qv_syntax.specs.declared.ty.Ty.TheVariants as types
 use Rattle.qv_syntax.specs.declared.type_tree.Kind.{Kind}
 use Rattle.qv_syntax.specs.declared.type_tree.TypeTree.{TypeTree}
-use Rattle.ocl_types.specs.declared.fault.TypeFault.{TypeFault}
-use Rattle.ocl_types.specs.declared.fault.TypeFault.TheVariants.{UnknownName, DuplicateName, WrongCount, ModelMix}
-use Rattle.ocl_types.specs.declared.part.TypedPart.{TypedPart}
-use Rattle.ocl_types.specs.declared.part.CallsSoFar.{CallsSoFar}
-use Rattle.ocl_types.specs.declared.part.Chained.{Chained}
-use Rattle.ocl_types.specs.declared.variable.Signature.{Signature}
-use Rattle.ocl_types.specs.Environments.{Environment, AreWell, is_over, is_bound, number_of, value_of, only_model, class_of}
-use Rattle.ocl_types.specs.Naming.{names_of, joined_names, path_text, kind_text}
-use Rattle.ocl_types.specs.Classifiers.{named_literal, named_class}
+use Rattle.ocl_environments.specs.declared.fault.TypeFault.{TypeFault}
+use Rattle.ocl_environments.specs.declared.fault.TypeFault.TheVariants.{UnknownName, DuplicateName, WrongCount, ModelMix}
+use Rattle.ocl_environments.specs.declared.part.TypedPart.{TypedPart}
+use Rattle.ocl_environments.specs.declared.part.CallsSoFar.{CallsSoFar}
+use Rattle.ocl_environments.specs.declared.part.Chained.{Chained}
+use Rattle.ocl_environments.specs.declared.variable.Signature.{Signature}
+use Rattle.ocl_environments.specs.Environments.{Environment, AreWell, is_over, is_bound, number_of, value_of, only_model, class_of}
+use Rattle.ocl_environments.specs.Naming.{names_of, joined_names, path_text, kind_text}
+use Rattle.ocl_environments.specs.Classifiers.{named_literal, named_class}
 use Rattle.qv_syntax.specs.Types.{ConformsTo}
 use Rattle.qv_syntax.specs.TypeRules.{AreComparable, Operated}
 use Rattle.ocl_types.specs.Operations.{operation_row, collection_row, iterator_row, operation_named, class_operation_named, collection_operation_named, iterator_named}
 use Rattle.ocl_types.specs.Signatures.{is_receiver, parameter_count, parameter_type, argument_count, is_of_kind}
-use Rattle.ocl_types.specs.Outcomes.{RuleResult, and_then, asking, wrong_type}
-use Rattle.ocl_types.specs.Agreement.{collection_parts, same_type, joined_models, fits}
-use Rattle.ocl_types.specs.Parts.{types_of, with_models, one_model}
-use Rattle.ocl_types.specs.TypingScopes.{path_part, names_part, variable_by, literal_by, declared_type, let_type, let_variable}
+use Rattle.ocl_environments.specs.Outcomes.{RuleResult, and_then, asking, wrong_type}
+use Rattle.ocl_environments.specs.Agreement.{collection_parts, same_type, joined_models, fits, exactly, are_comparable, branches}
+use Rattle.ocl_environments.specs.Parts.{types_of, with_models, one_model}
+use Rattle.ocl_types.specs.TypingScopes.{path_part, names_part, variable_by, literal_by, declared_type, let_type}
+use Rattle.ocl_environments.specs.Lets.{let_variable}
 use Rattle.ocl_types.specs.TypingOperators as ops
-use Rattle.ocl_types.specs.TypingOperators.{exactly, are_comparable, operated, added, branches, literal_type, link_rule, not_rule, negated_rule, if_rule, literal_rule}
+use Rattle.ocl_types.specs.TypingOperators.{operated, added, literal_type, link_rule, not_rule, negated_rule, if_rule, literal_rule}
 use Rattle.ocl_types.specs.TypingSteps.{property_of, navigated_to, collected_from, property_by, property_rule, each_exactly, operation_by, operation_rule, class_or, is_of_meta, class_operation_by, class_operation_rule, tested_with, model_or, extent_part, extent_rule, each_fits, query_by, query_rule}
 use Rattle.ocl_types.specs.TypingCollections.{kind_of, element_of, given_types, summed, collection_operation_by, collection_operation_rule, variable_type, iterator_variable, condition, iterator_by, iterator_rule}
 use Rattle.ocl_types.specs.Judged.{Judged, gives, both}
 use Rattle.ocl_types.specs.TypeRules
 use Rattle.ocl_types.specs.TypeRules.{IsMisadded, compared_judged, HasPropertyNamed, part_models, one_model_judged, branches_judged, elements_judged, declared_judged, given_judged, being, conforming, variable_judged, literal_judged, names_judged, sides, added_judged, operator_judged, linked_judged, not_judged, negated_judged, if_judged, collection_judged, let_judged, bound_judged, arguments_judged, query_judged, extent_judged, property_judged_by, property_judged, exact_judged, operation_judged, class_operation_judged, summed_judged, collection_operation_judged, variable_type_judged, iterator_variable_judged, condition_judged, iterator_judged}
-use Rattle.ocl_types.proofs.TypeLaws.{same_is_one}
+use Rattle.ocl_environments.proofs.TypeLaws.{same_is_one}
 use Rattle.ocl_types.proofs.ConformanceLaws.{first_in, later_in}
 use Rattle.ocl_types.proofs.NumberLaws.{property_is, property_where}
 use Rattle.ocl_types.proofs.NameLaws.{named_decides}

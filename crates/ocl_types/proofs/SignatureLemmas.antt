@@ -8,13 +8,14 @@ use Rattle.qv_syntax.specs.declared.type_tree.TypeTree.TheOpen as of
 use Rattle.qv_syntax.specs.declared.query.Query.{Query}
 use Rattle.qv_syntax.specs.declared.query.QueryTree.{QueryTree}
 use Rattle.qv_syntax.specs.declared.query.ParamTree.{ParamTree}
-use Rattle.ocl_types.specs.declared.fault.TypeFault.{TypeFault}
-use Rattle.ocl_types.specs.declared.variable.Signature.{Signature}
-use Rattle.ocl_types.specs.Environments.{Environment, without_queries, without_variables, with_query}
-use Rattle.ocl_types.specs.Written.{written_step}
-use Rattle.ocl_types.specs.Agreement.{fits}
-use Rattle.ocl_types.specs.Outcomes.{RuleResult, and_then, asking, wrong_type}
-use Rattle.ocl_types.specs.TypingScopes.{declared_type, flat, free_name, let_type}
+use Rattle.ocl_environments.specs.declared.fault.TypeFault.{TypeFault}
+use Rattle.ocl_environments.specs.declared.variable.Signature.{Signature}
+use Rattle.ocl_environments.specs.Environments.{Environment, without_queries, without_variables, with_query}
+use Rattle.ocl_environments.specs.Written.{written_step}
+use Rattle.ocl_environments.specs.Agreement.{fits}
+use Rattle.ocl_environments.specs.Outcomes.{RuleResult, and_then, asking, wrong_type}
+use Rattle.ocl_types.specs.TypingScopes.{declared_type, flat, let_type}
+use Rattle.ocl_environments.specs.Lets.{free_name}
 use Rattle.ocl_types.specs.Typing.{typed}
 use Rattle.ocl_types.specs.QueryTyping.{params_from, signature_of, query_bound, queries_bound, body_typed, query_typed, queries_from, queries_typed, with_param, signed}
 use Rattle.ocl_types.proofs.JudgedLaws.{ok_ok, ok_err}

@@ -13,13 +13,13 @@ use Rattle.qv_syntax.specs.declared.ty.Ty.{Ty, roll-Ty, fold-roll-Ty}
 use Rattle.qv_syntax.specs.declared.ty.Ty.TheOpen as of
 use Rattle.qv_syntax.specs.declared.ty.Ty.TheVariants as types
 use Rattle.qv_syntax.specs.Types.{ConformsTo, IsTopOf}
-use Rattle.ocl_types.specs.declared.fault.TypeFault.{TypeFault}
-use Rattle.ocl_types.specs.Environments.{no_meta, meta_at, class_of, AreWell, is_over, is_over_step}
-use Rattle.ocl_types.specs.Conformance.{ConformsBy, TypeConforms}
-use Rattle.ocl_types.specs.Outcomes.{wrong_type}
-use Rattle.ocl_types.specs.Agreement.{fits, higher, all_fit, agreed, upper, IsTop}
+use Rattle.ocl_environments.specs.declared.fault.TypeFault.{TypeFault}
+use Rattle.ocl_environments.specs.Environments.{no_meta, meta_at, class_of, AreWell, is_over, is_over_step}
+use Rattle.ocl_environments.specs.Conformance.{ConformsBy, TypeConforms}
+use Rattle.ocl_environments.specs.Outcomes.{wrong_type}
+use Rattle.ocl_environments.specs.Agreement.{fits, higher, all_fit, agreed, upper, IsTop}
 use Rattle.ocl_types.specs.TypeRules.{top_judged, DoNotAgree}
-use Rattle.ocl_types.proofs.TypeLaws.{both_true}
+use Rattle.ocl_environments.proofs.TypeLaws.{both_true}
 use Rattle.ocl_types.proofs.UpperLaws.{fits_exactly, agreed_complete, among_scanned}
 use Rattle.ocl_types.proofs.JudgedLaws.{Decides, ok_err, err_err, says_decides}
 use Rattle.ocl_types.proofs.LayerLaws.{by_layer, is_class, class_of_class}

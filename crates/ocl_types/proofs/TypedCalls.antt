@@ -25,15 +25,15 @@ use Rattle.mof_metamodel.specs.declared.desc.PropId.{PropId}
 use Rattle.qv_syntax.specs.TypeRules.{HasProperty, OperationGives, CollectionGives}
 use Rattle.qv_syntax.specs.TypedTrees as trees
 use Rattle.qv_syntax.specs.TypedTrees.{Typing, objects_of, IsElementVariable, given_model, IsTyped, AreTyped, AreCalled, IsCalled}
-use Rattle.ocl_types.specs.declared.part.TypedPart.{TypedPart}
-use Rattle.ocl_types.specs.declared.part.CallsSoFar.{CallsSoFar}
-use Rattle.ocl_types.specs.declared.variable.Variable.{Variable}
-use Rattle.ocl_types.specs.Environments.{Environment, is_over, with_variable}
-use Rattle.ocl_types.specs.Naming.{names_of}
-use Rattle.ocl_types.specs.Classifiers.{named_class}
-use Rattle.ocl_types.specs.Navigation.{navigated}
-use Rattle.ocl_types.specs.Agreement.{collection_parts, has_objects, model_for}
-use Rattle.ocl_types.specs.Parts.{tree_of, trees_of, types_of, and_called, uncalled}
+use Rattle.ocl_environments.specs.declared.part.TypedPart.{TypedPart}
+use Rattle.ocl_environments.specs.declared.part.CallsSoFar.{CallsSoFar}
+use Rattle.ocl_environments.specs.declared.variable.Variable.{Variable}
+use Rattle.ocl_environments.specs.Environments.{Environment, is_over, with_variable}
+use Rattle.ocl_environments.specs.Naming.{names_of}
+use Rattle.ocl_environments.specs.Classifiers.{named_class}
+use Rattle.ocl_environments.specs.Navigation.{navigated}
+use Rattle.ocl_environments.specs.Agreement.{collection_parts, has_objects, model_for}
+use Rattle.ocl_environments.specs.Parts.{tree_of, trees_of, types_of, and_called, uncalled}
 use Rattle.ocl_types.specs.Judged.{Judged}
 use Rattle.ocl_types.specs.Operations.{operation_row, class_row, collection_row, iterator_row, operation_named, class_operation_named, collection_operation_named, iterator_named}
 use Rattle.ocl_types.specs.Signatures.{result_type, collection_result, collected_kind}

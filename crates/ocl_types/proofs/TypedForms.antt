@@ -17,15 +17,15 @@ use Rattle.qv_syntax.specs.Types.{AllConform, IsOneModel, IsTopOf}
 use Rattle.qv_syntax.specs.TypeRules.{Operated, Branches, Elements}
 use Rattle.qv_syntax.specs.TypedTrees as trees
 use Rattle.qv_syntax.specs.TypedTrees.{Typing, IsTyped, AreTyped, IsChained}
-use Rattle.ocl_types.specs.declared.part.TypedPart.{TypedPart}
-use Rattle.ocl_types.specs.declared.part.Chained.{Chained}
-use Rattle.ocl_types.specs.declared.variable.Variable.{Variable}
-use Rattle.ocl_types.specs.declared.variable.Signature.{Signature}
-use Rattle.ocl_types.specs.Environments.{is_over, Environment, with_variable, only_model}
-use Rattle.ocl_types.specs.Naming.{names_of}
-use Rattle.ocl_types.specs.Classifiers.{named_class}
-use Rattle.ocl_types.specs.Agreement.{has_objects, model_for}
-use Rattle.ocl_types.specs.Parts.{tree_of, trees_of, types_of}
+use Rattle.ocl_environments.specs.declared.part.TypedPart.{TypedPart}
+use Rattle.ocl_environments.specs.declared.part.Chained.{Chained}
+use Rattle.ocl_environments.specs.declared.variable.Variable.{Variable}
+use Rattle.ocl_environments.specs.declared.variable.Signature.{Signature}
+use Rattle.ocl_environments.specs.Environments.{is_over, Environment, with_variable, only_model}
+use Rattle.ocl_environments.specs.Naming.{names_of}
+use Rattle.ocl_environments.specs.Classifiers.{named_class}
+use Rattle.ocl_environments.specs.Agreement.{has_objects, model_for}
+use Rattle.ocl_environments.specs.Parts.{tree_of, trees_of, types_of}
 use Rattle.ocl_types.specs.Judged.{Judged}
 use Rattle.ocl_types.specs.TypingScopes.{let_part}
 use Rattle.ocl_types.specs.TypingOperators.{unchained, chain_part}

@@ -15,21 +15,21 @@ use Rattle.qv_syntax.specs.declared.typed.TypedInfix.{TypedInfix}
 use Rattle.qv_syntax.specs.declared.typed.TypedPostfix.{TypedPostfix}
 use Rattle.qv_syntax.specs.TypedTrees as trees
 use Rattle.qv_syntax.specs.TypedTrees.{QueryType, Context, Typing, Variables, objects_of, IsElementVariable, given_model, IsTyped, AreTyped, IsChained, AreCalled, IsCalled}
-use Rattle.ocl_types.specs.declared.fault.TypeFault.{TypeFault}
-use Rattle.ocl_types.specs.declared.part.TypedPart.{TypedPart}
-use Rattle.ocl_types.specs.declared.part.CallsSoFar.{CallsSoFar}
-use Rattle.ocl_types.specs.declared.part.Chained.{Chained}
-use Rattle.ocl_types.specs.declared.variable.Variable.{Variable}
-use Rattle.ocl_types.specs.declared.variable.Signature.{Signature}
-use Rattle.ocl_types.specs.Environments.{Environment, AreWell, IsInOrder, is_over, is_flat, are_types, is_query, class_of, is_type, slot_at, is_object_type, is_variable, with_variable}
-use Rattle.ocl_types.specs.Classifiers.{named_literal}
-use Rattle.ocl_types.specs.Outcomes.{RuleResult}
-use Rattle.ocl_types.specs.Agreement.{has_objects, model_for}
-use Rattle.ocl_types.specs.Parts.{tree_of, trees_of}
+use Rattle.ocl_environments.specs.declared.fault.TypeFault.{TypeFault}
+use Rattle.ocl_environments.specs.declared.part.TypedPart.{TypedPart}
+use Rattle.ocl_environments.specs.declared.part.CallsSoFar.{CallsSoFar}
+use Rattle.ocl_environments.specs.declared.part.Chained.{Chained}
+use Rattle.ocl_environments.specs.declared.variable.Variable.{Variable}
+use Rattle.ocl_environments.specs.declared.variable.Signature.{Signature}
+use Rattle.ocl_environments.specs.Environments.{Environment, AreWell, IsInOrder, is_over, is_flat, are_types, is_query, class_of, is_type, slot_at, is_object_type, is_variable, with_variable}
+use Rattle.ocl_environments.specs.Classifiers.{named_literal}
+use Rattle.ocl_environments.specs.Outcomes.{RuleResult}
+use Rattle.ocl_environments.specs.Agreement.{has_objects, model_for}
+use Rattle.ocl_environments.specs.Parts.{tree_of, trees_of}
 use Rattle.ocl_types.specs.Judged.{Judged, finds}
 use Rattle.ocl_types.specs.TypeRules.{names_judged, variable_judged, literal_judged}
 use Rattle.ocl_types.specs.TypedContext.{query_type, context_of, variable_typing, variables_of, typing_of}
-use Rattle.ocl_types.proofs.TypeLaws.{both_true}
+use Rattle.ocl_environments.proofs.TypeLaws.{both_true}
 use Rattle.ocl_types.proofs.JudgedLaws.{ok_ok}
 use Rattle.ocl_types.proofs.RangeLaws.{AllOver, over_with, typed_over}
 use Rattle.ocl_types.proofs.LayerLaws.{is_class, objects_of_class, none_kept}

@@ -9,12 +9,12 @@ use Rattle.qv_syntax.specs.declared.expr.Postfix.{Postfix, roll-Postfix, map-Pos
 use Rattle.qv_syntax.specs.declared.expr.Args.{Args, roll-Args, map-Args, ind-Args}
 use Rattle.qv_syntax.specs.declared.expr.Args.TheOpen as of
 use Rattle.qv_syntax.specs.TypedTrees.{Typing}
-use Rattle.ocl_types.specs.declared.part.TypedPart.{TypedPart}
-use Rattle.ocl_types.specs.declared.part.CallsSoFar.{CallsSoFar}
-use Rattle.ocl_types.specs.declared.part.Chained.{Chained}
-use Rattle.ocl_types.specs.Environments.{Environment, IsInOrder, is_over}
-use Rattle.ocl_types.specs.Naming.{texts_of}
-use Rattle.ocl_types.specs.Parts.{uncalled}
+use Rattle.ocl_environments.specs.declared.part.TypedPart.{TypedPart}
+use Rattle.ocl_environments.specs.declared.part.CallsSoFar.{CallsSoFar}
+use Rattle.ocl_environments.specs.declared.part.Chained.{Chained}
+use Rattle.ocl_environments.specs.Environments.{Environment, IsInOrder, is_over}
+use Rattle.ocl_environments.specs.Naming.{texts_of}
+use Rattle.ocl_environments.specs.Parts.{uncalled}
 use Rattle.ocl_types.specs.TypingOperators.{unchained}
 use Rattle.ocl_types.specs.Typing.{path_of_extent}
 use Rattle.ocl_types.specs.Judged.{Judged, gives, taking, both}

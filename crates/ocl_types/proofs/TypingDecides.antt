@@ -9,18 +9,19 @@ use Rattle.qv_syntax.specs.declared.expr.Infix.{Infix, roll-Infix, map-Infix, fo
 use Rattle.qv_syntax.specs.declared.expr.Postfix.{Postfix, roll-Postfix, map-Postfix, fold-roll-Postfix}
 use Rattle.qv_syntax.specs.declared.expr.Args.{Args, roll-Args, map-Args, fold-roll-Args}
 use Rattle.qv_syntax.specs.declared.expr.Args.TheOpen as of
-use Rattle.ocl_types.specs.declared.fault.TypeFault.{TypeFault}
-use Rattle.ocl_types.specs.declared.fault.TypeFault.TheVariants.{UnknownName}
+use Rattle.ocl_environments.specs.declared.fault.TypeFault.{TypeFault}
+use Rattle.ocl_environments.specs.declared.fault.TypeFault.TheVariants.{UnknownName}
 use Rattle.qv_syntax.specs.declared.typed.Typed.{Typed}
-use Rattle.ocl_types.specs.declared.part.TypedPart.{TypedPart}
-use Rattle.ocl_types.specs.declared.part.CallsSoFar.{CallsSoFar}
-use Rattle.ocl_types.specs.declared.part.Chained.{Chained}
-use Rattle.ocl_types.specs.declared.variable.Variable.{Variable}
+use Rattle.ocl_environments.specs.declared.part.TypedPart.{TypedPart}
+use Rattle.ocl_environments.specs.declared.part.CallsSoFar.{CallsSoFar}
+use Rattle.ocl_environments.specs.declared.part.Chained.{Chained}
+use Rattle.ocl_environments.specs.declared.variable.Variable.{Variable}
 use Rattle.qv_syntax.specs.TypedTrees as trees
-use Rattle.ocl_types.specs.Environments.{Environment, IsInOrder, with_variable}
-use Rattle.ocl_types.specs.Outcomes.{RuleResult, and_then}
-use Rattle.ocl_types.specs.Parts.{tree_of, uncalled}
-use Rattle.ocl_types.specs.TypingScopes.{let_type, let_variable, let_part}
+use Rattle.ocl_environments.specs.Environments.{Environment, IsInOrder, with_variable}
+use Rattle.ocl_environments.specs.Outcomes.{RuleResult, and_then}
+use Rattle.ocl_environments.specs.Parts.{tree_of, uncalled}
+use Rattle.ocl_types.specs.TypingScopes.{let_type, let_part}
+use Rattle.ocl_environments.specs.Lets.{let_variable}
 use Rattle.ocl_types.specs.TypingOperators.{unchained, chain_part, link_rule, literal_rule, if_rule, not_rule, negated_rule}
 use Rattle.ocl_types.specs.TypingSteps.{query_rule, operation_rule, extent_rule}
 use Rattle.ocl_types.specs.TypingCollections.{collection_operation_rule, iterator_variable, iterator_rule}

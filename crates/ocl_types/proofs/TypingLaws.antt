@@ -13,20 +13,21 @@ use Rattle.qv_syntax.specs.declared.expr.Postfix.{Postfix}
 use Rattle.qv_syntax.specs.declared.expr.Args.{Args}
 use Rattle.qv_syntax.specs.declared.expr.Args.TheOpen as of
 use Rattle.qv_syntax.specs.declared.expr.Args.TheViews.{sized-Chain}
-use Rattle.ocl_types.specs.declared.fault.TypeFault.{TypeFault}
-use Rattle.ocl_types.specs.declared.fault.TypeError.{TypeError}
-use Rattle.ocl_types.specs.declared.part.TypedPart.{TypedPart}
-use Rattle.ocl_types.specs.declared.variable.Variable.{Variable}
-use Rattle.ocl_types.specs.Environments.{Environment, with_variable}
-use Rattle.ocl_types.specs.Outcomes.{RuleResult, and_then}
-use Rattle.ocl_types.specs.Scopes.{Reach, in_reach, entered}
-use Rattle.ocl_types.specs.TypingScopes.{let_type, let_variable, let_part}
+use Rattle.ocl_environments.specs.declared.fault.TypeFault.{TypeFault}
+use Rattle.ocl_environments.specs.declared.fault.TypeError.{TypeError}
+use Rattle.ocl_environments.specs.declared.part.TypedPart.{TypedPart}
+use Rattle.ocl_environments.specs.declared.variable.Variable.{Variable}
+use Rattle.ocl_environments.specs.Environments.{Environment, with_variable}
+use Rattle.ocl_environments.specs.Outcomes.{RuleResult, and_then}
+use Rattle.ocl_environments.specs.Scopes.{Reach, in_reach, entered}
+use Rattle.ocl_types.specs.TypingScopes.{let_type, let_part}
+use Rattle.ocl_environments.specs.Lets.{let_variable}
 use Rattle.ocl_types.specs.TypingOperators.{not_rule, negated_rule, if_rule}
 use Rattle.ocl_types.specs.Typing.{Meaning, Calling, Operated, Given, meaning, operated_by, calling}
 use Rattle.ocl_types.specs.Typing.{given, args_step, expr_step, step_step, link_step, let_typing, if_typing}
 use Rattle.mof_metamodel.specs.Giving.{Gives}
-use Rattle.ocl_types.specs.Written.{fault_in}
-use Rattle.ocl_types.proofs.ScopeLaws.{entered_reach}
+use Rattle.ocl_environments.specs.Written.{fault_in}
+use Rattle.ocl_environments.proofs.ScopeLaws.{entered_reach}
 
 -- what an expression is, within a scope
 abbrev pub at : Expr → Reach → RuleResult TypedPart

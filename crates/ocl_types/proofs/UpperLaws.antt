@@ -12,11 +12,11 @@ use Rattle.mof_metamodel.specs.Metamodels.{class_count, lineage_of, IsPath}
 use Rattle.mof_metamodel.specs.MetaFaults.{WellMeta}
 use Rattle.mof_metamodel.proofs.LineageLemmas.{Has, conforms_exactly, grounded_from_acyclic}
 use Rattle.qv_syntax.specs.declared.ty.Ty.{Ty}
-use Rattle.ocl_types.specs.Environments.{no_meta, meta_at, class_of, AreWell}
-use Rattle.ocl_types.specs.Outcomes.{wrong_type}
-use Rattle.ocl_types.specs.Agreement.{class_fits, fits_by, fits, higher, all_fit, agreed, IsTop}
-use Rattle.ocl_types.proofs.TypeLaws.{same_types, same_is_one, both_true, and_true}
-use Rattle.ocl_types.specs.Conformance.{ClassConforms, ConformsBy, TypeConforms}
+use Rattle.ocl_environments.specs.Environments.{no_meta, meta_at, class_of, AreWell}
+use Rattle.ocl_environments.specs.Outcomes.{wrong_type}
+use Rattle.ocl_environments.specs.Agreement.{class_fits, fits_by, fits, higher, all_fit, agreed, IsTop}
+use Rattle.ocl_environments.proofs.TypeLaws.{same_types, same_is_one, both_true, and_true}
+use Rattle.ocl_environments.specs.Conformance.{ClassConforms, ConformsBy, TypeConforms}
 
 three_true : (a b c : Bool) → (a && b && c) ≡ true → (a ≡ true) × (b ≡ true) × (c ≡ true)
 three_true true true c is = (refl, refl, is)

@@ -8,15 +8,15 @@ use Rattle.qv_syntax.specs.declared.type_tree.TypeTree.TheOpen as of
 use Rattle.qv_syntax.specs.declared.ty.Ty.{Ty}
 use Rattle.qv_syntax.specs.declared.ty.Ty.TheVariants as types
 use Rattle.qv_syntax.specs.Types.{IsSingleType, IsWrittenType, IsNoCollection}
-use Rattle.ocl_types.specs.declared.fault.TypeFault.{TypeFault}
-use Rattle.ocl_types.specs.Environments.{Environment}
-use Rattle.ocl_types.specs.Naming.{names_of}
-use Rattle.ocl_types.specs.Classifiers.{named_type}
+use Rattle.ocl_environments.specs.declared.fault.TypeFault.{TypeFault}
+use Rattle.ocl_environments.specs.Environments.{Environment}
+use Rattle.ocl_environments.specs.Naming.{names_of}
+use Rattle.ocl_environments.specs.Classifiers.{named_type}
 use Rattle.ocl_types.specs.Judged.{tells}
 use Rattle.ocl_types.specs.TypeRules.{IsNested, flat_judged, declared_judged}
-use Rattle.ocl_types.specs.Outcomes.{RuleResult, and_then, wrong_type}
-use Rattle.ocl_types.specs.Agreement.{collection_parts}
-use Rattle.ocl_types.specs.Written.{found_type, collection_of, written_step, written}
+use Rattle.ocl_environments.specs.Outcomes.{RuleResult, and_then, wrong_type}
+use Rattle.ocl_environments.specs.Agreement.{collection_parts}
+use Rattle.ocl_environments.specs.Written.{found_type, collection_of, written_step, written}
 use Rattle.ocl_types.specs.TypingScopes.{no_collection, element, flat_by, flat, declared_type}
 use Rattle.ocl_types.proofs.JudgedLaws.{Decides, ok_ok, ok_err, err_err, then_ok, says_decides, taking_decides, tells_decides}
 use Rattle.ocl_types.proofs.LayerLaws.{is_collection, no_collection_is, parts_of_collection}

@@ -11,17 +11,17 @@ use Rattle.qv_syntax.specs.declared.expr.Args.{Args, rec-Args}
 use Rattle.qv_syntax.specs.declared.expr.Args.TheOpen as of
 use Rattle.qv_syntax.specs.declared.typed.Typed.{Typed}
 use Rattle.qv_syntax.specs.declared.typed.Node.TheVariants as nodes
-use Rattle.ocl_types.specs.declared.fault.TypeFault.{TypeFault}
-use Rattle.ocl_types.specs.declared.fault.TypeFault.TheVariants.{UnknownName}
-use Rattle.ocl_types.specs.declared.part.TypedPart.{TypedPart}
-use Rattle.ocl_types.specs.declared.part.CallsSoFar.{CallsSoFar}
-use Rattle.ocl_types.specs.declared.part.Chained.{Chained}
-use Rattle.ocl_types.specs.Environments.{Environment, with_variable}
-use Rattle.ocl_types.specs.Parts.{tree_of, plain_part, uncalled}
+use Rattle.ocl_environments.specs.declared.fault.TypeFault.{TypeFault}
+use Rattle.ocl_environments.specs.declared.fault.TypeFault.TheVariants.{UnknownName}
+use Rattle.ocl_environments.specs.declared.part.TypedPart.{TypedPart}
+use Rattle.ocl_environments.specs.declared.part.CallsSoFar.{CallsSoFar}
+use Rattle.ocl_environments.specs.declared.part.Chained.{Chained}
+use Rattle.ocl_environments.specs.Environments.{Environment, with_variable}
+use Rattle.ocl_environments.specs.Parts.{tree_of, plain_part, uncalled}
 use Rattle.ocl_types.specs.TypingScopes.{let_part}
 use Rattle.ocl_types.specs.TypingOperators.{unchained, chain_part}
 use Rattle.ocl_types.specs.Typing.{short_path, path_of_extent, is_all_instances, called_whole}
-use Rattle.ocl_types.specs.Naming.{texts_of}
+use Rattle.ocl_environments.specs.Naming.{texts_of}
 use Rattle.ocl_types.specs.Judged.{Judged, gives, refuses, taking, both}
 use Rattle.ocl_types.specs.TypeRules.{names_judged, linked_judged, not_judged, negated_judged, if_judged, collection_judged, let_judged, bound_judged, query_judged, extent_judged, property_judged, operation_judged, class_operation_judged, collection_operation_judged, iterator_variable_judged, iterator_judged}
 

@@ -1,8 +1,8 @@
 -- How rules of typing are said: what a rule asks of its parts, each demand with the fault that stands where it isn't met, and what
 -- the rule gives. Demands and parts have no order: each that isn't met has its fault, whatever the others are.
 use Rattle.std.specs.Prelude.{◌≡◌, Option, None, Some, ◌⊎◌, Ok, Err}
-use Rattle.ocl_types.specs.declared.fault.TypeFault.{TypeFault}
-use Rattle.ocl_types.specs.Outcomes.{RuleResult}
+use Rattle.ocl_environments.specs.declared.fault.TypeFault.{TypeFault}
+use Rattle.ocl_environments.specs.Outcomes.{RuleResult}
 
 -- what something may be, and which faults stand in it
 pub record Judged (X : Type 0) : Type 1 where

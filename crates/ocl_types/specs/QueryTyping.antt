@@ -4,15 +4,15 @@ use Rattle.qv_syntax.specs.declared.ty.Ty.{Ty}
 use Rattle.qv_syntax.specs.declared.query.Query.{Query}
 use Rattle.qv_syntax.specs.declared.query.QueryTree.{QueryTree}
 use Rattle.qv_syntax.specs.declared.query.ParamTree.{ParamTree}
-use Rattle.ocl_types.specs.declared.fault.TypeFault.{TypeFault}
-use Rattle.ocl_types.specs.declared.fault.TypeFault.TheVariants.{DuplicateName}
-use Rattle.ocl_types.specs.declared.variable.Signature.{Signature}
-use Rattle.ocl_types.specs.Environments.{Environment, is_query_bound, with_variable, with_query, without_variables}
-use Rattle.ocl_types.specs.Outcomes.{RuleResult, and_then, asking, wrong_type}
-use Rattle.ocl_types.specs.Agreement.{fits}
+use Rattle.ocl_environments.specs.declared.fault.TypeFault.{TypeFault}
+use Rattle.ocl_environments.specs.declared.fault.TypeFault.TheVariants.{DuplicateName}
+use Rattle.ocl_environments.specs.declared.variable.Signature.{Signature}
+use Rattle.ocl_environments.specs.Environments.{Environment, is_query_bound, with_variable, with_query, without_variables}
+use Rattle.ocl_environments.specs.Outcomes.{RuleResult, and_then, asking, wrong_type}
+use Rattle.ocl_environments.specs.Agreement.{fits}
 use Rattle.ocl_types.specs.TypingScopes.{let_type, declared_type}
 use Rattle.ocl_types.specs.Typing.{typed}
-use Rattle.ocl_types.specs.QueryCalls.{IsCycleFault}
+use Rattle.ocl_environments.specs.QueryCalls.{IsCycleFault}
 
 -- a parameter more, which has no model
 abbrev pub with_param : Environment → List ℕ → Ty → Environment

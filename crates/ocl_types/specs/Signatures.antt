@@ -16,7 +16,7 @@ use Rattle.ocl_types.specs.declared.collection_operations.Argument.{Argument}
 use Rattle.ocl_types.specs.declared.collection_operations.Argument.TheVariants as arguments
 use Rattle.ocl_types.specs.declared.collection_operations.CollectionResult.{CollectionResult}
 use Rattle.ocl_types.specs.declared.collection_operations.CollectionResult.TheVariants as comes
-use Rattle.ocl_types.specs.Agreement.{same_type}
+use Rattle.ocl_environments.specs.Agreement.{same_type}
 
 -- ---- operations on single values
 

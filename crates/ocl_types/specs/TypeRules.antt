@@ -26,22 +26,22 @@ use Rattle.ocl_types.specs.declared.collection_operations.Kinds.{Kinds}
 use Rattle.ocl_types.specs.declared.collection_operations.Kinds.TheVariants as behind
 use Rattle.ocl_types.specs.declared.operations.Receivers.{Receivers}
 use Rattle.ocl_types.specs.declared.operations.Receivers.TheVariants as receivers
-use Rattle.ocl_types.specs.declared.fault.TypeFault.{TypeFault}
-use Rattle.ocl_types.specs.declared.fault.TypeFault.TheVariants.{UnknownName, DuplicateName, WrongCount, ModelMix}
-use Rattle.ocl_types.specs.declared.part.TypedPart.{TypedPart}
-use Rattle.ocl_types.specs.declared.part.CallsSoFar.{CallsSoFar}
-use Rattle.ocl_types.specs.declared.part.Chained.{Chained}
-use Rattle.ocl_types.specs.declared.variable.Variable.{Variable}
-use Rattle.ocl_types.specs.Environments.{Environment, NamesWith, is_bound, only_model}
-use Rattle.ocl_types.specs.Naming.{names_of, joined_names, path_text, kind_text}
-use Rattle.ocl_types.specs.Classifiers.{named_literal, named_class}
-use Rattle.ocl_types.specs.Navigation.{navigated}
+use Rattle.ocl_environments.specs.declared.fault.TypeFault.{TypeFault}
+use Rattle.ocl_environments.specs.declared.fault.TypeFault.TheVariants.{UnknownName, DuplicateName, WrongCount, ModelMix}
+use Rattle.ocl_environments.specs.declared.part.TypedPart.{TypedPart}
+use Rattle.ocl_environments.specs.declared.part.CallsSoFar.{CallsSoFar}
+use Rattle.ocl_environments.specs.declared.part.Chained.{Chained}
+use Rattle.ocl_environments.specs.declared.variable.Variable.{Variable}
+use Rattle.ocl_environments.specs.Environments.{Environment, NamesWith, is_bound, only_model}
+use Rattle.ocl_environments.specs.Naming.{names_of, joined_names, path_text, kind_text}
+use Rattle.ocl_environments.specs.Classifiers.{named_literal, named_class}
+use Rattle.ocl_environments.specs.Navigation.{navigated}
 use Rattle.ocl_types.specs.Operations.{operation_row, class_row, collection_row, iterator_row, operation_named, class_operation_named, collection_operation_named, iterator_named}
 use Rattle.ocl_types.specs.Signatures.{parameter_count, parameter_type, result_type, argument_count, collected_kind}
-use Rattle.ocl_types.specs.Outcomes.{wrong_type}
-use Rattle.ocl_types.specs.Agreement.{collection_parts, model_for}
-use Rattle.ocl_types.specs.Parts.{tree_of, trees_of, types_of, plain_part, and_called}
-use Rattle.ocl_types.specs.Written.{written}
+use Rattle.ocl_environments.specs.Outcomes.{wrong_type}
+use Rattle.ocl_environments.specs.Agreement.{collection_parts, model_for}
+use Rattle.ocl_environments.specs.Parts.{tree_of, trees_of, types_of, plain_part, and_called}
+use Rattle.ocl_environments.specs.Written.{written}
 use Rattle.ocl_types.specs.TypingOperators.{and_linked}
 use Rattle.ocl_types.specs.TypingSteps.{called_with, tested, extent_part, query_part}
 use Rattle.ocl_types.specs.TypingCollections.{kind_of, element_of, operated_on, iterated}

@@ -7,11 +7,11 @@ use Rattle.qv_syntax.specs.declared.expr.Expr.{Expr}
 use Rattle.qv_syntax.specs.declared.query.Query.{Query}
 use Rattle.qv_syntax.specs.Types.{IsWrittenType, ConformsTo}
 use Rattle.qv_syntax.specs.TypedTrees.{QueryType, Context, Typing, Variables, without_model, IsTyped}
-use Rattle.ocl_types.specs.declared.part.TypedPart.{TypedPart}
-use Rattle.ocl_types.specs.declared.variable.Variable.{Variable}
-use Rattle.ocl_types.specs.declared.variable.Signature.{Signature}
-use Rattle.ocl_types.specs.Environments.{Environment, is_over}
-use Rattle.ocl_types.specs.Parts.{tree_of}
+use Rattle.ocl_environments.specs.declared.part.TypedPart.{TypedPart}
+use Rattle.ocl_environments.specs.declared.variable.Variable.{Variable}
+use Rattle.ocl_environments.specs.declared.variable.Signature.{Signature}
+use Rattle.ocl_environments.specs.Environments.{Environment, is_over}
+use Rattle.ocl_environments.specs.Parts.{tree_of}
 use Rattle.ocl_types.specs.HasType.{HasType}
 
 abbrev pub query_type : List ℕ × Signature → QueryType

@@ -14,14 +14,15 @@ use Rattle.qv_syntax.specs.declared.expr.Args.{Args, fold-Args}
 use Rattle.qv_syntax.specs.declared.expr.Args.TheOpen as of
 use Rattle.qv_syntax.specs.declared.typed.Typed.{Typed}
 use Rattle.qv_syntax.specs.declared.typed.Node.TheVariants as nodes
-use Rattle.ocl_types.specs.declared.fault.TypeFault.TheVariants.{UnknownName}
-use Rattle.ocl_types.specs.declared.part.TypedPart.{TypedPart}
-use Rattle.ocl_types.specs.declared.part.CallsSoFar.{CallsSoFar}
-use Rattle.ocl_types.specs.declared.part.Chained.{Chained}
-use Rattle.ocl_types.specs.Environments.{Environment, with_variable}
-use Rattle.ocl_types.specs.Outcomes.{RuleResult, and_then}
-use Rattle.ocl_types.specs.Parts.{tree_of, plain_part, uncalled}
-use Rattle.ocl_types.specs.TypingScopes.{path_part, let_type, let_variable, let_part}
+use Rattle.ocl_environments.specs.declared.fault.TypeFault.TheVariants.{UnknownName}
+use Rattle.ocl_environments.specs.declared.part.TypedPart.{TypedPart}
+use Rattle.ocl_environments.specs.declared.part.CallsSoFar.{CallsSoFar}
+use Rattle.ocl_environments.specs.declared.part.Chained.{Chained}
+use Rattle.ocl_environments.specs.Environments.{Environment, with_variable}
+use Rattle.ocl_environments.specs.Outcomes.{RuleResult, and_then}
+use Rattle.ocl_environments.specs.Parts.{tree_of, plain_part, uncalled}
+use Rattle.ocl_types.specs.TypingScopes.{path_part, let_type, let_part}
+use Rattle.ocl_environments.specs.Lets.{let_variable}
 use Rattle.ocl_types.specs.TypingOperators.{unchained, link_rule, chain_part, not_rule, negated_rule, if_rule, literal_rule}
 use Rattle.ocl_types.specs.TypingSteps.{property_rule, operation_rule, class_operation_rule, extent_rule, query_rule}
 use Rattle.ocl_types.specs.TypingCollections.{collection_operation_rule, iterator_variable, iterator_rule}

@@ -14,20 +14,20 @@ use Rattle.qv_syntax.specs.declared.type_tree.Kind.TheVariants as kinds
 use Rattle.qv_syntax.specs.declared.type_tree.TypeTree.{TypeTree}
 use Rattle.qv_syntax.specs.declared.typed.Call.{Call}
 use Rattle.qv_syntax.specs.declared.typed.Call.TheVariants as calls
-use Rattle.ocl_types.specs.declared.fault.TypeFault.TheVariants.{UnknownName}
-use Rattle.ocl_types.specs.declared.part.TypedPart.{TypedPart}
-use Rattle.ocl_types.specs.declared.part.CallsSoFar.{CallsSoFar}
-use Rattle.ocl_types.specs.declared.variable.Variable.{Variable}
+use Rattle.ocl_environments.specs.declared.fault.TypeFault.TheVariants.{UnknownName}
+use Rattle.ocl_environments.specs.declared.part.TypedPart.{TypedPart}
+use Rattle.ocl_environments.specs.declared.part.CallsSoFar.{CallsSoFar}
+use Rattle.ocl_environments.specs.declared.variable.Variable.{Variable}
 use Rattle.ocl_types.specs.declared.collection_operations.Argument.{Argument}
 use Rattle.ocl_types.specs.declared.collection_operations.Argument.TheVariants as arguments
-use Rattle.ocl_types.specs.Environments.{Environment}
+use Rattle.ocl_environments.specs.Environments.{Environment}
 use Rattle.ocl_types.specs.Operations.{collection_row, iterator_row, collection_operation_named, iterator_named}
 use Rattle.ocl_types.specs.Signatures.{argument_count, is_of_kind, collection_result, collected_kind}
-use Rattle.ocl_types.specs.Outcomes.{RuleResult, and_then, asking, wrong_type}
-use Rattle.ocl_types.specs.Agreement.{same_kind, same_type, collection_parts, model_for, fits, upper}
-use Rattle.ocl_types.specs.Parts.{tree_of, trees_of, with_models, one_model, and_called}
-use Rattle.ocl_types.specs.TypingScopes.{free_name, declared_type}
-use Rattle.ocl_types.specs.TypingOperators.{exactly}
+use Rattle.ocl_environments.specs.Outcomes.{RuleResult, and_then, asking, wrong_type}
+use Rattle.ocl_environments.specs.Agreement.{same_kind, same_type, collection_parts, model_for, fits, upper, exactly}
+use Rattle.ocl_environments.specs.Parts.{tree_of, trees_of, with_models, one_model, and_called}
+use Rattle.ocl_types.specs.TypingScopes.{declared_type}
+use Rattle.ocl_environments.specs.Lets.{free_name}
 use Rattle.ocl_types.specs.TypingSteps.{counted}
 
 -- ---- what an arrow stands behind: a collection, or a single value, of which it takes the Set

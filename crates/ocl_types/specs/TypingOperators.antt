@@ -1,5 +1,5 @@
 -- Operators, `if` and collection literals (OCL 2.4, sections 7.4.7 and 7.5.5): what their parts ask of each other.
-use Rattle.std.specs.Prelude.{ℕ, Bool, false, ◌&&◌, ◌||◌, if◌then◌else◌, List, [], ◌∷◌, ◌++◌, Option, None, Some, codes, Ok}
+use Rattle.std.specs.Prelude.{ℕ, if◌then◌else◌, List, [], ◌∷◌, ◌++◌, Option, None, codes, Ok}
 use Rattle.mof_metamodel.specs.declared.desc.MetaDesc.{MetaDesc}
 use Rattle.qv_syntax.specs.declared.operator.Operator.{Operator}
 use Rattle.qv_syntax.specs.declared.operator.Operator.TheVariants as operators
@@ -7,32 +7,19 @@ use Rattle.qv_syntax.specs.declared.ty.Ty.{Ty}
 use Rattle.qv_syntax.specs.declared.ty.Ty.TheVariants as types
 use Rattle.qv_syntax.specs.declared.type_tree.Kind.{Kind}
 use Rattle.qv_syntax.specs.declared.typed.Node.TheVariants as nodes
-use Rattle.ocl_types.specs.declared.part.TypedPart.{TypedPart}
-use Rattle.ocl_types.specs.declared.part.Chained.{Chained}
-use Rattle.ocl_types.specs.Naming.{kind_text}
-use Rattle.ocl_types.specs.Outcomes.{RuleResult, and_then, asking, wrong_type}
-use Rattle.ocl_types.specs.Agreement.{same_kind, same_type, is_null, collection_parts, model_for, are_related, agreed, upper, joined_models}
-use Rattle.ocl_types.specs.Parts.{tree_of, trees_of, types_of, plain_part, with_models, one_model}
+use Rattle.ocl_environments.specs.declared.part.TypedPart.{TypedPart}
+use Rattle.ocl_environments.specs.declared.part.Chained.{Chained}
+use Rattle.ocl_environments.specs.Naming.{kind_text}
+use Rattle.ocl_environments.specs.Outcomes.{RuleResult, and_then, asking, wrong_type}
+use Rattle.ocl_environments.specs.Agreement.{same_type, model_for, agreed, joined_models, exactly, are_comparable, branches}
+use Rattle.ocl_environments.specs.Parts.{tree_of, trees_of, types_of, plain_part, with_models, one_model}
 use Rattle.ocl_types.specs.TypingScopes.{element}
-
--- this very type is asked for
-abbrev pub exactly : List MetaDesc → Ty → Ty → RuleResult (Unit {0})
-exactly metas wanted found = asking (same_type found wanted) (wrong_type metas wanted found) (Ok tt)
 
 -- ---- operators between two parts
 
 -- both have the one type, and what comes has the other
 abbrev pub both : List MetaDesc → Ty → Ty → Ty → Ty → RuleResult Ty
 both metas wanted left right gives = and_then (exactly metas wanted left) (λ u. and_then (exactly metas wanted right) (λ v. Ok gives))
-
--- collections of one kind, and elements that may stand in one collection
-abbrev pub comparable_elements : List MetaDesc → Option (Kind × Ty) → Option (Kind × Ty) → Bool
-comparable_elements metas (Some (kind, a)) (Some (other, b)) = same_kind kind other && are_related metas a b
-comparable_elements metas a b = false
-
--- One of the two is null, or they have one type, or are classes of which one conforms to the other, or collections.
-abbrev pub are_comparable : List MetaDesc → Ty → Ty → Bool
-are_comparable metas a b = is_null a || is_null b || are_related metas a b || comparable_elements metas (collection_parts a) (collection_parts b)
 
 abbrev pub compared : List MetaDesc → Ty → Ty → RuleResult Ty
 compared metas a b = asking (are_comparable metas a b) (wrong_type metas a b) (Ok types.Bool)
@@ -82,10 +69,6 @@ unfoldable pub negated_rule : List MetaDesc → TypedPart → RuleResult TypedPa
 negated_rule metas operand = and_then (exactly metas types.Int operand.ty) (λ u. Ok (plain_part types.Int (nodes.Negated (tree_of operand))))
 
 -- ---- if
-
--- the branches have one type or related classes; one that is null takes the other's type
-abbrev pub branches : List MetaDesc → Ty → Ty → RuleResult Ty
-branches metas one other = if is_null one then Ok other else if is_null other then Ok one else upper metas one other
 
 -- the type and the model of the branches, if the parts go together
 abbrev pub if_branches : List MetaDesc → Ty → TypedPart → TypedPart → RuleResult (Ty × Option ℕ)

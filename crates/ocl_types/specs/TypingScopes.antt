@@ -1,5 +1,5 @@
 -- Names of variables, the types that they are given, and `let` (OCL 2.4, section 7.4.3).
-use Rattle.std.specs.Prelude.{ℕ, not, List, [], ◌∷◌, Option, None, Some, Ok, Err}
+use Rattle.std.specs.Prelude.{ℕ, List, [], ◌∷◌, Option, None, Some, Ok, Err}
 use Rattle.mof_metamodel.specs.declared.desc.MetaDesc.{MetaDesc}
 use Rattle.mof_metamodel.specs.declared.desc.EnumId.{EnumId}
 use Rattle.qv_syntax.specs.declared.name.Path.{Path}
@@ -8,16 +8,17 @@ use Rattle.qv_syntax.specs.declared.ty.Ty.TheVariants as types
 use Rattle.qv_syntax.specs.declared.type_tree.Kind.{Kind}
 use Rattle.qv_syntax.specs.declared.type_tree.TypeTree.{TypeTree}
 use Rattle.qv_syntax.specs.declared.typed.Node.TheVariants as nodes
-use Rattle.ocl_types.specs.declared.fault.TypeFault.TheVariants.{UnknownName, DuplicateName}
-use Rattle.ocl_types.specs.declared.part.TypedPart.{TypedPart}
-use Rattle.ocl_types.specs.declared.variable.Variable.{Variable}
-use Rattle.ocl_types.specs.Environments.{Environment, is_bound, number_of, value_of}
-use Rattle.ocl_types.specs.Naming.{names_of, joined_names}
-use Rattle.ocl_types.specs.Classifiers.{named_literal}
-use Rattle.ocl_types.specs.Written.{written}
-use Rattle.ocl_types.specs.Outcomes.{RuleResult, and_then, asking, wrong_type}
-use Rattle.ocl_types.specs.Agreement.{collection_parts, fits}
-use Rattle.ocl_types.specs.Parts.{tree_of, plain_part}
+use Rattle.ocl_environments.specs.declared.fault.TypeFault.TheVariants.{UnknownName}
+use Rattle.ocl_environments.specs.declared.part.TypedPart.{TypedPart}
+use Rattle.ocl_environments.specs.declared.variable.Variable.{Variable}
+use Rattle.ocl_environments.specs.Environments.{Environment, number_of, value_of}
+use Rattle.ocl_environments.specs.Naming.{names_of, joined_names}
+use Rattle.ocl_environments.specs.Classifiers.{named_literal}
+use Rattle.ocl_environments.specs.Written.{written}
+use Rattle.ocl_environments.specs.Outcomes.{RuleResult, and_then, wrong_type}
+use Rattle.ocl_environments.specs.Agreement.{collection_parts}
+use Rattle.ocl_environments.specs.Lets.{free_name}
+use Rattle.ocl_environments.specs.Parts.{tree_of, plain_part}
 
 -- ---- variables and literals
 
@@ -66,19 +67,11 @@ flat metas ty = flat_by metas ty (collection_parts ty)
 abbrev pub declared_type : Environment → TypeTree → RuleResult Ty
 declared_type env tree = and_then (written env tree) (flat env.metas)
 
--- a name that is free: variables hide nothing
-abbrev pub free_name : Environment → List ℕ → RuleResult (Unit {0})
-free_name env name = asking (not (is_bound env name)) (DuplicateName name) (Ok tt)
-
 -- ---- let
 
 -- what `let name : type` says, before the value
 abbrev pub let_type : Environment → List ℕ → TypeTree → RuleResult Ty
 let_type env name tree = and_then (free_name env name) (λ u. declared_type env tree)
-
--- the variable: the value's type conforms to the written one, and its model is the value's
-unfoldable pub let_variable : List MetaDesc → Ty → TypedPart → RuleResult Variable
-let_variable metas ty value = asking (fits metas value.ty ty) (wrong_type metas ty value.ty) (Ok (record { ty = ty; model = value.model }))
 
 -- the whole, of the number of its variable
 unfoldable pub let_part : ℕ → TypedPart → TypedPart → TypedPart

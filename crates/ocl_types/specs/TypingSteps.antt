@@ -18,20 +18,19 @@ use Rattle.qv_syntax.specs.declared.typed.Values.{Values}
 use Rattle.qv_syntax.specs.declared.typed.Call.{Call}
 use Rattle.qv_syntax.specs.declared.typed.Call.TheVariants as calls
 use Rattle.qv_syntax.specs.declared.typed.Node.TheVariants as nodes
-use Rattle.ocl_types.specs.declared.fault.TypeFault.TheVariants.{UnknownName, WrongCount, ModelMix}
-use Rattle.ocl_types.specs.declared.part.TypedPart.{TypedPart}
-use Rattle.ocl_types.specs.declared.part.CallsSoFar.{CallsSoFar}
-use Rattle.ocl_types.specs.declared.variable.Signature.{Signature}
-use Rattle.ocl_types.specs.Environments.{Environment, meta_at, class_of, number_of, value_of, only_model}
-use Rattle.ocl_types.specs.Naming.{names_of, path_text}
-use Rattle.ocl_types.specs.Classifiers.{named_class}
-use Rattle.ocl_types.specs.Navigation.{value_type, values_of, navigated}
+use Rattle.ocl_environments.specs.declared.fault.TypeFault.TheVariants.{UnknownName, WrongCount, ModelMix}
+use Rattle.ocl_environments.specs.declared.part.TypedPart.{TypedPart}
+use Rattle.ocl_environments.specs.declared.part.CallsSoFar.{CallsSoFar}
+use Rattle.ocl_environments.specs.declared.variable.Signature.{Signature}
+use Rattle.ocl_environments.specs.Environments.{Environment, meta_at, class_of, number_of, value_of, only_model}
+use Rattle.ocl_environments.specs.Naming.{names_of, path_text}
+use Rattle.ocl_environments.specs.Classifiers.{named_class}
+use Rattle.ocl_environments.specs.Navigation.{value_type, values_of, navigated}
 use Rattle.ocl_types.specs.Operations.{operation_row, class_row, operation_named, class_operation_named}
 use Rattle.ocl_types.specs.Signatures.{is_receiver, parameter_count, parameter_type, result_type, collected_kind}
-use Rattle.ocl_types.specs.Outcomes.{RuleResult, and_then, asking, wrong_type}
-use Rattle.ocl_types.specs.Agreement.{collection_parts, model_for, fits}
-use Rattle.ocl_types.specs.Parts.{trees_of, and_called}
-use Rattle.ocl_types.specs.TypingOperators.{exactly}
+use Rattle.ocl_environments.specs.Outcomes.{RuleResult, and_then, asking, wrong_type}
+use Rattle.ocl_environments.specs.Agreement.{collection_parts, model_for, fits, exactly}
+use Rattle.ocl_environments.specs.Parts.{trees_of, and_called}
 
 -- ---- properties
 

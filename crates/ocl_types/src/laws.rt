@@ -1,14 +1,14 @@
 ghost use Rattle.std.specs.Prelude.{◌≡◌, ◌≢◌, ◌↔◌, ℕ, IsTrue, Contains, List, ◌∷◌, length, Option, Ok, Err};
 ghost use Rattle.qv_syntax.specs.declared.expr.Expr.{Expr};
 ghost use Rattle.qv_syntax.specs.declared.typed.Typed.{Typed};
-ghost use Rattle.ocl_types.specs.declared.fault.TypeFault.{TypeFault};
-ghost use Rattle.ocl_types.specs.declared.part.TypedPart.{TypedPart};
+ghost use Rattle.ocl_environments.specs.declared.fault.TypeFault.{TypeFault};
+ghost use Rattle.ocl_environments.specs.declared.part.TypedPart.{TypedPart};
 ghost use Rattle.ocl_types.specs.Typing.{typed};
 ghost use Rattle.ocl_types.specs.HasType.{HasType, HasTree, Stands};
 ghost use Rattle.qv_syntax.specs.declared.ty.Ty.{Ty};
-ghost use Rattle.ocl_types.specs.Agreement.{same_type, fits, agreed, IsTop};
-ghost use Rattle.ocl_types.specs.Conformance.{TypeConforms};
-ghost use Rattle.ocl_types.specs.Environments.{Environment, is_over};
+ghost use Rattle.ocl_environments.specs.Agreement.{same_type, fits, agreed, IsTop, branches};
+ghost use Rattle.ocl_environments.specs.Conformance.{TypeConforms};
+ghost use Rattle.ocl_environments.specs.Environments.{Environment, is_over};
 ghost use Rattle.ocl_types.specs.TypedContext.{GivesTypedTree, IsTypedQuery, AreOver};
 ghost use Rattle.qv_syntax.specs.declared.type_tree.Kind.{Kind};
 ghost use Rattle.qv_syntax.specs.declared.type_tree.TypeTree.{TypeTree};
@@ -18,7 +18,7 @@ ghost use Rattle.qv_syntax.specs.declared.query.QueryTree.{QueryTree};
 ghost use Rattle.qv_syntax.specs.QueryCalls.{AreAcyclic};
 ghost use Rattle.ocl_types.specs.Queries.{AreQueries, StandInQueries};
 ghost use Rattle.ocl_types.specs.QueryTyping.{queries_typed};
-ghost use Rattle.ocl_types.specs.QueryCalls.{called_by, rows_of};
+ghost use Rattle.ocl_environments.specs.QueryCalls.{called_by, rows_of};
 ghost use Rattle.qv_syntax.specs.Parts.{CallsQuery};
 ghost use Rattle.qv_syntax.specs.Types.{IsWrittenType, IsOneModel};
 ghost use Rattle.qv_syntax.specs.TypeRules.{Branches, Elements, OperationGives, CollectionGives, IteratorGives};
@@ -29,15 +29,14 @@ ghost use Rattle.qv_syntax.specs.declared.operation.IteratorKind.{IteratorKind};
 ghost use Rattle.ocl_types.specs.OperationRows.{RowGives, CollectionRowGives, IteratorRowGives};
 ghost use Rattle.ocl_types.specs.declared.collection_operations.Argument.{Argument};
 ghost use Rattle.ocl_types.specs.Signatures.{argument_count};
-ghost use Rattle.ocl_types.specs.Parts.{types_of, with_models, one_model};
-ghost use Rattle.ocl_types.specs.TypingOperators.{branches, literal_type};
+ghost use Rattle.ocl_environments.specs.Parts.{types_of, with_models, one_model};
+ghost use Rattle.ocl_types.specs.TypingOperators.{literal_type};
 ghost use Rattle.ocl_types.specs.TypingCollections.{given_types};
 ghost use Rattle.ocl_types.specs.TypingScopes.{declared_type};
-ghost use Rattle.ocl_types.specs.Written.{written};
+ghost use Rattle.ocl_environments.specs.Written.{written};
 ghost use Rattle.ocl_types.specs.TypeRules.{GivenConforms, part_models};
 
-use crate::env::Env;
-use crate::metas::Metas;
+use ocl_environments::{Env, Metas};
 
 /// Two types are one exactly where the test says so.
 pub fn types_are_told_apart()

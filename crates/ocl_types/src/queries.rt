@@ -1,25 +1,19 @@
-ghost use Rattle.std.specs.Prelude.{◌≡◌, ◌+◌, ◌<◌, ◌≤◌, ℕ, List, [], ◌∷◌, ◌++◌, map, length, false, IfOk, OnOk, IsTrue, Ok};
+ghost use Rattle.std.specs.Prelude.{◌≡◌, ◌+◌, ◌<◌, ℕ, [], ◌++◌, map, length, false, IfOk, OnOk, IsTrue, Ok};
 ghost use Rattle.mof_metamodel.specs.Giving.{Gives};
 ghost use Rattle.call_graph.specs.Graphs.{IsOnCycle};
-ghost use Rattle.ocl_types.specs.Written.{IfFault, fault_in};
-ghost use Rattle.ocl_types.specs.Environments.{is_type, are_types, is_bound as bound, without_variables, without_queries, without_names};
-ghost use Rattle.ocl_types.specs.Outcomes.{asking, wrong_type as wrong};
-ghost use Rattle.ocl_types.specs.Agreement.{fits as fits_by};
+ghost use Rattle.ocl_environments.specs.Written.{IfFault, fault_in};
+ghost use Rattle.ocl_environments.specs.Environments.{is_type, are_types, is_bound as bound, without_variables, without_queries, without_names};
+ghost use Rattle.ocl_environments.specs.Outcomes.{asking, wrong_type as wrong};
+ghost use Rattle.ocl_environments.specs.Agreement.{fits as fits_by};
 ghost use Rattle.ocl_types.specs.TypingScopes.{let_type, declared_type as declared_by};
 ghost use Rattle.ocl_types.specs.Typing.{typed as tree_typed};
 ghost use Rattle.ocl_types.specs.QueryTyping.{with_param, query_bound, params_from, signature_of, queries_bound, query_typed, queries_from, queries_typed, signed, IsFirstFault};
-ghost use Rattle.ocl_types.specs.QueryCalls.{rows_of, HasNameAt, IsCycleFault};
+ghost use Rattle.ocl_environments.specs.QueryCalls.{rows_of};
 
-use crate::agreement::fits;
-use crate::env::Env;
-use crate::fault::{TypeError, TypeFault};
-use crate::outcomes::{duplicate_name, wrong_type};
-use crate::query_calls::call_rows;
 use crate::typing::type_expr;
 use crate::typing_scopes::declared_type;
-use crate::variable::Signature;
-use call_graph::find_cycle;
-use mof_metamodel::{NoMemory, Seq, Text};
+use mof_metamodel::{NoMemory, Seq};
+use ocl_environments::{Env, Signature, TypeError, duplicate_name, fits, refuse_cycle, wrong_type};
 use qv_syntax::{Expr, ParamTree, Query, QueryTree, Ty, TypeTree, Typed};
 use std::alloc::Global;
 
@@ -181,41 +175,6 @@ fn type_bodies(
         typed.push(query)?;
     }
     Ok(typed)
-}
-
-/// The name of a query.
-fn query_name(alloc: Global, queries: &[Query], place: usize) -> Result<Text, NoMemory>
-    requires { place < length queries.now }
-    ensures { IfOk result (HasNameAt queries.now place) }
-{
-    queries[place].name.duplicate(alloc)
-}
-
-/// The fault of a query on a cycle of calls, with so many queries before these.
-fn cycle_fault(
-    alloc: Global,
-    before: usize,
-    queries: &[Query],
-    u: usize,
-) -> Result<TypeFault, NoMemory>
-    requires { IsOnCycle (rows_of before queries.now) u }
-    ensures { IfOk result (IsCycleFault before queries.now) }
-{
-    let place = u - before;
-    let name = query_name(alloc, queries, place)?;
-    Ok(TypeFault::QueryCycle(name))
-}
-
-/// Refuses queries that call each other in a cycle, with so many queries before them.
-fn refuse_cycle(alloc: Global, before: usize, queries: &[Query]) -> Result<(), TypeError>
-    ensures none { OnOk result ((u : ℕ) → IsOnCycle (rows_of before queries.now) u → ⊥) }
-    ensures fault { IfFault result (IsCycleFault before queries.now) }
-{
-    let rows = call_rows(alloc, before, queries)?;
-    match find_cycle(alloc, rows.as_slice())? {
-        Some(u) => Err(TypeError::Fault(cycle_fault(alloc, before, queries, u)?)),
-        None => Ok(()),
-    }
 }
 
 /// The typed queries, which are brought into reach.

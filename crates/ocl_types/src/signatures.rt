@@ -1,10 +1,10 @@
 ghost use Rattle.std.specs.Prelude.{◌≡◌, IfOk};
 ghost use Rattle.ocl_types.specs.Signatures.{is_receiver as receives, parameter_count as counted, parameter_type as parameter, result_type as type_given, argument_count as arguments_of, is_ordered as ordered, is_of_kind as of_kind, collection_result as collection_gives, collected_kind as collected};
 
-use crate::agreement::same_type;
 use crate::collection_operations::{Argument, CollectionResult, Kinds};
 use crate::operations::{OperationResult, Parameters, Receivers};
 use mof_metamodel::{Boxed, NoMemory};
+use ocl_environments::same_type;
 use qv_syntax::{Kind, Ty};
 use std::alloc::Global;
 

@@ -1,8 +1,8 @@
 ghost use Rattle.std.specs.Prelude.{◌≡◌, IfOk};
-ghost use Rattle.ocl_types.specs.Parts.{tree_of};
+ghost use Rattle.ocl_environments.specs.Parts.{tree_of};
 
-use crate::part::TypedPart;
 use mof_metamodel::{Boxed, NoMemory};
+use ocl_environments::TypedPart;
 use qv_syntax::Typed;
 use std::alloc::Global;
 

@@ -1,28 +1,26 @@
 ghost use Rattle.std.specs.Prelude.{◌≡◌, [], map, IfOk, IsTrue, OnOk, option_copied};
 ghost use Rattle.mof_metamodel.specs.Giving.{Gives};
 ghost use Rattle.qv_syntax.specs.TypedTrees.{IsTyped};
-ghost use Rattle.ocl_types.specs.Written.{IfFault, fault_in};
-ghost use Rattle.ocl_types.specs.Environments.{is_over};
+ghost use Rattle.ocl_environments.specs.Written.{IfFault, fault_in};
+ghost use Rattle.ocl_environments.specs.Environments.{is_over};
 ghost use Rattle.ocl_types.specs.TypedContext.{context_of, variables_of, typing_of};
 ghost use Rattle.ocl_types.specs.HasType.{HasType, Stands};
-ghost use Rattle.ocl_types.specs.Scopes.{in_reach};
-ghost use Rattle.ocl_types.specs.Parts.{plain_part, tree_of, uncalled as started};
+ghost use Rattle.ocl_environments.specs.Scopes.{in_reach};
+ghost use Rattle.ocl_environments.specs.Parts.{plain_part, tree_of, uncalled as started};
 ghost use Rattle.ocl_types.specs.Forms.{is_let, is_if, is_calls, is_iterator};
 ghost use Rattle.ocl_types.specs.Typing.{meaning, operated_by, calling, given, parts_from, chained_from, called_from, query_typing, linked_part as part_linked, called_part as part_called, called_whole, has_no_values, is_all_instances as names_extent, path_of_extent, dot_typing, arrow_typing, typed};
 
-use crate::env::Env;
-use crate::fault::TypeError;
-use crate::outcomes::unknown_name;
-use crate::part::{CallsSoFar, Chained, TypedPart};
-use crate::scope::Scope;
 use crate::typing_collections::{collection_operation_rule, iterator_rule, iterator_variable};
 use crate::typing_literals::literal_rule;
 use crate::typing_operators::{chain_part, if_rule, link_rule, negated_rule, not_rule, unchained};
-use crate::typing_scopes::{let_part, let_type, let_variable, path_part};
+use crate::typing_scopes::{let_part, let_type, path_part};
 use crate::typing_steps::{
     class_operation_rule, extent_rule, operation_rule, property_rule, query_rule,
 };
 use mof_metamodel::{Boxed, NoMemory, Seq, Text};
+use ocl_environments::{
+    CallsSoFar, Chained, Env, Scope, TypeError, TypedPart, let_variable, unknown_name,
+};
 use qv_syntax::{Args, Expr, Infix, Name, Node, Path, Postfix, Ty, Typed};
 use std::alloc::Global;
 

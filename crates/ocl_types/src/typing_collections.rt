@@ -1,27 +1,24 @@
 ghost use Rattle.std.specs.Prelude.{◌≡◌, false, IfOk, OnOk, Some, is_some};
-ghost use Rattle.ocl_types.specs.Environments.{is_bound};
-ghost use Rattle.ocl_types.specs.Scopes.{in_reach};
+ghost use Rattle.ocl_environments.specs.Environments.{is_bound};
+ghost use Rattle.ocl_environments.specs.Scopes.{in_reach};
 ghost use Rattle.mof_metamodel.specs.Giving.{Gives};
-ghost use Rattle.ocl_types.specs.Written.{fault_in};
-ghost use Rattle.ocl_types.specs.Agreement.{collection_parts as parts_meant};
-ghost use Rattle.ocl_types.specs.TypingCollections.{kind_of as kind_meant, element_of as element_meant, gathered as gathered_from, given_elements as elements_given, given_type as type_given, given_types as types_given, summed as sum_asks, result_model as model_left, called_on as collection_called, operated_on as operated, collection_operation_by, collection_operation_rule as operation_meaning, variable_type as type_of_variable, iterator_variable as variable_of_iterator, iterated_type as iteration_gives, iterated_model as model_iterated, iterated as iteration, condition as asks_condition, iterator_by, iterator_rule as iterator_meaning};
+ghost use Rattle.ocl_environments.specs.Written.{fault_in};
+ghost use Rattle.ocl_environments.specs.Agreement.{collection_parts as parts_meant};
+ghost use Rattle.ocl_types.specs.TypingCollections.{kind_of as kind_meant, element_of as element_meant, gathered as gathered_from, given_elements as elements_given, given_type as type_given, given_types as types_given, summed as sum_asks, result_model as model_left, called_on as collection_called, operated_on as operated, collection_operation_by, collection_operation_rule as operation_meaning, variable_type as type_of_variable, iterator_variable as variable_of_iterator, iterated_type as iteration_gives, iterated_model as model_iterated, iterated as iteration, condition as asks_condition, iterator_rule as iterator_meaning};
 
-use crate::agreement::{collection_parts, fits, model_for, same_kind, same_type, upper};
 use crate::collection_operations::{Argument, collection_operation_named, collection_row};
-use crate::env::Env;
-use crate::fault::TypeError;
 use crate::operations::{IteratorResult, iterator_named, iterator_row};
-use crate::outcomes::{exactly, unknown_name, wrong_type};
-use crate::part::{CallsSoFar, TypedPart};
-use crate::parts::{one_model, trees_of, with_models};
-use crate::scope::Scope;
 use crate::signatures::{
     argument_count, collected_kind, collection, collection_result, is_of_kind,
 };
-use crate::typing_scopes::{declared_type, free_name};
+use crate::typing_scopes::declared_type;
 use crate::typing_steps::counted;
-use crate::variable::Variable;
 use mof_metamodel::{Boxed, MetaModel, NoMemory, Seq, Text};
+use ocl_environments::{
+    CallsSoFar, Env, Scope, TypeError, TypedPart, Variable, collection_parts, exactly, fits,
+    free_name, model_for, one_model, same_kind, same_type, trees_of, unknown_name, upper,
+    with_models, wrong_type,
+};
 use qv_syntax::{Call, CollectionOperation, IteratorKind, Kind, Operation, Ty, TypeTree};
 use std::alloc::Global;
 

@@ -1,18 +1,15 @@
 ghost use Rattle.std.specs.Prelude.{◌≡◌, fold};
-ghost use Rattle.ocl_types.specs.Agreement.{higher as higher_of, all_fit as all_fitting};
-ghost use Rattle.ocl_types.specs.Parts.{types_of};
+ghost use Rattle.ocl_environments.specs.Agreement.{higher as higher_of, all_fit as all_fitting};
+ghost use Rattle.ocl_environments.specs.Parts.{types_of};
 ghost use Rattle.ocl_types.specs.TypingOperators.{literal_type as type_of_literal, literal_rule as literal_of};
 ghost use Rattle.mof_metamodel.specs.Giving.{Gives};
-ghost use Rattle.ocl_types.specs.Written.{fault_in};
+ghost use Rattle.ocl_environments.specs.Written.{fault_in};
 
-use crate::agreement::{fits, higher};
-use crate::fault::TypeError;
-use crate::naming::kind_name;
-use crate::outcomes::wrong_type;
-use crate::part::TypedPart;
-use crate::parts::{one_model, trees_of, with_models};
 use crate::typing_scopes::element;
 use mof_metamodel::{Boxed, MetaModel, Seq};
+use ocl_environments::{
+    TypeError, TypedPart, fits, higher, kind_name, one_model, trees_of, with_models, wrong_type,
+};
 use qv_syntax::{Kind, Node, Ty};
 use std::alloc::Global;
 

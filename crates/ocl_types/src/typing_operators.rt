@@ -1,20 +1,16 @@
 ghost use Rattle.std.specs.Prelude.{◌≡◌, IfOk};
-ghost use Rattle.ocl_types.specs.TypingOperators.{both as both_of, comparable_elements as elements_comparable, are_comparable as comparable, compared as compared_by, added as added_by, operated as operated_by, branches as branches_of, unchained as started, and_linked as linked, link_rule as linked_by, chain_part as chained, not_rule as not_of, negated_rule as negated_of, if_branches as branches_of_if, if_rule as if_of};
-ghost use Rattle.ocl_types.specs.Agreement.{collection_parts as parts_of_collection};
+ghost use Rattle.ocl_types.specs.TypingOperators.{both as both_of, compared as compared_by, added as added_by, operated as operated_by, unchained as started, and_linked as linked, link_rule as linked_by, chain_part as chained, not_rule as not_of, negated_rule as negated_of, if_branches as branches_of_if, if_rule as if_of};
 ghost use Rattle.qv_syntax.specs.declared.typed.Node.TheVariants as nodes;
-ghost use Rattle.ocl_types.specs.Parts.{tree_of};
+ghost use Rattle.ocl_environments.specs.Parts.{tree_of};
 ghost use Rattle.mof_metamodel.specs.Giving.{Gives};
-ghost use Rattle.ocl_types.specs.Written.{fault_in};
+ghost use Rattle.ocl_environments.specs.Written.{fault_in};
 
-use crate::agreement::{
-    are_related, collection_parts, is_null, joined_models, model_for, same_kind, same_type, upper,
-};
-use crate::fault::TypeError;
-use crate::outcomes::{exactly, wrong_type};
-use crate::part::{Chained, TypedPart};
-use crate::parts::one_model;
 use crate::trees::boxed_tree;
 use mof_metamodel::{MetaModel, NoMemory, Seq};
+use ocl_environments::{
+    Chained, TypeError, TypedPart, are_comparable, branches, exactly, joined_models, model_for,
+    one_model, same_type, wrong_type,
+};
 use qv_syntax::{Node, Operator, Ty, Typed, TypedInfix};
 use std::alloc::Global;
 
@@ -32,23 +28,6 @@ fn both(
     exactly(alloc, metas, wanted, left)?;
     exactly(alloc, metas, wanted, right)?;
     Ok(gives)
-}
-
-/// Whether two types are collections of one kind whose elements may stand in one collection.
-fn comparable_elements(metas: &[MetaModel], a: &Ty, b: &Ty) -> bool
-    ensures { result ≡ elements_comparable metas.now (parts_of_collection a.now) (parts_of_collection b.now) }
-{
-    match (collection_parts(a), collection_parts(b)) {
-        (Some((kind, x)), Some((other, y))) => same_kind(kind, other) && are_related(metas, x, y),
-        _ => false,
-    }
-}
-
-/// Whether values of two types may be compared.
-fn are_comparable(metas: &[MetaModel], a: &Ty, b: &Ty) -> bool
-    ensures { result ≡ comparable metas.now a.now b.now }
-{
-    is_null(a) || is_null(b) || are_related(metas, a, b) || comparable_elements(metas, a, b)
 }
 
 /// The type of `=` and `<>` between two types.
@@ -102,19 +81,6 @@ fn operated(
         ),
         Operator::Plus => added(alloc, metas, a, b),
         Operator::Minus | Operator::Times => both(alloc, metas, &Ty::Int, a, b, Ty::Int),
-    }
-}
-
-/// The type of two branches of an `if`.
-fn branches(alloc: Global, metas: &[MetaModel], one: &Ty, other: &Ty) -> Result<Ty, TypeError>
-    ensures { Gives fault_in (λ x. x) result (branches_of metas.now one.now other.now) }
-{
-    if is_null(one) {
-        Ok(other.duplicate(alloc)?)
-    } else if is_null(other) {
-        Ok(one.duplicate(alloc)?)
-    } else {
-        upper(alloc, metas, one, other)
     }
 }
 
@@ -251,7 +217,7 @@ fn if_part(
 }
 
 /// The type and the model of the branches of an `if`, if its parts go together.
-#[tactic(auto, using(crate::proofs::NamingLaws::if_characters))]
+#[tactic(auto, using(crate::proofs::CharacterLaws::if_characters))]
 fn if_branches(
     alloc: Global,
     metas: &[MetaModel],

@@ -1,22 +1,18 @@
 ghost use Rattle.std.specs.Prelude.{◌≡◌, false, IfOk, OnOk};
-ghost use Rattle.ocl_types.specs.Environments.{is_bound as bound};
-ghost use Rattle.ocl_types.specs.Scopes.{in_reach};
-ghost use Rattle.ocl_types.specs.Naming.{names_of};
-ghost use Rattle.ocl_types.specs.Classifiers.{named_literal};
-ghost use Rattle.ocl_types.specs.TypingScopes.{variable_part as variable_of, literal_by, path_part as path_of, element as element_of, flat as flat_of, declared_type as declared_by, free_name as free, let_type as type_of_let, let_variable as variable_of_let, let_part as part_of_let};
+ghost use Rattle.ocl_environments.specs.Environments.{is_bound as bound};
+ghost use Rattle.ocl_environments.specs.Scopes.{in_reach};
+ghost use Rattle.ocl_environments.specs.Naming.{names_of};
+ghost use Rattle.ocl_environments.specs.Classifiers.{named_literal};
+ghost use Rattle.ocl_types.specs.TypingScopes.{variable_part as variable_of, literal_by, path_part as path_of, element as element_of, flat as flat_of, declared_type as declared_by, let_type as type_of_let, let_part as part_of_let};
 ghost use Rattle.mof_metamodel.specs.Giving.{Gives};
-ghost use Rattle.ocl_types.specs.Written.{fault_in};
+ghost use Rattle.ocl_environments.specs.Written.{fault_in};
 
-use crate::agreement::{collection_parts, fits};
-use crate::env::Env;
-use crate::fault::TypeError;
-use crate::outcomes::{duplicate_name, unknown_name, unknown_path, wrong_type};
-use crate::part::TypedPart;
-use crate::scope::Scope;
 use crate::trees::boxed_tree;
-use crate::variable::Variable;
-use crate::written::written_type;
 use mof_metamodel::{MetaModel, NoMemory, Text};
+use ocl_environments::{
+    Env, Scope, TypeError, TypedPart, Variable, collection_parts, free_name, unknown_name,
+    unknown_path, written_type, wrong_type,
+};
 use qv_syntax::{Node, Path, Ty, TypeTree};
 use std::alloc::Global;
 
@@ -102,17 +98,6 @@ pub(crate) fn declared_type(alloc: Global, env: &Env<'_>, tree: &TypeTree) -> Re
     flat(alloc, env.metas(), &ty)
 }
 
-/// Whether a name is free: variables hide nothing.
-pub(crate) fn free_name(alloc: Global, scope: &Scope<'_>, name: &Text) -> Result<(), TypeError>
-    ensures given { Gives fault_in (λ x. x) result (free (in_reach scope.now) name.now) }
-    ensures unbound { OnOk result (bound (in_reach scope.now) name.now ≡ false) }
-{
-    if scope.is_bound(name) {
-        return Err(TypeError::Fault(duplicate_name(alloc, name.as_str())?));
-    }
-    Ok(())
-}
-
 /// The type of the variable of a `let`, before its value is typed.
 pub(crate) fn let_type(
     alloc: Global,
@@ -125,25 +110,6 @@ pub(crate) fn let_type(
 {
     free_name(alloc, scope, name)?;
     declared_type(alloc, scope.env(), tree)
-}
-
-/// The variable of a `let`: the value's type conforms to the written one, and its model is the value's.
-#[tactic(auto, unfolding(crate::specs::TypingScopes::let_variable))]
-pub(crate) fn let_variable(
-    alloc: Global,
-    metas: &[MetaModel],
-    ty: Ty,
-    value: &TypedPart,
-) -> Result<Variable, TypeError>
-    ensures { Gives fault_in (λ x. x) result (variable_of_let metas.now ty value.now) }
-{
-    if !fits(metas, &value.ty, &ty) {
-        return Err(TypeError::Fault(wrong_type(alloc, metas, &ty, &value.ty)?));
-    }
-    Ok(Variable {
-        ty,
-        model: value.model,
-    })
 }
 
 /// The whole `let`, of the number of its variable.

@@ -1,30 +1,24 @@
 ghost use Rattle.std.specs.Prelude.{◌≡◌, ◌<◌, Some, IfSome, IfOk};
 ghost use Rattle.std.specs.Option.{option_map, option_and_then};
 ghost use Rattle.mof_metamodel.specs.Metamodels.{prop_count, prop_number, class_count};
-ghost use Rattle.ocl_types.specs.Environments.{class_of as class_meant};
-ghost use Rattle.ocl_types.specs.Scopes.{in_reach};
+ghost use Rattle.ocl_environments.specs.Environments.{class_of as class_meant};
+ghost use Rattle.ocl_environments.specs.Scopes.{in_reach};
 ghost use Rattle.mof_metamodel.specs.Giving.{Gives};
-ghost use Rattle.ocl_types.specs.Written.{fault_in};
-ghost use Rattle.ocl_types.specs.TypingSteps.{described as described_prop, class_property as property_of_class, property_of as property_meant, navigated_to, collected_from, property_rule as property_meaning, each_exactly as all_exactly, counted as has_count, called_with as value_called_with, operation_by, operation_rule as operation_meaning, class_or, class_at_path as path_class, is_of_meta as meta_is, tested as test_gives, tested_with as test_meaning, class_operation_rule as class_operation_meaning, model_or, extent_part as extent_of, extent_rule as extent_meaning, each_fits as all_fits, query_by, query_rule as query_meaning};
+ghost use Rattle.ocl_environments.specs.Written.{fault_in};
+ghost use Rattle.ocl_types.specs.TypingSteps.{described as described_prop, class_property as property_of_class, property_of as property_meant, navigated_to, collected_from, property_rule as property_meaning, each_exactly as all_exactly, counted as has_count, called_with as value_called_with, operation_by, operation_rule as operation_meaning, class_at_path as path_class, is_of_meta as meta_is, tested as test_gives, tested_with as test_meaning, class_operation_rule as class_operation_meaning, model_or, extent_rule as extent_meaning, each_fits as all_fits, query_by, query_rule as query_meaning};
 
-use crate::agreement::{collection_parts, fits, model_for};
-use crate::env::Env;
-use crate::fault::{TypeError, TypeFault};
-use crate::naming::path_text;
-use crate::navigation::{navigated, prop_type, values};
-use crate::of_types::class_of;
 use crate::operations::{
     ClassResult, class_operation_named, class_row, operation_named, operation_row,
 };
-use crate::outcomes::{exactly, unknown_name, wrong_count, wrong_type};
-use crate::part::{CallsSoFar, TypedPart};
-use crate::parts::trees_of;
-use crate::scope::Scope;
 use crate::signatures::{
     collected_kind, is_receiver, parameter_count, parameter_type, result_type,
 };
-use crate::variable::Signature;
 use mof_metamodel::{Boxed, ClassId, MetaModel, NoMemory, PropId, Seq, Text};
+use ocl_environments::{
+    CallsSoFar, Env, Scope, Signature, TypeError, TypeFault, TypedPart, class_of, collection_parts,
+    exactly, fits, model_for, navigated, path_text, prop_type, trees_of, unknown_name, values,
+    wrong_count, wrong_type,
+};
 use qv_syntax::{Call, ClassOperation, Kind, Node, Operation, Path, Ty, Values};
 use std::alloc::Global;
 

@@ -1,7 +1,8 @@
 use case_texts::Pen;
 use expression_settings::put_type_fault;
 use mof_metamodel::{NoMemory, Seq, Text};
-use ocl_types::{Env, Metas, type_queries, type_text};
+use ocl_environments::{Env, Metas, type_text};
+use ocl_types::type_queries;
 use ql_lex::{Tokens, lex};
 use qv_syntax::{Declaration, Query, QueryTree, Script};
 use qvtr_parser::parse_script;

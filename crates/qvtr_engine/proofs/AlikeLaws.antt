@@ -5,7 +5,7 @@ use Rattle.vault_io.specs.Files.{Files}
 use Rattle.mof_metamodel.specs.declared.desc.MetaDesc.{MetaDesc}
 use Rattle.qv_syntax.specs.declared.program.Program.{Program}
 use Rattle.qv_syntax.specs.declared.script.Script.{Script}
-use Rattle.ocl_types.specs.Environments.{no_meta}
+use Rattle.ocl_environments.specs.Environments.{no_meta}
 use Rattle.script_scopes.specs.Environments.{metamodel_names}
 use Rattle.qvtr_engine.specs.CheckWords.{CheckWords}
 use Rattle.qvtr_engine.specs.CheckedMetamodels.{AreMetamodels, MetamodelsStop, metamodel_files, numbered_metas}

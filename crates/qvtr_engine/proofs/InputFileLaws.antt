@@ -11,7 +11,7 @@ use Rattle.mof_metamodel.specs.NameTables.{value_of}
 use Rattle.object_tables.specs.Models.{ModelData}
 use Rattle.qv_syntax.specs.declared.query.ModelSlot.{ModelSlot}
 use Rattle.qv_syntax.specs.declared.script.Script.{Script}
-use Rattle.ocl_types.specs.Environments.{no_meta}
+use Rattle.ocl_environments.specs.Environments.{no_meta}
 use Rattle.script_scopes.specs.Declarations.{meta_of}
 use Rattle.script_scopes.specs.Environments.{metamodel_names, slots_of}
 use Rattle.script_scopes.specs.ScriptNames.{model_names}

@@ -8,7 +8,7 @@ use Rattle.std.proofs.lemmas.Option.{slice_get-map, slice_get_within, get_or_fro
 use Rattle.std.proofs.lemmas.List.Elements.{All-contains}
 use Rattle.qv_syntax.specs.declared.script.ModelTree.{ModelTree}
 use Rattle.qv_syntax.specs.declared.script.Script.{Script}
-use Rattle.ocl_types.specs.declared.fault.TypeFault.TheVariants.{UnknownModel}
+use Rattle.ocl_environments.specs.declared.fault.TypeFault.TheVariants.{UnknownModel}
 use Rattle.script_scopes.specs.declared.name_fault.NameFault.{NameFault}
 use Rattle.script_scopes.specs.declared.name_fault.NameFault.TheVariants.{Target, Extra, Missing}
 use Rattle.script_scopes.specs.ScriptNames.{AreNamesOf, IsNameFault, IsFirstLacking, script_names}

@@ -5,7 +5,7 @@ use Rattle.std.proofs.lemmas.Option.{slice_get_within, get_or_from_slice_get}
 use Rattle.mof_metamodel.specs.declared.desc.MetaDesc.{MetaDesc}
 use Rattle.qv_syntax.specs.declared.program.Rel.{Rel}
 use Rattle.qv_syntax.specs.declared.script.Script.{Script}
-use Rattle.ocl_types.specs.declared.fault.TypeFault.{TypeFault}
+use Rattle.ocl_environments.specs.declared.fault.TypeFault.{TypeFault}
 use Rattle.qvtr_types.specs.ResolvedScripts.{IsFaultOf}
 use Rattle.qvtr_semantics.specs.Calls.{RelationCall}
 use Rattle.qvtr_semantics.specs.Chains.{Chain, IsCyclic, IsDeep}

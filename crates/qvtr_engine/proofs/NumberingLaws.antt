@@ -13,7 +13,7 @@ use Rattle.mof_metamodel.specs.Characters.{same_name}
 use Rattle.object_tables.specs.Models.{ModelData}
 use Rattle.qv_syntax.specs.declared.script.ModelTree.{ModelTree}
 use Rattle.qv_syntax.specs.declared.script.Script.{Script}
-use Rattle.ocl_types.specs.Environments.{no_meta}
+use Rattle.ocl_environments.specs.Environments.{no_meta}
 use Rattle.script_scopes.specs.Declarations.{IsRepeated, global_names, relation_names, queries_of}
 use Rattle.script_scopes.specs.Environments.{metamodel_names}
 use Rattle.script_scopes.specs.ScriptNames.{model_names, meta_names, written_names, script_names}

@@ -8,7 +8,7 @@ use Rattle.fault_lines.specs.Lines.{shown}
 use Rattle.mof_metamodel.specs.declared.desc.EnumDesc.{EnumDesc}
 use Rattle.mof_metamodel.specs.declared.desc.MetaDesc.{MetaDesc}
 use Rattle.mof_metamodel.specs.Metamodels.{enum_count, no_enum}
-use Rattle.ocl_types.specs.Environments.{meta_at, no_meta}
+use Rattle.ocl_environments.specs.Environments.{meta_at, no_meta}
 use Rattle.qvtr_engine.specs.CheckReply.{literal_text}
 
 pub quote_characters : chars (codes "'") ≡ codes "'"

@@ -12,7 +12,7 @@ use Rattle.xmi_profile.specs.declared.fault.Externs.TheVariants as externs
 use Rattle.model_files.specs.Emof.{emof}
 use Rattle.model_files.specs.Files.{IsFileError, IsMetaFileError}
 use Rattle.qv_syntax.specs.declared.script.Script.{Script}
-use Rattle.ocl_types.specs.Environments.{no_meta, AreWell}
+use Rattle.ocl_environments.specs.Environments.{no_meta, AreWell}
 use Rattle.script_scopes.specs.Declarations.{meta_of}
 use Rattle.script_scopes.specs.Environments.{metamodel_names}
 use Rattle.script_scopes.specs.ScriptNames.{model_names}

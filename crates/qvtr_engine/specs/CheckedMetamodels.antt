@@ -8,7 +8,7 @@ use Rattle.mof_metamodel.specs.Characters.{same_name}
 use Rattle.model_files.specs.Emof.{emof}
 use Rattle.model_files.specs.Files.{IsMetaFileError}
 use Rattle.qv_syntax.specs.declared.script.Script.{Script}
-use Rattle.ocl_types.specs.Environments.{no_meta}
+use Rattle.ocl_environments.specs.Environments.{no_meta}
 use Rattle.script_scopes.specs.Environments.{metamodel_names}
 use Rattle.qvtr_engine.specs.CheckWords.{Bound, CheckWords}
 use Rattle.qvtr_engine.specs.CheckedNames.{name_of}

@@ -7,7 +7,7 @@ use Rattle.object_tables.specs.Models.{ModelData}
 use Rattle.xmi_profile.specs.declared.fault.Externs.TheVariants as externs
 use Rattle.model_files.specs.Files.{IsFileError}
 use Rattle.qv_syntax.specs.declared.script.Script.{Script}
-use Rattle.ocl_types.specs.Environments.{no_meta, meta_at}
+use Rattle.ocl_environments.specs.Environments.{no_meta, meta_at}
 use Rattle.script_scopes.specs.Declarations.{meta_of}
 use Rattle.script_scopes.specs.ScriptNames.{model_names}
 use Rattle.qvtr_engine.specs.CheckWords.{Bound, CheckWords}

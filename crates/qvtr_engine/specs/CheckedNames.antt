@@ -2,7 +2,7 @@
 -- 7.11.1.2).
 use Rattle.std.specs.Prelude.{ℕ, List, [], map, chars, slice_index_or}
 use Rattle.qv_syntax.specs.declared.script.Script.{Script}
-use Rattle.ocl_types.specs.declared.fault.TypeFault.TheVariants.{UnknownModel}
+use Rattle.ocl_environments.specs.declared.fault.TypeFault.TheVariants.{UnknownModel}
 use Rattle.script_scopes.specs.declared.name_fault.NameFault.{NameFault}
 use Rattle.script_scopes.specs.declared.name_fault.NameFault.TheVariants.{Target, Extra, Missing}
 use Rattle.script_scopes.specs.ScriptNames.{AreNamesOf, IsNameFault, script_names}

@@ -3,7 +3,7 @@ use Rattle.std.specs.Prelude.{ℕ, List}
 use Rattle.mof_metamodel.specs.declared.desc.MetaDesc.{MetaDesc}
 use Rattle.qv_syntax.specs.declared.program.Program.{Program}
 use Rattle.qv_syntax.specs.declared.script.Script.{Script}
-use Rattle.ocl_types.specs.declared.fault.TypeFault.{TypeFault}
+use Rattle.ocl_environments.specs.declared.fault.TypeFault.{TypeFault}
 use Rattle.script_scopes.specs.Resolutions.{IsResolution}
 use Rattle.qvtr_types.specs.ResolvedScripts.{setting_of, IsFaultOf}
 use Rattle.qvtr_engine.specs.CheckReply.{type_refusal}

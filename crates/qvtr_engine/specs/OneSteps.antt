@@ -3,7 +3,7 @@ use Rattle.std.specs.Prelude.{◌≡◌, List, length}
 use Rattle.vault_io.specs.Files.{Files}
 use Rattle.mof_metamodel.specs.declared.desc.MetaDesc.{MetaDesc}
 use Rattle.qv_syntax.specs.declared.script.Script.{Script}
-use Rattle.ocl_types.specs.Environments.{AreWell}
+use Rattle.ocl_environments.specs.Environments.{AreWell}
 use Rattle.script_scopes.specs.Environments.{metamodel_names}
 use Rattle.qvtr_engine.specs.CheckWords.{CheckWords}
 use Rattle.qvtr_engine.specs.CheckedMetamodels.{AreMetamodels, MetamodelsStop, numbered_metas}

@@ -1,5 +1,5 @@
+use ocl_environments::Metas;
 use ocl_eval::Models;
-use ocl_types::Metas;
 use qv_syntax::Program;
 
 /// What a check asks: do the relations of a program hold between models. Metamodels and models go by their numbers.

@@ -19,7 +19,7 @@ use crate::outcome::{Stop, Verdict};
 use crate::reading_inputs::{read_metamodels, read_models};
 use crate::script_input::script_at;
 use object_tables::Model;
-use ocl_types::Metas;
+use ocl_environments::Metas;
 use qv_syntax::Script;
 use std::alloc::Global;
 use vault_io::Vault;

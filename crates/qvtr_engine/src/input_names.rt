@@ -9,7 +9,7 @@ use crate::check_request::CheckRequest;
 use crate::judging::refusal;
 use crate::outcome::Stop;
 use mof_metamodel::{NoMemory, Seq, Text};
-use ocl_types::TypeFault;
+use ocl_environments::TypeFault;
 use qv_syntax::Script;
 use script_scopes::{NameFault, names_match, names_of_script};
 use std::alloc::Global;

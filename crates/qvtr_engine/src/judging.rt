@@ -1,6 +1,6 @@
 //! The last steps of a check: a script resolves, no chain of calls is refused, and the relations hold or don't.
 ghost use Rattle.std.specs.Prelude.{◌≡◌, ◌≤◌, ◌<◌, ◌^◌, List, ℕ, chars, length, IfOk, IfErr, OnOk};
-ghost use Rattle.ocl_types.specs.Environments.{most};
+ghost use Rattle.ocl_environments.specs.Environments.{most};
 ghost use Rattle.script_scopes.specs.Declarations.{IsRepeated, global_names};
 ghost use Rattle.script_scopes.specs.Environments.{metamodel_names};
 ghost use Rattle.qvtr_semantics.specs.Chains.{Chain};
@@ -19,7 +19,7 @@ use crate::asked::Asked;
 use crate::outcome::{Stop, Verdict};
 use check_mode::{Verdict as Judgement, check};
 use mof_metamodel::{NoMemory, Seq};
-use ocl_types::{Metas, TypeError, TypeFault};
+use ocl_environments::{Metas, TypeError, TypeFault};
 use qv_syntax::{Program, Script};
 use qvtr_types::resolve;
 use relation_calls::CallError;

@@ -1,6 +1,6 @@
 //! The metamodels and models of a check by their numbers: they are read in the order of the words, and numbered in the order of the script.
 ghost use Rattle.std.specs.Prelude.{◌≡◌, ◌≢◌, ℕ, List, true, is_some, All, IfOk, MatchOption};
-ghost use Rattle.ocl_types.specs.Environments.{no_meta};
+ghost use Rattle.ocl_environments.specs.Environments.{no_meta};
 ghost use Rattle.script_scopes.specs.Declarations.{IsRepeated};
 ghost use Rattle.script_scopes.specs.ScriptNames.{model_names};
 ghost use Rattle.qvtr_engine.specs.CheckedModels.{no_model};
@@ -8,8 +8,8 @@ ghost use Rattle.qvtr_engine.specs.FoundFiles.{item_named, items_named, StandsAt
 
 use mof_metamodel::{MetaModel, NoMemory, Text};
 use object_tables::Model;
+use ocl_environments::Metas;
 use ocl_eval::Models;
-use ocl_types::Metas;
 use qv_syntax::ModelTree;
 use script_scopes::is_name;
 use std::alloc::Global;

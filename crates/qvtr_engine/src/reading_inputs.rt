@@ -27,7 +27,7 @@ use crate::numbering_inputs::{Found, number_metas};
 use crate::outcome::Stop;
 use mof_metamodel::{MetaModel, NoMemory, Text};
 use object_tables::Model;
-use ocl_types::Metas;
+use ocl_environments::Metas;
 use qv_syntax::{ModelSlot, Script};
 use script_scopes::{is_name, metamodel_names, slots_of};
 use std::alloc::Global;

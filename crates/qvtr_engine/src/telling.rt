@@ -7,7 +7,7 @@ ghost use Rattle.fault_lines.specs.Lines.{shown};
 ghost use Rattle.mof_metamodel.specs.Metamodels.{enum_at, enum_count, literal_at};
 ghost use Rattle.object_tables.specs.Models.{id_at};
 ghost use Rattle.xmi_profile.specs.Canon.{boolean_text};
-ghost use Rattle.ocl_types.specs.Environments.{meta_at};
+ghost use Rattle.ocl_environments.specs.Environments.{meta_at};
 ghost use Rattle.relation_calls.specs.Names.{call_named, chain_named};
 ghost use Rattle.qvtr_engine.specs.AskedView.{asked_view};
 ghost use Rattle.qvtr_engine.specs.CheckReply as spec;

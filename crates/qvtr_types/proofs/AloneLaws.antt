@@ -12,7 +12,7 @@ use Rattle.qv_syntax.specs.declared.script.RelationTree.{RelationTree}
 use Rattle.qv_syntax.specs.TypedTrees.{Typing}
 use Rattle.qv_syntax.specs.ProgramTypes.{typing_of}
 use Rattle.qv_syntax.specs.Types.{AreRelated}
-use Rattle.ocl_types.specs.declared.fault.TypeFault.{TypeFault}
+use Rattle.ocl_environments.specs.declared.fault.TypeFault.{TypeFault}
 use Rattle.script_scopes.specs.Conjuncts.{clause_conjuncts, call_of}
 use Rattle.script_scopes.specs.Occurrences.{relations_of, occurrences, variables_of}
 use Rattle.script_scopes.specs.Environments.{Setting}

@@ -8,7 +8,7 @@ use Rattle.mof_metamodel.specs.declared.desc.MetaDesc.{MetaDesc}
 use Rattle.qv_syntax.specs.declared.expr.Expr.{Expr}
 use Rattle.qv_syntax.specs.declared.typed.Typed.{Typed}
 use Rattle.qv_syntax.specs.declared.program.Var.{Var}
-use Rattle.ocl_types.specs.Environments.{is_over}
+use Rattle.ocl_environments.specs.Environments.{is_over}
 use Rattle.qvtr_types.specs.Expressions.{HaveTypes}
 
 -- what stands in a list with one item more stood before, or is that item

@@ -10,7 +10,7 @@ use Rattle.mof_metamodel.specs.Characters.{same_name}
 use Rattle.qv_syntax.specs.declared.ty.Ty.{Ty}
 use Rattle.qv_syntax.specs.declared.program.Var.{Var}
 use Rattle.qv_syntax.specs.declared.script.RelationTree.{RelationTree}
-use Rattle.ocl_types.specs.Environments.{class_of}
+use Rattle.ocl_environments.specs.Environments.{class_of}
 use Rattle.script_scopes.specs.ScriptNames.{each_once}
 use Rattle.script_scopes.specs.Occurrences.{variables_of}
 use Rattle.script_scopes.specs.Divisions.{IsUniversal}

@@ -14,7 +14,7 @@ use Rattle.qv_syntax.specs.declared.script.DomainTree.TheVariants as domains
 use Rattle.qv_syntax.specs.declared.program.Marker.{Marker}
 use Rattle.qv_syntax.specs.declared.program.Tmpl.{Tmpl}
 use Rattle.qv_syntax.specs.declared.program.Dom.{Dom}
-use Rattle.ocl_types.specs.declared.fault.TypeFault.{TypeFault}
+use Rattle.ocl_environments.specs.declared.fault.TypeFault.{TypeFault}
 use Rattle.script_scopes.specs.Occurrences.{Piece, begun, template_body, template_count}
 use Rattle.script_scopes.specs.Occurrences.Piece.{begins}
 use Rattle.script_scopes.specs.Environments.{place_of}

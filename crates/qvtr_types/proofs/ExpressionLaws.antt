@@ -3,14 +3,14 @@ use Rattle.std.proofs.Common.{◌≡◌, List, Bool, true, false, ◌||◌, refl
 use Rattle.mof_metamodel.specs.declared.desc.MetaDesc.{MetaDesc}
 use Rattle.qv_syntax.specs.declared.ty.Ty.{Ty}
 use Rattle.qv_syntax.specs.Types.{AreRelated}
-use Rattle.ocl_types.specs.Environments.{Environment, is_over, AreWell}
-use Rattle.ocl_types.specs.Agreement.{fits, are_related}
+use Rattle.ocl_environments.specs.Environments.{Environment, is_over, AreWell}
+use Rattle.ocl_environments.specs.Agreement.{fits, are_related}
 use Rattle.qv_syntax.specs.declared.expr.Expr.{Expr}
 use Rattle.qv_syntax.specs.declared.typed.Typed.{Typed}
 use Rattle.qv_syntax.specs.TypedTrees.{IsTyped}
-use Rattle.ocl_types.specs.declared.part.TypedPart.{TypedPart}
+use Rattle.ocl_environments.specs.declared.part.TypedPart.{TypedPart}
 use Rattle.ocl_types.specs.HasType.{HasType}
-use Rattle.ocl_types.specs.Parts.{tree_of}
+use Rattle.ocl_environments.specs.Parts.{tree_of}
 use Rattle.ocl_types.specs.TypedContext.{context_of, variables_of, typing_of}
 use Rattle.qvtr_types.specs.Expressions.{HasTyping}
 use Rattle.ocl_types.proofs.TopLaws.{fits_where}

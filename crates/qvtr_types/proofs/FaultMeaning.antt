@@ -10,12 +10,12 @@ use Rattle.qv_syntax.specs.declared.script.DomainTree.{DomainTree}
 use Rattle.qv_syntax.specs.declared.program.Var.{Var}
 use Rattle.qv_syntax.specs.TypedTrees.{Typing}
 use Rattle.qv_syntax.specs.ProgramTypes.{typing_of}
-use Rattle.ocl_types.specs.declared.fault.TypeFault.{TypeFault}
-use Rattle.ocl_types.specs.declared.fault.TypeFault.TheVariants.{WrongCount}
-use Rattle.ocl_types.specs.declared.part.TypedPart.{TypedPart}
-use Rattle.ocl_types.specs.Environments.{Environment}
+use Rattle.ocl_environments.specs.declared.fault.TypeFault.{TypeFault}
+use Rattle.ocl_environments.specs.declared.fault.TypeFault.TheVariants.{WrongCount}
+use Rattle.ocl_environments.specs.declared.part.TypedPart.{TypedPart}
+use Rattle.ocl_environments.specs.Environments.{Environment}
 use Rattle.ocl_types.specs.TypedContext.{GivesTypedTree}
-use Rattle.ocl_types.specs.Outcomes.{wrong_type}
+use Rattle.ocl_environments.specs.Outcomes.{wrong_type}
 use Rattle.ocl_types.specs.HasType.{Stands}
 use Rattle.script_scopes.specs.Usages.{calls_in}
 use Rattle.script_scopes.specs.Conjuncts.{clause_conjuncts}

@@ -18,7 +18,7 @@ use Rattle.qv_syntax.specs.declared.program.Item.{Item}
 use Rattle.qv_syntax.specs.declared.program.ItemValue.TheOpen as layers
 use Rattle.qv_syntax.specs.declared.program.ItemValue.{ItemValue}
 use Rattle.qv_syntax.specs.declared.program.ItemValue.TheVariants as items
-use Rattle.ocl_types.specs.declared.fault.TypeFault.{TypeFault}
+use Rattle.ocl_environments.specs.declared.fault.TypeFault.{TypeFault}
 use Rattle.script_scopes.specs.Occurrences.{Piece, BodyPieces, template_body, item_pieces, variable_text, property_of}
 use Rattle.script_scopes.specs.Occurrences.Piece.{begins, asks}
 use Rattle.script_scopes.specs.ResolvedTemplates.{DomainReach, class_named, IsTemplate, AreItems, IsItem}

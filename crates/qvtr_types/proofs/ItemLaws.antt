@@ -7,7 +7,7 @@ use Rattle.mof_metamodel.specs.declared.desc.ClassId.{ClassId}
 use Rattle.qv_syntax.specs.declared.name.Path.{Path}
 use Rattle.qv_syntax.specs.declared.script.ItemTree.{ItemTree}
 use Rattle.qv_syntax.specs.declared.program.Item.{Item}
-use Rattle.ocl_types.specs.declared.fault.TypeFault.{TypeFault}
+use Rattle.ocl_environments.specs.declared.fault.TypeFault.{TypeFault}
 use Rattle.script_scopes.specs.Occurrences.{Piece, in_turn, item_pieces}
 use Rattle.script_scopes.specs.ResolvedTemplates.{DomainReach, AreItems, IsItem}
 use Rattle.qvtr_types.specs.TemplatePieces.{IsMeant, IsPieceFault}

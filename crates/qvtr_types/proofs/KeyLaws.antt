@@ -12,11 +12,11 @@ use Rattle.mof_metamodel.specs.Metamodels.{class_count}
 use Rattle.qv_syntax.specs.declared.script.KeyTree.{KeyTree}
 use Rattle.qv_syntax.specs.declared.program.Key.{Key}
 use Rattle.qv_syntax.specs.Keys.{AreOfTwoClasses}
-use Rattle.ocl_types.specs.declared.fault.TypeFault.{TypeFault}
-use Rattle.ocl_types.specs.Environments.{Environment, no_meta}
-use Rattle.ocl_types.specs.Classifiers.{named_class}
+use Rattle.ocl_environments.specs.declared.fault.TypeFault.{TypeFault}
+use Rattle.ocl_environments.specs.Environments.{Environment, no_meta}
+use Rattle.ocl_environments.specs.Classifiers.{named_class}
 use Rattle.ocl_types.proofs.ClassifierLaws.{class_there}
-use Rattle.ocl_types.proofs.TypeLaws.{both_true, and_true}
+use Rattle.ocl_environments.proofs.TypeLaws.{both_true, and_true}
 use Rattle.script_scopes.specs.Declarations.{key_class}
 use Rattle.script_scopes.specs.Keys.{IsKey, StandsInKey, IsSecondKey, AreKeys, StandsInKeys}
 use Rattle.qvtr_types.specs.ClassPlaces.{IsClassAt}

@@ -17,9 +17,9 @@ use Rattle.qv_syntax.specs.declared.program.Program.{Program}
 use Rattle.qv_syntax.specs.Keys.{AreOfTwoClasses}
 use Rattle.qv_syntax.specs.Keys as program
 use Rattle.qv_syntax.specs.Types.{IsClassIn}
-use Rattle.ocl_types.specs.declared.fault.TypeFault.{TypeFault}
-use Rattle.ocl_types.specs.Environments.{Environment, meta_at, no_meta}
-use Rattle.ocl_types.specs.Naming.{names_of, texts_of}
+use Rattle.ocl_environments.specs.declared.fault.TypeFault.{TypeFault}
+use Rattle.ocl_environments.specs.Environments.{Environment, meta_at, no_meta}
+use Rattle.ocl_environments.specs.Naming.{names_of, texts_of}
 use Rattle.ocl_types.proofs.ClassifierLaws.{class_there}
 use Rattle.script_scopes.specs.Declarations.{key_property}
 use Rattle.script_scopes.specs.Keys.{IsKey, IsShaped, StandsInKey, AreKeys, StandsInKeys}

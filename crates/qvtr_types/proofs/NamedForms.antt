@@ -23,14 +23,14 @@ use Rattle.qv_syntax.specs.declared.typed.Call.TheOpen as layers
 use Rattle.qv_syntax.specs.declared.typed.TypedInfix.{TypedInfix}
 use Rattle.qv_syntax.specs.declared.typed.TypedPostfix.{TypedPostfix}
 use Rattle.qv_syntax.specs.Parts.{IsWithin, node_parts, call_parts, parts_of_call}
-use Rattle.ocl_types.specs.declared.part.TypedPart.{TypedPart}
-use Rattle.ocl_types.specs.declared.part.CallsSoFar.{CallsSoFar}
-use Rattle.ocl_types.specs.declared.variable.Variable.{Variable}
-use Rattle.ocl_types.specs.Environments.{Environment, is_bound, with_variable}
-use Rattle.ocl_types.specs.Parts.{tree_of, trees_of, and_called}
-use Rattle.ocl_types.specs.Naming.{names_of}
-use Rattle.ocl_types.specs.Agreement.{collection_parts}
-use Rattle.ocl_types.specs.Classifiers.{named_class}
+use Rattle.ocl_environments.specs.declared.part.TypedPart.{TypedPart}
+use Rattle.ocl_environments.specs.declared.part.CallsSoFar.{CallsSoFar}
+use Rattle.ocl_environments.specs.declared.variable.Variable.{Variable}
+use Rattle.ocl_environments.specs.Environments.{Environment, is_bound, with_variable}
+use Rattle.ocl_environments.specs.Parts.{tree_of, trees_of, and_called}
+use Rattle.ocl_environments.specs.Naming.{names_of}
+use Rattle.ocl_environments.specs.Agreement.{collection_parts}
+use Rattle.ocl_environments.specs.Classifiers.{named_class}
 use Rattle.ocl_types.specs.Operations.{iterator_row, operation_named, class_operation_named, collection_operation_named, iterator_named}
 use Rattle.ocl_types.specs.TypingCollections.{element_of, gathered, gathered_by}
 use Rattle.ocl_types.specs.Judged.{Judged}

@@ -21,14 +21,14 @@ use Rattle.qv_syntax.specs.declared.typed.Call.TheOpen as layers
 use Rattle.qv_syntax.specs.declared.typed.TypedInfix.{TypedInfix}
 use Rattle.qv_syntax.specs.declared.typed.TypedPostfix.{TypedPostfix}
 use Rattle.qv_syntax.specs.Parts.{Names, node_parts, parts_of_call}
-use Rattle.ocl_types.specs.declared.part.TypedPart.{TypedPart}
-use Rattle.ocl_types.specs.declared.part.CallsSoFar.{CallsSoFar}
-use Rattle.ocl_types.specs.declared.part.Chained.{Chained}
-use Rattle.ocl_types.specs.Environments.{Environment, with_variable}
-use Rattle.ocl_types.specs.Naming.{names_of, texts_of}
-use Rattle.ocl_types.specs.Classifiers.{named_literal, named_class}
-use Rattle.ocl_types.specs.Environments as environments
-use Rattle.ocl_types.specs.Parts.{tree_of, trees_of, plain_part, uncalled}
+use Rattle.ocl_environments.specs.declared.part.TypedPart.{TypedPart}
+use Rattle.ocl_environments.specs.declared.part.CallsSoFar.{CallsSoFar}
+use Rattle.ocl_environments.specs.declared.part.Chained.{Chained}
+use Rattle.ocl_environments.specs.Environments.{Environment, with_variable}
+use Rattle.ocl_environments.specs.Naming.{names_of, texts_of}
+use Rattle.ocl_environments.specs.Classifiers.{named_literal, named_class}
+use Rattle.ocl_environments.specs.Environments as environments
+use Rattle.ocl_environments.specs.Parts.{tree_of, trees_of, plain_part, uncalled}
 use Rattle.ocl_types.specs.TypingOperators.{unchained, chain_part}
 use Rattle.ocl_types.specs.Typing.{called_whole, path_of_extent, short_path, is_all_instances}
 use Rattle.ocl_types.specs.TypingScopes.{let_part}
@@ -37,7 +37,7 @@ use Rattle.ocl_types.specs.TypeRules.{linked_judged, names_judged, literal_judge
 use Rattle.ocl_types.specs.HasType.{Judgment, LinkJudgment, CallJudgment, ArgsJudgment, each, linked, called, called_part_judged, first_judged, calls_judged, query_args, dot_args, arrow_args, expr_rule, link_rule_of, call_rule, args_rule, judgment, link_judgment, call_judgment, args_judgment, HasType, HasTree}
 use Rattle.ocl_types.proofs.JudgmentLaws.{expr_unrolled, link_unrolled, call_unrolled, args_unrolled}
 use Rattle.ocl_types.proofs.TypedParts.{finds_has}
-use Rattle.ocl_types.proofs.TypeLaws.{both_true}
+use Rattle.ocl_environments.proofs.TypeLaws.{both_true}
 use Rattle.script_scopes.specs.declared.usage.Usage.{Usage}
 use Rattle.script_scopes.specs.declared.usage.Usage.TheVariants as usages_of
 use Rattle.script_scopes.specs.Usages.{ExprUsages, CallUsages, ArgsUsages, without, variable_in, named_usages, is_extent, calls_usages, expr_step, infix_step, postfix_step, args_step, expr_usages, infix_usages, postfix_usages, args_usages, usages, variables_in}

@@ -13,7 +13,7 @@ use Rattle.qv_syntax.specs.declared.script.Script.{Script}
 use Rattle.qv_syntax.specs.declared.script.DomainTree.{DomainTree}
 use Rattle.qv_syntax.specs.declared.script.DomainTree.TheVariants as domains
 use Rattle.qv_syntax.specs.declared.script.RelationTree.{RelationTree}
-use Rattle.ocl_types.specs.Environments.{Environment}
+use Rattle.ocl_environments.specs.Environments.{Environment}
 use Rattle.script_scopes.specs.Occurrences.{WrittenProperty, template_count, pieces_of, piece_variables, root_of, domain_variables, domains_variables, clause_variables, declared_names, occurrences, variables_of}
 use Rattle.script_scopes.specs.Occurrences.Piece.{begins}
 use Rattle.script_scopes.specs.Divisions.{first_template, HasPiece}

@@ -20,12 +20,12 @@ use Rattle.qv_syntax.specs.declared.script.RelationTree.{RelationTree}
 use Rattle.qv_syntax.specs.Types.{AreRelated}
 use Rattle.qv_syntax.specs.TypeRules.{HasProperty, value_type}
 use Rattle.qv_syntax.specs.TypedTrees.{Typing}
-use Rattle.ocl_types.specs.declared.fault.TypeFault.{TypeFault}
-use Rattle.ocl_types.specs.declared.fault.TypeFault.TheVariants.{UnknownName}
-use Rattle.ocl_types.specs.declared.part.TypedPart.{TypedPart}
-use Rattle.ocl_types.specs.Environments.{no_meta, meta_at, class_of}
+use Rattle.ocl_environments.specs.declared.fault.TypeFault.{TypeFault}
+use Rattle.ocl_environments.specs.declared.fault.TypeFault.TheVariants.{UnknownName}
+use Rattle.ocl_environments.specs.declared.part.TypedPart.{TypedPart}
+use Rattle.ocl_environments.specs.Environments.{no_meta, meta_at, class_of}
 use Rattle.ocl_types.specs.HasType.{HasType, HasTree, Stands}
-use Rattle.ocl_types.specs.Outcomes.{wrong_type}
+use Rattle.ocl_environments.specs.Outcomes.{wrong_type}
 use Rattle.ocl_types.specs.Typing.{typed}
 use Rattle.ocl_types.proofs.LayerLaws.{class_of_class}
 use Rattle.script_scopes.specs.ScriptNames.{model_names}

@@ -8,9 +8,9 @@ use Rattle.qv_syntax.specs.declared.program.Var.{Var}
 use Rattle.qv_syntax.specs.Types.{AreRelated}
 use Rattle.qv_syntax.specs.TypedTrees.{Typing}
 use Rattle.qv_syntax.specs.ProgramTypes.{typing_of}
-use Rattle.ocl_types.specs.declared.fault.TypeFault.{TypeFault}
-use Rattle.ocl_types.specs.declared.part.TypedPart.{TypedPart}
-use Rattle.ocl_types.specs.Environments.{Environment}
+use Rattle.ocl_environments.specs.declared.fault.TypeFault.{TypeFault}
+use Rattle.ocl_environments.specs.declared.part.TypedPart.{TypedPart}
+use Rattle.ocl_environments.specs.Environments.{Environment}
 use Rattle.ocl_types.specs.HasType.{HasType, HasTree, Stands}
 use Rattle.ocl_types.specs.TypedContext as context
 use Rattle.ocl_types.specs.Typing.{typed}

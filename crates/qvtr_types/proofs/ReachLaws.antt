@@ -26,16 +26,16 @@ use Rattle.qv_syntax.specs.declared.script.DomainTree.{DomainTree}
 use Rattle.qv_syntax.specs.declared.script.DomainTree.TheVariants as domains
 use Rattle.qv_syntax.specs.declared.script.RelationTree.{RelationTree}
 use Rattle.qv_syntax.specs.Types.{AreRelated, ConformsTo}
-use Rattle.ocl_types.specs.declared.fault.TypeFault.{TypeFault}
-use Rattle.ocl_types.specs.Agreement.{collection_layer}
-use Rattle.ocl_types.specs.Environments.{Environment, meta_at, is_over, is_over_step, is_flat, is_flat_layer, is_type, class_of, slot_at, is_object_type, is_variable}
-use Rattle.ocl_types.specs.Naming.{names_of}
-use Rattle.ocl_types.specs.Outcomes.{RuleResult, and_then}
+use Rattle.ocl_environments.specs.declared.fault.TypeFault.{TypeFault}
+use Rattle.ocl_environments.specs.Agreement.{collection_layer}
+use Rattle.ocl_environments.specs.Environments.{Environment, meta_at, is_over, is_over_step, is_flat, is_flat_layer, is_type, class_of, slot_at, is_object_type, is_variable}
+use Rattle.ocl_environments.specs.Naming.{names_of}
+use Rattle.ocl_environments.specs.Outcomes.{RuleResult, and_then}
 use Rattle.ocl_types.specs.TypingScopes.{flat, flat_by}
-use Rattle.ocl_types.specs.Written.{written}
+use Rattle.ocl_environments.specs.Written.{written}
 use Rattle.ocl_types.proofs.DeclaredLemmas.{declared_is_type}
 use Rattle.ocl_types.proofs.LayerLaws.{class_of_class, is_class}
-use Rattle.ocl_types.proofs.TypeLaws.{and_true}
+use Rattle.ocl_environments.proofs.TypeLaws.{and_true}
 use Rattle.script_scopes.specs.ScriptNames.{model_names}
 use Rattle.script_scopes.specs.Conjuncts.{clause_conjuncts}
 use Rattle.script_scopes.specs.Occurrences.{WrittenProperty, relations_of, occurrences, variables_of, root_of, template_body}

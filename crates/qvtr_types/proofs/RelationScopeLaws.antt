@@ -9,7 +9,7 @@ use Rattle.std.proofs.lemmas.Map.Made.{is_some-lookup}
 use Rattle.mof_metamodel.specs.Characters.{same_name}
 use Rattle.mof_metamodel.specs.NameTables.{NamesWith, value_of}
 use Rattle.qv_syntax.specs.declared.program.Var.{Var}
-use Rattle.ocl_types.specs.declared.variable.Variable.{Variable}
+use Rattle.ocl_environments.specs.declared.variable.Variable.{Variable}
 use Rattle.script_scopes.specs.Declarations.{IsRepeated}
 use Rattle.script_scopes.specs.Environments.{named_variables}
 use Rattle.script_scopes.proofs.NameLemmas.{has_name}

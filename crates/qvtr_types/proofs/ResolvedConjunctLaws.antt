@@ -15,7 +15,7 @@ use Rattle.qv_syntax.specs.declared.program.Conj.TheVariants as conjs
 use Rattle.qv_syntax.specs.declared.script.BlockTree.{BlockTree}
 use Rattle.qv_syntax.specs.declared.script.RelationTree.{RelationTree}
 use Rattle.qv_syntax.specs.TypedTrees.{Typing}
-use Rattle.ocl_types.specs.Environments.{Environment}
+use Rattle.ocl_environments.specs.Environments.{Environment}
 use Rattle.ocl_types.specs.HasType.{HasTree}
 use Rattle.script_scopes.specs.Conjuncts.{clause_conjuncts, call_of}
 use Rattle.script_scopes.specs.Occurrences.{variables_of}

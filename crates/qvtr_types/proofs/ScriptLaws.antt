@@ -11,10 +11,10 @@ use Rattle.qv_syntax.specs.declared.program.Rel.{Rel}
 use Rattle.qv_syntax.specs.declared.program.Var.{Var}
 use Rattle.qv_syntax.specs.declared.script.RelationTree.{RelationTree}
 use Rattle.qv_syntax.specs.declared.script.Script.{Script}
-use Rattle.ocl_types.specs.declared.fault.TypeFault.{TypeFault}
-use Rattle.ocl_types.specs.declared.variable.Signature.{Signature}
-use Rattle.ocl_types.specs.Environments.{Environment, without_queries}
-use Rattle.ocl_types.specs.Outcomes.{RuleResult}
+use Rattle.ocl_environments.specs.declared.fault.TypeFault.{TypeFault}
+use Rattle.ocl_environments.specs.declared.variable.Signature.{Signature}
+use Rattle.ocl_environments.specs.Environments.{Environment, without_queries}
+use Rattle.ocl_environments.specs.Outcomes.{RuleResult}
 use Rattle.ocl_types.specs.Queries.{AreQueries}
 use Rattle.ocl_types.specs.QueryTyping.{queries_typed, signed}
 use Rattle.script_scopes.specs.ScriptNames.{model_names, each_once}

@@ -4,12 +4,12 @@ use Rattle.std.specs.Prelude.{Result, IfOk, OnOk}
 use Rattle.call_graph.specs.Graphs.{IsOnCycle}
 use Rattle.qv_syntax.specs.declared.query.Query.{Query}
 use Rattle.qv_syntax.specs.declared.query.QueryTree.{QueryTree}
-use Rattle.ocl_types.specs.declared.fault.TypeFault.{TypeFault}
-use Rattle.ocl_types.specs.declared.fault.TypeFault.TheVariants.{QueryCycle}
-use Rattle.ocl_types.specs.Environments.{Environment}
+use Rattle.ocl_environments.specs.declared.fault.TypeFault.{TypeFault}
+use Rattle.ocl_environments.specs.declared.fault.TypeFault.TheVariants.{QueryCycle}
+use Rattle.ocl_environments.specs.Environments.{Environment}
 use Rattle.ocl_types.specs.Queries.{AreQueries, StandInQueries}
 use Rattle.ocl_types.specs.QueryTyping.{queries_typed, IsFirstFault}
-use Rattle.ocl_types.specs.QueryCalls.{rows_of, IsCycleFault}
+use Rattle.ocl_environments.specs.QueryCalls.{rows_of, IsCycleFault}
 use Rattle.qv_syntax.specs.QueryCalls.{Reaches, AreAcyclic}
 use Rattle.ocl_types.proofs.CycleLaws.{cycle_reached}
 use Rattle.ocl_types.proofs.JudgedLaws.{ok_err, ok_ok}

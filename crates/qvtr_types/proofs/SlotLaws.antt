@@ -6,7 +6,7 @@ use Rattle.mof_metamodel.proofs.SearchLemmas.{passes_all}
 use Rattle.qv_syntax.specs.declared.query.ModelSlot.{ModelSlot}
 use Rattle.qv_syntax.specs.declared.script.ModelTree.{ModelTree}
 use Rattle.qv_syntax.specs.declared.script.Script.{Script}
-use Rattle.ocl_types.specs.Environments.{have_metas}
+use Rattle.ocl_environments.specs.Environments.{have_metas}
 use Rattle.script_scopes.specs.ScriptNames.{meta_names}
 use Rattle.script_scopes.specs.Environments.{metamodel_names, place_of, slot_of, slots_of}
 use Rattle.script_scopes.proofs.MemberLemmas.{once_has, from_map, to_map}

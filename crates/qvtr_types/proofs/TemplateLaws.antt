@@ -14,14 +14,14 @@ use Rattle.mof_metamodel.specs.Metamodels.{class_count, class_number, no_class, 
 use Rattle.qv_syntax.specs.declared.ty.Ty.{Ty}
 use Rattle.qv_syntax.specs.declared.ty.Ty.TheVariants as types
 use Rattle.qv_syntax.specs.declared.typed.Values.{Values}
-use Rattle.ocl_types.specs.Environments.{no_meta, meta_at, is_over}
-use Rattle.ocl_types.specs.Navigation.{value_type, values_of}
-use Rattle.ocl_types.specs.Naming.{names_of}
+use Rattle.ocl_environments.specs.Environments.{no_meta, meta_at, is_over}
+use Rattle.ocl_environments.specs.Navigation.{value_type, values_of}
+use Rattle.ocl_environments.specs.Naming.{names_of}
 use Rattle.ocl_types.specs.TypeRules.{HasPropertyNamed}
 use Rattle.ocl_types.specs.TypingSteps.{described}
 use Rattle.ocl_types.proofs.NumberLaws.{class_property_is}
 use Rattle.ocl_types.proofs.RangeLaws.{true_lt, property_over, over_class}
-use Rattle.ocl_types.proofs.TypeLaws.{and_true}
+use Rattle.ocl_environments.proofs.TypeLaws.{and_true}
 use Rattle.script_scopes.specs.Occurrences.{WrittenProperty}
 use Rattle.script_scopes.specs.Declarations.{template_class}
 use Rattle.qvtr_types.specs.ClassPlaces.{IsClassAt}

@@ -3,7 +3,7 @@ use Rattle.std.specs.Prelude.{◌<◌, ℕ, List, length}
 use Rattle.mof_metamodel.specs.declared.desc.MetaDesc.{MetaDesc}
 use Rattle.mof_metamodel.specs.declared.desc.ClassId.{ClassId}
 use Rattle.mof_metamodel.specs.Metamodels.{class_count}
-use Rattle.ocl_types.specs.Environments.{meta_at}
+use Rattle.ocl_environments.specs.Environments.{meta_at}
 
 -- the metamodels have the class
 abbrev pub IsClassAt : List MetaDesc → ℕ × ClassId → Type 0

@@ -10,15 +10,15 @@ use Rattle.qv_syntax.specs.Types.{AreRelated}
 use Rattle.qv_syntax.specs.TypeRules.{AreComparable}
 use Rattle.qv_syntax.specs.TypedTrees.{Typing, IsTyped}
 use Rattle.qv_syntax.specs.ProgramTypes.{typing_of, Fits}
-use Rattle.ocl_types.specs.declared.fault.TypeFault.{TypeFault}
-use Rattle.ocl_types.specs.declared.fault.TypeFault.TheVariants.{WrongCount, ModelMix}
-use Rattle.ocl_types.specs.declared.part.TypedPart.{TypedPart}
-use Rattle.ocl_types.specs.declared.variable.Variable.{Variable}
-use Rattle.ocl_types.specs.Environments.{Environment, is_over}
+use Rattle.ocl_environments.specs.declared.fault.TypeFault.{TypeFault}
+use Rattle.ocl_environments.specs.declared.fault.TypeFault.TheVariants.{WrongCount, ModelMix}
+use Rattle.ocl_environments.specs.declared.part.TypedPart.{TypedPart}
+use Rattle.ocl_environments.specs.declared.variable.Variable.{Variable}
+use Rattle.ocl_environments.specs.Environments.{Environment, is_over}
 use Rattle.ocl_types.specs.HasType.{HasType, Stands}
 use Rattle.ocl_types.specs.TypeRules.{IsFirstNamed}
-use Rattle.ocl_types.specs.Outcomes.{wrong_type}
-use Rattle.ocl_types.specs.Parts.{tree_of}
+use Rattle.ocl_environments.specs.Outcomes.{wrong_type}
+use Rattle.ocl_environments.specs.Parts.{tree_of}
 use Rattle.ocl_types.specs.TypedContext.{context_of, variables_of}
 use Rattle.ocl_types.specs.TypedContext as context
 

@@ -5,10 +5,10 @@ use Rattle.mof_metamodel.specs.declared.desc.ClassId.{ClassId}
 use Rattle.qv_syntax.specs.declared.name.Name.{Name}
 use Rattle.qv_syntax.specs.declared.script.KeyTree.{KeyTree}
 use Rattle.qv_syntax.specs.declared.program.Key.{Key}
-use Rattle.ocl_types.specs.declared.fault.TypeFault.{TypeFault}
-use Rattle.ocl_types.specs.declared.fault.TypeFault.TheVariants.{UnknownName, KeyShape}
-use Rattle.ocl_types.specs.Environments.{Environment}
-use Rattle.ocl_types.specs.Naming.{path_text, texts_of}
+use Rattle.ocl_environments.specs.declared.fault.TypeFault.{TypeFault}
+use Rattle.ocl_environments.specs.declared.fault.TypeFault.TheVariants.{UnknownName, KeyShape}
+use Rattle.ocl_environments.specs.Environments.{Environment}
+use Rattle.ocl_environments.specs.Naming.{path_text, texts_of}
 use Rattle.script_scopes.specs.Declarations.{key_property}
 use Rattle.script_scopes.specs.Keys.{IsKey, IsShaped, StandsInKey}
 

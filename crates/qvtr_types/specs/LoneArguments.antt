@@ -6,8 +6,8 @@ use Rattle.mof_metamodel.specs.Characters.{same_name}
 use Rattle.qv_syntax.specs.declared.expr.Expr.{Expr}
 use Rattle.qv_syntax.specs.declared.program.Var.{Var}
 use Rattle.qv_syntax.specs.Types.{AreRelated}
-use Rattle.ocl_types.specs.declared.fault.TypeFault.{TypeFault}
-use Rattle.ocl_types.specs.Outcomes.{wrong_type}
+use Rattle.ocl_environments.specs.declared.fault.TypeFault.{TypeFault}
+use Rattle.ocl_environments.specs.Outcomes.{wrong_type}
 use Rattle.script_scopes.specs.Conjuncts.{name_alone, call_of}
 use Rattle.qvtr_types.specs.ResolvedConjuncts.{ClauseReach}
 use Rattle.qvtr_types.specs.RootVariables.{IsNamed}

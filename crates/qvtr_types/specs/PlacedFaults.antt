@@ -15,11 +15,11 @@ use Rattle.qv_syntax.specs.declared.program.Var.{Var}
 use Rattle.qv_syntax.specs.Types.{AreRelated}
 use Rattle.qv_syntax.specs.TypedTrees.{Typing}
 use Rattle.qv_syntax.specs.ProgramTypes.{typing_of}
-use Rattle.ocl_types.specs.declared.fault.TypeFault.{TypeFault}
-use Rattle.ocl_types.specs.declared.fault.TypeFault.TheVariants.{UnknownName, WrongType}
-use Rattle.ocl_types.specs.Environments.{meta_at}
+use Rattle.ocl_environments.specs.declared.fault.TypeFault.{TypeFault}
+use Rattle.ocl_environments.specs.declared.fault.TypeFault.TheVariants.{UnknownName, WrongType}
+use Rattle.ocl_environments.specs.Environments.{meta_at}
 use Rattle.ocl_types.specs.HasType.{Stands}
-use Rattle.ocl_types.specs.Naming.{names_of, type_text}
+use Rattle.ocl_environments.specs.Naming.{names_of, type_text}
 use Rattle.script_scopes.specs.Conjuncts.{clause_conjuncts, name_alone, call_of, is_null}
 use Rattle.script_scopes.specs.Occurrences.{WrittenProperty, Piece, variables_of}
 use Rattle.script_scopes.specs.Occurrences.Piece.{begins, asks}

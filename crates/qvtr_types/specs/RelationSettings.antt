@@ -2,7 +2,7 @@
 use Rattle.std.specs.Prelude.{◌≡◌, ℕ, List, map, Contains}
 use Rattle.qv_syntax.specs.declared.program.Var.{Var}
 use Rattle.qv_syntax.specs.declared.script.RelationTree.{RelationTree}
-use Rattle.ocl_types.specs.declared.fault.TypeFault.{TypeFault}
+use Rattle.ocl_environments.specs.declared.fault.TypeFault.{TypeFault}
 use Rattle.qvtr_types.specs.declared.domains.RelationScope.{RelationScope}
 use Rattle.script_scopes.specs.Occurrences.{relations_of, variables_of}
 use Rattle.script_scopes.specs.Environments.{Setting, in_relation, slots_of, metamodel_names}

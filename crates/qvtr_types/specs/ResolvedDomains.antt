@@ -8,8 +8,8 @@ use Rattle.qv_syntax.specs.declared.script.DomainTree.TheVariants as domains
 use Rattle.qv_syntax.specs.declared.program.Dom.{Dom}
 use Rattle.qv_syntax.specs.declared.program.Marker.TheVariants as markers
 use Rattle.qv_syntax.specs.declared.program.Tmpl.{Tmpl}
-use Rattle.ocl_types.specs.declared.fault.TypeFault.{TypeFault}
-use Rattle.ocl_types.specs.Environments.{Environment}
+use Rattle.ocl_environments.specs.declared.fault.TypeFault.{TypeFault}
+use Rattle.ocl_environments.specs.Environments.{Environment}
 use Rattle.qvtr_types.specs.declared.domains.RelationScope.{RelationScope}
 use Rattle.script_scopes.specs.Occurrences.{Piece, template_count}
 use Rattle.script_scopes.specs.Divisions.{model_of}

@@ -8,8 +8,8 @@ use Rattle.qv_syntax.specs.declared.script.RelationTree.{RelationTree}
 use Rattle.qv_syntax.specs.declared.program.Key.{Key}
 use Rattle.qv_syntax.specs.declared.program.Program.{Program}
 use Rattle.qv_syntax.specs.declared.program.Rel.{Rel}
-use Rattle.ocl_types.specs.declared.fault.TypeFault.{TypeFault}
-use Rattle.ocl_types.specs.Environments.{Environment}
+use Rattle.ocl_environments.specs.declared.fault.TypeFault.{TypeFault}
+use Rattle.ocl_environments.specs.Environments.{Environment}
 use Rattle.script_scopes.specs.ScriptNames.{model_names}
 use Rattle.script_scopes.specs.Occurrences.{relations_of}
 use Rattle.script_scopes.specs.Directions.{IsMisplaced}

@@ -3,8 +3,8 @@ use Rattle.std.specs.Prelude.{◌≡◌, ℕ, List, map, chars, All, Contains}
 use Rattle.std.specs.List.{AllZip}
 use Rattle.qv_syntax.specs.declared.program.Var.{Var}
 use Rattle.qv_syntax.specs.declared.script.RelationTree.{RelationTree}
-use Rattle.ocl_types.specs.declared.fault.TypeFault.{TypeFault}
-use Rattle.ocl_types.specs.Environments.{Environment, without_variables}
+use Rattle.ocl_environments.specs.declared.fault.TypeFault.{TypeFault}
+use Rattle.ocl_environments.specs.Environments.{Environment, without_variables}
 use Rattle.qvtr_types.specs.declared.relations.ScriptScope.{ScriptScope}
 use Rattle.script_scopes.specs.Conjuncts.{clause_conjuncts}
 use Rattle.script_scopes.specs.Occurrences.{relations_of, variables_of}

@@ -14,12 +14,12 @@ use Rattle.qv_syntax.specs.declared.program.ItemValue.TheVariants as items
 use Rattle.qv_syntax.specs.Types.{AreRelated}
 use Rattle.qv_syntax.specs.TypeRules.{HasProperty}
 use Rattle.qv_syntax.specs.TypedTrees.{Typing}
-use Rattle.ocl_types.specs.declared.fault.TypeFault.{TypeFault}
-use Rattle.ocl_types.specs.declared.fault.TypeFault.TheVariants.{UnknownName}
-use Rattle.ocl_types.specs.Environments.{meta_at}
+use Rattle.ocl_environments.specs.declared.fault.TypeFault.{TypeFault}
+use Rattle.ocl_environments.specs.declared.fault.TypeFault.TheVariants.{UnknownName}
+use Rattle.ocl_environments.specs.Environments.{meta_at}
 use Rattle.ocl_types.specs.HasType.{HasTree, Stands}
-use Rattle.ocl_types.specs.Naming.{path_text}
-use Rattle.ocl_types.specs.Outcomes.{wrong_type}
+use Rattle.ocl_environments.specs.Naming.{path_text}
+use Rattle.ocl_environments.specs.Outcomes.{wrong_type}
 use Rattle.script_scopes.specs.Conjuncts.{is_null}
 use Rattle.script_scopes.specs.Occurrences.{WrittenProperty, Piece, property_of}
 use Rattle.script_scopes.specs.Occurrences.Piece.{begins, asks}

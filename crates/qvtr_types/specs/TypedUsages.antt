@@ -2,8 +2,8 @@
 use Rattle.std.specs.Prelude.{◌<◌, ℕ, List, length, Contains}
 use Rattle.qv_syntax.specs.declared.typed.Typed.{Typed}
 use Rattle.qv_syntax.specs.Parts.{Names}
-use Rattle.ocl_types.specs.declared.variable.Variable.{Variable}
-use Rattle.ocl_types.specs.Environments.{Environment}
+use Rattle.ocl_environments.specs.declared.variable.Variable.{Variable}
+use Rattle.ocl_environments.specs.Environments.{Environment}
 use Rattle.ocl_types.specs.TypeRules.{IsFirstNamed}
 
 -- the name is that of this variable in reach, the first one of the name

@@ -1,7 +1,7 @@
 //! The when and where clauses of a relation, resolved (QVT 1.3, section 7.11.1.4).
 ghost use Rattle.std.specs.Prelude.{◌≡◌, IfOk, OnOk};
-ghost use Rattle.ocl_types.specs.declared.fault.TypeFault.{TypeFault as Fault};
-ghost use Rattle.ocl_types.specs.Written.{IfFault};
+ghost use Rattle.ocl_environments.specs.declared.fault.TypeFault.{TypeFault as Fault};
+ghost use Rattle.ocl_environments.specs.Written.{IfFault};
 ghost use Rattle.script_scopes.specs.Conjuncts.{clause_conjuncts};
 ghost use Rattle.script_scopes.specs.Divisions.{IsWhenEquation, IsWhereEquation};
 ghost use Rattle.script_scopes.specs.Environments.{Setting};
@@ -12,7 +12,7 @@ ghost use Rattle.qvtr_types.specs.ClauseSettings.{vars_of, IsClauseScopeOf};
 use crate::laws::places_are_told;
 use crate::resolved_conjuncts::{ClauseScope, resolve_conjuncts};
 use mof_metamodel::Seq;
-use ocl_types::TypeError;
+use ocl_environments::TypeError;
 use qv_syntax::{Conj, RelationTree};
 use std::alloc::Global;
 

@@ -1,13 +1,13 @@
 //! The variables of the relations of a script (QVT 1.3, sections 7.11.1 and 7.11.2).
 ghost use Rattle.std.specs.Prelude.{map, chars, IfOk};
 ghost use Rattle.std.specs.List.{AllZip};
-ghost use Rattle.ocl_types.specs.Written.{IfFault};
+ghost use Rattle.ocl_environments.specs.Written.{IfFault};
 ghost use Rattle.script_scopes.specs.Environments.{Setting};
 ghost use Rattle.script_variables.specs.ScriptSettings.{AreOfScript, StandsInOneOf};
 ghost use Rattle.qvtr_types.specs.ScriptScopes.{IsDeclared};
 
 use mof_metamodel::Seq;
-use ocl_types::{Env, TypeError};
+use ocl_environments::{Env, TypeError};
 use qv_syntax::{RelationTree, Var};
 use script_variables::{ScriptTables, relation_variables};
 use std::alloc::Global;

@@ -1,8 +1,8 @@
 ghost use Rattle.std.specs.Prelude.{◌≡◌, map, Some, IfOk, IfSome};
 ghost use Rattle.std.specs.Option.{option_map};
 ghost use Rattle.mof_metamodel.specs.Metamodels.{prop_number, type_of};
-ghost use Rattle.ocl_types.specs.Environments.{meta_at};
-ghost use Rattle.ocl_types.specs.Navigation.{value_type};
+ghost use Rattle.ocl_environments.specs.Environments.{meta_at};
+ghost use Rattle.ocl_environments.specs.Navigation.{value_type};
 ghost use Rattle.qvtr_types.specs.ClassPlaces.{IsClassAt};
 ghost use Rattle.script_scopes.specs.Environments.{place_of as place};
 ghost use Rattle.script_scopes.specs.Occurrences.{variable_text as text_of_variable};
@@ -10,7 +10,7 @@ ghost use Rattle.script_scopes.specs.ResolvedTemplates.{class_named as class_of_
 
 use crate::properties::typed_prop;
 use mof_metamodel::{ClassId, NameTable, NoMemory, PropId, Text};
-use ocl_types::Env;
+use ocl_environments::Env;
 use qv_syntax::{Name, Path, Ty};
 use script_scopes::{place_of, template_class, variable_of, variable_text};
 use std::alloc::Global;

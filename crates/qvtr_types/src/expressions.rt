@@ -4,14 +4,15 @@ ghost use Rattle.qv_syntax.specs.declared.typed.Typed.{Typed as Tree};
 ghost use Rattle.qv_syntax.specs.Types.{AreRelated};
 ghost use Rattle.ocl_types.specs.HasType.{HasTree};
 ghost use Rattle.script_scopes.specs.Conjuncts.{equation_of};
-ghost use Rattle.ocl_types.specs.declared.fault.TypeFault.TheVariants.{WrongCount, ModelMix};
-ghost use Rattle.ocl_types.specs.Environments.{AreWell, is_over};
-ghost use Rattle.ocl_types.specs.Outcomes.{wrong_type as wrong};
-ghost use Rattle.ocl_types.specs.Written.{IfFault};
+ghost use Rattle.ocl_environments.specs.declared.fault.TypeFault.TheVariants.{WrongCount, ModelMix};
+ghost use Rattle.ocl_environments.specs.Environments.{AreWell, is_over};
+ghost use Rattle.ocl_environments.specs.Outcomes.{wrong_type as wrong};
+ghost use Rattle.ocl_environments.specs.Written.{IfFault};
 ghost use Rattle.qvtr_types.specs.Expressions.{HaveTypes, IsCondition, StandsInCondition, IsEquated, IsGiven, StandsInGiven, AreArguments, StandsInArguments};
 
 use mof_metamodel::{MetaModel, Seq, Text};
-use ocl_types::{Env, TypeError, TypeFault, are_related, one_type_is_had, type_whole, wrong_type};
+use ocl_environments::{Env, TypeError, TypeFault, are_related, wrong_type};
+use ocl_types::{one_type_is_had, type_whole};
 use qv_syntax::{Expr, Ty, Typed, Var};
 use std::alloc::Global;
 

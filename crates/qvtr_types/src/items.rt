@@ -1,6 +1,6 @@
 ghost use Rattle.std.specs.Prelude.{◌≡◌, Some, IsTrue, IfOk, OnOk};
-ghost use Rattle.ocl_types.specs.Environments.{is_over};
-ghost use Rattle.ocl_types.specs.Written.{IfFault};
+ghost use Rattle.ocl_environments.specs.Environments.{is_over};
+ghost use Rattle.ocl_environments.specs.Written.{IfFault};
 ghost use Rattle.script_scopes.specs.BorrowedPieces.{shown_property};
 ghost use Rattle.script_scopes.specs.ResolvedTemplates.{class_named as class_of_path};
 ghost use Rattle.qvtr_types.specs.TemplatePieces.{IsItemProperty, LacksProperty, IsUnknownClass, IsValueOf, HasValue, StandsInValue, IsNested, StandsInNested};
@@ -8,7 +8,8 @@ ghost use Rattle.qvtr_types.specs.TemplatePieces.{IsItemProperty, LacksProperty,
 use crate::domain_scope::DomainScope;
 use crate::expressions::{WantedValue, refuse_unrelated, type_given};
 use mof_metamodel::{ClassId, PropId, Text};
-use ocl_types::{TypeError, TypeFault, path_text, type_whole};
+use ocl_environments::{TypeError, TypeFault, path_text};
+use ocl_types::type_whole;
 use qv_syntax::{Expr, ItemValue, Path, Ty};
 use script_scopes::{BorrowedProperty, is_null};
 use std::alloc::Global;

@@ -2,11 +2,11 @@ ghost use Rattle.std.specs.Prelude.{◌≡◌, ℕ, List, map, length, Some, Non
 ghost use Rattle.std.specs.List.{AllZip};
 ghost use Rattle.qv_syntax.specs.declared.program.Program.{Program};
 ghost use Rattle.qv_syntax.specs.Keys.{AreOfTwoClasses, AreKeys as AreProgramKeys};
-ghost use Rattle.ocl_types.specs.declared.fault.TypeFault.{TypeFault as Fault};
-ghost use Rattle.ocl_types.specs.declared.fault.TypeFault.TheVariants.{UnknownName};
-ghost use Rattle.ocl_types.specs.Environments.{Environment};
-ghost use Rattle.ocl_types.specs.Naming.{texts_of};
-ghost use Rattle.ocl_types.specs.Written.{IfFault};
+ghost use Rattle.ocl_environments.specs.declared.fault.TypeFault.{TypeFault as Fault};
+ghost use Rattle.ocl_environments.specs.declared.fault.TypeFault.TheVariants.{UnknownName};
+ghost use Rattle.ocl_environments.specs.Environments.{Environment};
+ghost use Rattle.ocl_environments.specs.Naming.{texts_of};
+ghost use Rattle.ocl_environments.specs.Written.{IfFault};
 ghost use Rattle.script_scopes.specs.Declarations.{key_class as class_of_key, key_property as property_number, keys_of as keys_in_script};
 ghost use Rattle.script_scopes.specs.Keys.{IsKey, IsShaped, StandsInKey, AreKeys, StandsInKeys};
 ghost use Rattle.qvtr_types.specs.ClassPlaces.{IsClassAt};
@@ -15,7 +15,7 @@ ghost use Rattle.qvtr_types.specs.KeySearches.{IsLacking, IsSecond, IsSecondFaul
 use crate::met_classes::MetClasses;
 use crate::properties::prop_named;
 use mof_metamodel::{ClassId, NoMemory, PropId, Seq, Text};
-use ocl_types::{Env, TypeError, TypeFault, path_text};
+use ocl_environments::{Env, TypeError, TypeFault, path_text};
 use qv_syntax::{Key, KeyTree, Name, Script};
 use script_scopes::{first_repeat, keys_of};
 use std::alloc::Global;

@@ -3,7 +3,7 @@ ghost use Rattle.qv_syntax.specs.declared.expr.Expr.{Expr};
 ghost use Rattle.qv_syntax.specs.declared.typed.Typed.{Typed};
 ghost use Rattle.qv_syntax.specs.declared.program.Var.{Var};
 ghost use Rattle.qv_syntax.specs.TypedTrees.{Typing};
-ghost use Rattle.ocl_types.specs.declared.fault.TypeFault.{TypeFault};
+ghost use Rattle.ocl_environments.specs.declared.fault.TypeFault.{TypeFault};
 ghost use Rattle.ocl_types.specs.HasType.{HasTree};
 ghost use Rattle.qv_syntax.specs.declared.script.RelationTree.{RelationTree};
 ghost use Rattle.script_scopes.specs.Directions.{IsMisplaced};
@@ -18,7 +18,8 @@ ghost use Rattle.qv_syntax.specs.declared.script.ModelTree.{ModelTree};
 ghost use Rattle.script_scopes.specs.declared.name_fault.NameFault.{NameFault};
 ghost use Rattle.script_scopes.specs.ScriptNames.{AreNamesOf, IsNameFault};
 
-use ocl_types::{Env, one_type_is_had, trees_are_typed, typing_is_told};
+use ocl_environments::Env;
+use ocl_types::{one_type_is_had, trees_are_typed, typing_is_told};
 
 /// Names, with a target, have one fault at most, and none where they are those of the script: so `names_match` has one answer.
 pub fn one_name_fault()

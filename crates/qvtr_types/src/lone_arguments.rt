@@ -1,8 +1,8 @@
 //! Variables that stand alone as arguments of calls (QVT 1.3, section 7.11.1.4): their types are those of the roots in whose places they
 //! stand, or related.
 ghost use Rattle.std.specs.Prelude.{◌≡◌, map, length, IsTrue, All, OnOk};
-ghost use Rattle.ocl_types.specs.Written.{IfFault};
-ghost use Rattle.ocl_types.specs.Environments.{AreWell, is_over};
+ghost use Rattle.ocl_environments.specs.Written.{IfFault};
+ghost use Rattle.ocl_environments.specs.Environments.{AreWell, is_over};
 ghost use Rattle.script_scopes.specs.Conjuncts.{clause_conjuncts as all_conjuncts};
 ghost use Rattle.qvtr_types.specs.Expressions.{HaveTypes};
 ghost use Rattle.qvtr_types.specs.ResolvedConjuncts.{reach_of, HasRootTypes};
@@ -12,7 +12,7 @@ use crate::equations::Variables;
 use crate::expressions::refuse_unrelated;
 use crate::resolved_conjuncts::ClauseScope;
 use mof_metamodel::{MetaModel, Text};
-use ocl_types::TypeError;
+use ocl_environments::TypeError;
 use qv_syntax::{BlockTree, Expr, Var};
 use script_scopes::{call_of, clause_conjuncts, name_alone};
 use std::alloc::Global;

@@ -2,8 +2,8 @@ ghost use Rattle.std.specs.Prelude.{◌≡◌, ℕ, List};
 ghost use Rattle.mof_metamodel.specs.declared.desc.MetaDesc.{MetaDesc};
 ghost use Rattle.qv_syntax.specs.declared.program.Program.{Program};
 ghost use Rattle.qv_syntax.specs.declared.script.Script.{Script};
-ghost use Rattle.ocl_types.specs.declared.fault.TypeFault.{TypeFault};
-ghost use Rattle.ocl_types.specs.Environments.{AreWell};
+ghost use Rattle.ocl_environments.specs.declared.fault.TypeFault.{TypeFault};
+ghost use Rattle.ocl_environments.specs.Environments.{AreWell};
 ghost use Rattle.script_scopes.specs.Resolutions.{IsResolution};
 ghost use Rattle.qvtr_types.specs.ResolvedScripts.{setting_of, IsFaultOf};
 

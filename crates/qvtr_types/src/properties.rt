@@ -1,12 +1,12 @@
 ghost use Rattle.std.specs.Prelude.{◌≡◌, ◌<◌, Some, IfSome};
 ghost use Rattle.std.specs.Option.{option_map};
 ghost use Rattle.mof_metamodel.specs.Metamodels.{prop_number, prop_count, type_of};
-ghost use Rattle.ocl_types.specs.Environments.{meta_at};
-ghost use Rattle.ocl_types.specs.Navigation.{value_type};
+ghost use Rattle.ocl_environments.specs.Environments.{meta_at};
+ghost use Rattle.ocl_environments.specs.Navigation.{value_type};
 ghost use Rattle.qvtr_types.specs.ClassPlaces.{IsClassAt};
 
 use mof_metamodel::{ClassId, MetaModel, PropId, Text};
-use ocl_types::prop_type;
+use ocl_environments::prop_type;
 use qv_syntax::Ty;
 
 /// The property of this name of a class, inherited ones included.

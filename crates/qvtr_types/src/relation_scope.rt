@@ -1,10 +1,10 @@
 ghost use Rattle.std.specs.Prelude.{◌≡◌, [], ℕ, List, All, length, map, IsTrue, OnOk, OnErr, IfOk, false};
-ghost use Rattle.ocl_types.specs.Environments.{is_bound as bound, is_variable, with_variable, without_variables};
+ghost use Rattle.ocl_environments.specs.Environments.{is_bound as bound, is_variable, with_variable, without_variables};
 ghost use Rattle.script_scopes.specs.Declarations.{IsRepeated};
 ghost use Rattle.script_scopes.specs.Environments.{named_variables};
 
 use mof_metamodel::{NoMemory, Text};
-use ocl_types::Env;
+use ocl_environments::Env;
 use qv_syntax::Var;
 use std::alloc::Global;
 

@@ -1,7 +1,7 @@
 //! The relations of a script, resolved (QVT 1.3, section 7.11.1).
 ghost use Rattle.std.specs.Prelude.{◌≡◌, ◌⊎◌, [], map, length, chars, All, IfOk, OnOk};
-ghost use Rattle.ocl_types.specs.declared.fault.TypeFault.{TypeFault as Fault};
-ghost use Rattle.ocl_types.specs.Written.{IfFault};
+ghost use Rattle.ocl_environments.specs.declared.fault.TypeFault.{TypeFault as Fault};
+ghost use Rattle.ocl_environments.specs.Written.{IfFault};
 ghost use Rattle.script_scopes.specs.ScriptNames.{each_once as distinct};
 ghost use Rattle.script_scopes.specs.Conjuncts.{clause_conjuncts};
 ghost use Rattle.script_scopes.specs.Divisions.{IsWhenEquation, IsWhereEquation};
@@ -26,7 +26,7 @@ use crate::lone_arguments::refuse_lone_arguments;
 use crate::relation_scope::bind_variables;
 use crate::resolved_conjuncts::ClauseScope;
 use mof_metamodel::{NameTable, NoMemory, Seq};
-use ocl_types::{Env, TypeError};
+use ocl_environments::{Env, TypeError};
 use qv_syntax::{Dom, Rel, RelationTree, Var};
 use script_scopes::{
     ModelNames, division_of, each_once, is_in_direction, universal_names, variables_listed,

@@ -1,7 +1,7 @@
 //! The conjuncts of when and where clauses, resolved (QVT 1.3, section 7.11.1.4): calls of relations, equations and conditions.
 ghost use Rattle.std.specs.Prelude.{◌≡◌, ◌<◌, [], map, length, Some, None, IfOk, OnOk};
 ghost use Rattle.std.specs.Option.{option_map};
-ghost use Rattle.ocl_types.specs.Written.{IfFault};
+ghost use Rattle.ocl_environments.specs.Written.{IfFault};
 ghost use Rattle.script_scopes.specs.Conjuncts.{call_of as called, equation_of, clause_conjuncts as all_conjuncts};
 ghost use Rattle.qvtr_types.specs.Equations.{equation_test, with_given, given_by as given, equation_behind, IsSaid};
 ghost use Rattle.qvtr_types.specs.ResolvedConjuncts.{reach_of, called_number, HasRootTypes, IsCallWith, StandsInCallWith, IsResolved, StandsInConjunct, AreResolved, StandsInOne};
@@ -9,7 +9,7 @@ ghost use Rattle.qvtr_types.specs.ResolvedConjuncts.{reach_of, called_number, Ha
 use crate::equations::{Variables, next_equation};
 use crate::expressions::{type_arguments, type_condition, type_equation};
 use mof_metamodel::{NameTable, Seq, Text};
-use ocl_types::{Env, TypeError};
+use ocl_environments::{Env, TypeError};
 use qv_syntax::{BlockTree, Conj, Expr, Var};
 use script_scopes::{call_of, clause_conjuncts, numbered, place_of};
 use std::alloc::Global;

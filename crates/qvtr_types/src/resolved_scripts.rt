@@ -2,9 +2,9 @@
 ghost use Rattle.std.specs.Prelude.{◌≡◌, ◌≤◌, ℕ, List, [], map, length, chars, Contains, IfOk, OnOk};
 ghost use Rattle.std.specs.List.{AllZip};
 ghost use Rattle.qv_syntax.specs.declared.script.RelationTree.{RelationTree as Relation};
-ghost use Rattle.ocl_types.specs.declared.fault.TypeFault.{TypeFault as Fault};
-ghost use Rattle.ocl_types.specs.Environments.{most};
-ghost use Rattle.ocl_types.specs.Written.{IfFault};
+ghost use Rattle.ocl_environments.specs.declared.fault.TypeFault.{TypeFault as Fault};
+ghost use Rattle.ocl_environments.specs.Environments.{most};
+ghost use Rattle.ocl_environments.specs.Written.{IfFault};
 ghost use Rattle.script_scopes.specs.Occurrences.{relations_of as relations_in};
 ghost use Rattle.script_scopes.specs.Directions.{IsStratum, IsOnWhenCycle};
 ghost use Rattle.script_scopes.specs.Declarations.{global_names, IsRepeated};
@@ -21,7 +21,8 @@ use crate::roots::all_roots;
 use crate::script_queries::resolve_queries;
 use crate::well_formed_laws::resolutions_are_well_formed;
 use mof_metamodel::{NoMemory, Seq};
-use ocl_types::{Env, Metas, TypeError, query_typing_is_told};
+use ocl_environments::{Env, Metas, TypeError};
+use ocl_types::query_typing_is_told;
 use qv_syntax::{Key, Program, Query, Rel, RelationTree, Script, Var};
 use script_scopes::{
     metamodel_names, model_place, numbered, refuse_calls, refuse_names, relation_strata,

@@ -1,19 +1,18 @@
 ghost use Rattle.std.specs.Prelude.{◌≡◌, [], map, Contains, IfOk, OnOk};
 ghost use Rattle.qv_syntax.specs.declared.query.Query.{Query as TypedQuery};
 ghost use Rattle.qv_syntax.specs.QueryCalls.{AreAcyclic};
-ghost use Rattle.ocl_types.specs.declared.fault.TypeFault.{TypeFault as Fault};
-ghost use Rattle.ocl_types.specs.Environments.{without_variables, without_queries};
+ghost use Rattle.ocl_environments.specs.declared.fault.TypeFault.{TypeFault as Fault};
+ghost use Rattle.ocl_environments.specs.Environments.{without_variables, without_queries};
 ghost use Rattle.ocl_types.specs.Queries.{AreQueries};
 ghost use Rattle.ocl_types.specs.QueryTyping.{signed};
 ghost use Rattle.ocl_types.specs.TypedContext.{IsTypedQuery};
-ghost use Rattle.ocl_types.specs.Written.{IfFault};
+ghost use Rattle.ocl_environments.specs.Written.{IfFault};
 ghost use Rattle.script_scopes.specs.Declarations.{queries_of as queries_in_script};
 ghost use Rattle.script_scopes.specs.ScriptQueries.{StandsInQueries};
 
 use mof_metamodel::Seq;
-use ocl_types::{
-    Env, TypeError, calls_are_told, queries_are_typed, query_typing_is_told, type_queries,
-};
+use ocl_environments::{Env, TypeError};
+use ocl_types::{calls_are_told, queries_are_typed, query_typing_is_told, type_queries};
 use qv_syntax::{Query, QueryTree, Script};
 use script_scopes::queries_of;
 use std::alloc::Global;

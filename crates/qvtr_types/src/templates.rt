@@ -1,6 +1,6 @@
 ghost use Rattle.std.specs.Prelude.{◌≡◌, ◌+◌, map, All, Option, Some, IfOk, OnOk};
 ghost use Rattle.qv_syntax.specs.declared.script.TemplateTree.{out-TemplateTree};
-ghost use Rattle.ocl_types.specs.Written.{IfFault};
+ghost use Rattle.ocl_environments.specs.Written.{IfFault};
 ghost use Rattle.qv_syntax.specs.declared.name.Name.{Name as NameTree};
 ghost use Rattle.script_scopes.specs.Environments.{place_of as place};
 ghost use Rattle.script_scopes.specs.Occurrences.{variable_text as text_of_variable, in_turn, template_body, item_pieces};
@@ -10,7 +10,7 @@ ghost use Rattle.qvtr_types.specs.TemplatePieces.{IsMeant, IsPieceFault};
 use crate::domain_scope::DomainScope;
 use crate::items::{item_property, item_value, nested_class};
 use mof_metamodel::{ClassId, Seq};
-use ocl_types::TypeError;
+use ocl_environments::TypeError;
 use qv_syntax::{Item, ItemTree, ItemValue, ItemValueTree, Path, TemplateTree, Tmpl};
 use script_scopes::{BorrowedProperty, next_number};
 use std::alloc::Global;

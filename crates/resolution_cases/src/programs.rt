@@ -4,7 +4,7 @@ use crate::lines::put_number;
 use crate::relations::put_relation;
 use case_texts::Pen;
 use expression_settings::put_typed_tree;
-use ocl_types::{Metas, type_text};
+use ocl_environments::{Metas, type_text};
 use qv_syntax::{Key, ModelSlot, Program, Query, Rel, Ty};
 use std::alloc::Global;
 

@@ -4,7 +4,7 @@ use crate::lines::put_numbers;
 use crate::templates::put_template;
 use case_texts::Pen;
 use expression_settings::put_typed_tree;
-use ocl_types::{Metas, type_text};
+use ocl_environments::{Metas, type_text};
 use qv_syntax::{Conj, Dom, Marker, Rel, Typed, Var};
 use std::alloc::Global;
 

@@ -5,7 +5,7 @@ use crate::programs::put_program;
 use case_texts::Pen;
 use expression_settings::metamodels_named;
 use mof_metamodel::NoMemory;
-use ocl_types::{Metas, TypeError};
+use ocl_environments::{Metas, TypeError};
 use qv_syntax::{Program, Script};
 use qvtr_types::resolve;
 use script_files::type_fault_text;

@@ -1,7 +1,7 @@
 //! Templates of programs, printed.
 use case_texts::Pen;
 use expression_settings::put_typed_tree;
-use ocl_types::Metas;
+use ocl_environments::Metas;
 use qv_syntax::{Item, ItemValue, Tmpl};
 use std::alloc::Global;
 

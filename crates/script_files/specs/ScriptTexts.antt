@@ -2,9 +2,9 @@
 use Rattle.std.specs.Prelude.{ℕ, List, [], ◌∷◌, codes, if◌then◌else◌}
 use Rattle.std.specs.Fmt.{decimal}
 use Rattle.fault_lines.specs.Lines.{Words, line, refused, limit, starved, shown}
-use Rattle.ocl_types.specs.declared.fault.TypeFault.{TypeFault}
-use Rattle.ocl_types.specs.declared.fault.TypeFault.TheVariants as faults
-use Rattle.ocl_types.specs.FaultWords.{fault_word}
+use Rattle.ocl_environments.specs.declared.fault.TypeFault.{TypeFault}
+use Rattle.ocl_environments.specs.declared.fault.TypeFault.TheVariants as faults
+use Rattle.ocl_environments.specs.FaultWords.{fault_word}
 use Rattle.ql_lex.specs.declared.fault.LexKind.{LexKind}
 use Rattle.ql_lex.specs.Words.{kind_word}
 use Rattle.script_files.specs.declared.error.ScriptError.{ScriptError}

@@ -7,7 +7,7 @@ ghost use Rattle.script_files.specs.ScriptTexts as texts;
 use crate::error::{ScriptError, is_length};
 use fault_lines::line;
 use mof_metamodel::{NoMemory, Seq, Text};
-use ocl_types::TypeFault;
+use ocl_environments::TypeFault;
 use ql_lex::{LexFault, LexKind};
 use std::alloc::Global;
 

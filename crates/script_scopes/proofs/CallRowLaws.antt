@@ -20,7 +20,7 @@ use Rattle.call_graph.specs.Strata as graphs
 use Rattle.call_graph.specs.Strata.{IsCallPath, stratum_at}
 use Rattle.call_graph.specs.declared.layers.Layers.{Layers}
 use Rattle.call_graph.specs.declared.layers.Layers.TheVariants.{Cyclic, Layered}
-use Rattle.ocl_types.specs.declared.fault.TypeFault.{TypeFault}
+use Rattle.ocl_environments.specs.declared.fault.TypeFault.{TypeFault}
 use Rattle.script_scopes.specs.Conjuncts.{clause_conjuncts, call_of}
 use Rattle.script_scopes.specs.Occurrences.{relations_of}
 use Rattle.script_scopes.specs.Declarations.{relation_names, global_names, queries_of, IsRepeated}

@@ -9,8 +9,8 @@ use Rattle.qv_syntax.specs.declared.expr.Expr.{Expr}
 use Rattle.qv_syntax.specs.declared.script.BlockTree.{BlockTree}
 use Rattle.qv_syntax.specs.declared.script.RelationTree.{RelationTree}
 use Rattle.qv_syntax.specs.declared.script.Script.{Script}
-use Rattle.ocl_types.specs.declared.fault.TypeFault.{TypeFault}
-use Rattle.ocl_types.specs.declared.fault.TypeFault.TheVariants.{CallShape}
+use Rattle.ocl_environments.specs.declared.fault.TypeFault.{TypeFault}
+use Rattle.ocl_environments.specs.declared.fault.TypeFault.TheVariants.{CallShape}
 use Rattle.script_scopes.specs.ScriptNames.{each_once}
 use Rattle.script_scopes.specs.Conjuncts.{clause_conjuncts, call_of}
 use Rattle.script_scopes.specs.Occurrences.{relations_of}

@@ -10,8 +10,8 @@ use Rattle.qv_syntax.specs.declared.script.Script.{Script}
 use Rattle.qv_syntax.specs.declared.script.RelationTree.{RelationTree}
 use Rattle.qv_syntax.specs.declared.script.DomainTree.{DomainTree}
 use Rattle.qv_syntax.specs.declared.script.DomainTree.TheVariants as domains
-use Rattle.ocl_types.specs.declared.fault.TypeFault.{TypeFault}
-use Rattle.ocl_types.specs.declared.fault.TypeFault.TheVariants.{UnknownName, DuplicateName, UnknownModel}
+use Rattle.ocl_environments.specs.declared.fault.TypeFault.{TypeFault}
+use Rattle.ocl_environments.specs.declared.fault.TypeFault.TheVariants.{UnknownName, DuplicateName, UnknownModel}
 use Rattle.script_scopes.specs.ScriptNames.{model_names, each_once}
 use Rattle.script_scopes.specs.Occurrences.{relations_of, variables_of, template_variables, printed_name, declared_names, root_of}
 use Rattle.script_scopes.specs.Divisions.{model_of}

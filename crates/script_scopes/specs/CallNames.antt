@@ -10,8 +10,8 @@ use Rattle.qv_syntax.specs.declared.script.BlockTree.{BlockTree}
 use Rattle.qv_syntax.specs.declared.script.DomainTree.{DomainTree}
 use Rattle.qv_syntax.specs.declared.script.RelationTree.{RelationTree}
 use Rattle.qv_syntax.specs.declared.script.Script.{Script}
-use Rattle.ocl_types.specs.declared.fault.TypeFault.{TypeFault}
-use Rattle.ocl_types.specs.declared.fault.TypeFault.TheVariants.{CallShape}
+use Rattle.ocl_environments.specs.declared.fault.TypeFault.{TypeFault}
+use Rattle.ocl_environments.specs.declared.fault.TypeFault.TheVariants.{CallShape}
 use Rattle.script_scopes.specs.Usages.{calls_in}
 use Rattle.script_scopes.specs.Conjuncts.{clause_conjuncts, call_of}
 use Rattle.script_scopes.specs.Occurrences.{Piece, relations_of, pieces_of, template_count}

@@ -9,8 +9,8 @@ use Rattle.qv_syntax.specs.declared.script.BlockTree.{BlockTree}
 use Rattle.qv_syntax.specs.declared.script.RelationTree.{RelationTree}
 use Rattle.call_graph.specs.declared.layers.Layers.{Layers}
 use Rattle.call_graph.specs.declared.layers.Layers.TheVariants.{Cyclic, Layered}
-use Rattle.ocl_types.specs.declared.fault.TypeFault.{TypeFault}
-use Rattle.ocl_types.specs.declared.fault.TypeFault.TheVariants.{WhenCycle}
+use Rattle.ocl_environments.specs.declared.fault.TypeFault.{TypeFault}
+use Rattle.ocl_environments.specs.declared.fault.TypeFault.TheVariants.{WhenCycle}
 use Rattle.script_scopes.specs.Conjuncts.{clause_conjuncts, call_of}
 
 -- the number of what is called, where relations have these names

@@ -21,10 +21,10 @@ use Rattle.qv_syntax.specs.declared.script.VarsTree.{VarsTree}
 use Rattle.qv_syntax.specs.declared.script.RelationTree.{RelationTree}
 use Rattle.qv_syntax.specs.declared.script.DomainTree.{DomainTree}
 use Rattle.qv_syntax.specs.declared.script.DomainTree.TheVariants as domains
-use Rattle.ocl_types.specs.Environments.{Environment, meta_at}
-use Rattle.ocl_types.specs.Classifiers.{named_class}
-use Rattle.ocl_types.specs.Naming.{names_of}
-use Rattle.ocl_types.specs.Written.{written}
+use Rattle.ocl_environments.specs.Environments.{Environment, meta_at}
+use Rattle.ocl_environments.specs.Classifiers.{named_class}
+use Rattle.ocl_environments.specs.Naming.{names_of}
+use Rattle.ocl_environments.specs.Written.{written}
 use Rattle.script_scopes.specs.ScriptNames.{model_names}
 use Rattle.script_scopes.specs.Occurrences.{WrittenProperty, relations_of, declared_names}
 use Rattle.script_scopes.specs.Occurrences.Piece.{begins}

@@ -11,8 +11,8 @@ use Rattle.qv_syntax.specs.declared.program.Var.{Var}
 use Rattle.qv_syntax.specs.declared.script.Script.{Script}
 use Rattle.qv_syntax.specs.declared.script.ModelTree.{ModelTree}
 use Rattle.qv_syntax.specs.declared.script.RelationTree.{RelationTree}
-use Rattle.ocl_types.specs.declared.variable.Variable.{Variable}
-use Rattle.ocl_types.specs.Environments.{Environment, NamesWith}
+use Rattle.ocl_environments.specs.declared.variable.Variable.{Variable}
+use Rattle.ocl_environments.specs.Environments.{Environment, NamesWith}
 use Rattle.ocl_types.specs.QueryTyping.{signed}
 use Rattle.script_scopes.specs.ScriptNames.{meta_names, each_once}
 use Rattle.script_scopes.specs.Occurrences.{variables_of}

@@ -19,17 +19,17 @@ use Rattle.mof_metamodel.specs.Metamodels.{prop_number}
 use Rattle.qv_syntax.specs.declared.query.QueryTree.{QueryTree}
 use Rattle.qv_syntax.specs.Types.{AreRelated}
 use Rattle.qv_syntax.specs.TypeRules.{HasProperty}
-use Rattle.ocl_types.specs.Environments.{meta_at, without_queries}
+use Rattle.ocl_environments.specs.Environments.{meta_at, without_queries}
 use Rattle.qv_syntax.specs.TypedTrees.{Typing}
 use Rattle.qv_syntax.specs.ProgramTypes.{typing_of}
-use Rattle.ocl_types.specs.declared.fault.TypeFault.{TypeFault}
-use Rattle.ocl_types.specs.declared.fault.TypeFault.TheVariants.{UnknownName, WrongType, WrongCount, ModelMix, DuplicateName, Unbound, WhenCycle, CallShape, UnknownModel}
-use Rattle.ocl_types.specs.declared.part.TypedPart.{TypedPart}
+use Rattle.ocl_environments.specs.declared.fault.TypeFault.{TypeFault}
+use Rattle.ocl_environments.specs.declared.fault.TypeFault.TheVariants.{UnknownName, WrongType, WrongCount, ModelMix, DuplicateName, Unbound, WhenCycle, CallShape, UnknownModel}
+use Rattle.ocl_environments.specs.declared.part.TypedPart.{TypedPart}
 use Rattle.ocl_types.specs.HasType.{HasType, Stands}
 use Rattle.ocl_types.specs.Queries.{AreQueries}
 use Rattle.ocl_types.specs.TypedContext as context
-use Rattle.ocl_types.specs.Naming.{names_of, path_text, type_text}
-use Rattle.ocl_types.specs.Written.{written}
+use Rattle.ocl_environments.specs.Naming.{names_of, path_text, type_text}
+use Rattle.ocl_environments.specs.Written.{written}
 use Rattle.script_scopes.specs.ScriptNames.{model_names}
 use Rattle.script_scopes.specs.Usages.{calls_in}
 use Rattle.script_scopes.specs.Conjuncts.{clause_conjuncts, name_alone, call_of, is_null}

@@ -9,9 +9,9 @@ use Rattle.qv_syntax.specs.declared.expr.Expr.{Expr}
 use Rattle.qv_syntax.specs.declared.script.BlockTree.{BlockTree}
 use Rattle.qv_syntax.specs.declared.script.DomainTree.{DomainTree}
 use Rattle.qv_syntax.specs.declared.script.RelationTree.{RelationTree}
-use Rattle.ocl_types.specs.Environments.{class_of}
-use Rattle.ocl_types.specs.declared.fault.TypeFault.{TypeFault}
-use Rattle.ocl_types.specs.declared.fault.TypeFault.TheVariants.{ModelMix}
+use Rattle.ocl_environments.specs.Environments.{class_of}
+use Rattle.ocl_environments.specs.declared.fault.TypeFault.{TypeFault}
+use Rattle.ocl_environments.specs.declared.fault.TypeFault.TheVariants.{ModelMix}
 use Rattle.script_scopes.specs.Conjuncts.{clause_conjuncts, name_alone, call_of}
 use Rattle.script_scopes.specs.Occurrences.{Piece, printed_name}
 use Rattle.script_scopes.specs.Occurrences.Piece.{begins, asks}

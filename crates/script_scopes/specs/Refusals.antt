@@ -4,8 +4,8 @@ use Rattle.std.specs.Prelude.{◌≡◌, ◌⊎◌, ℕ, List, Contains, All}
 use Rattle.qv_syntax.specs.declared.type_tree.TypeTree.{TypeTree}
 use Rattle.qv_syntax.specs.declared.script.Script.{Script}
 use Rattle.qv_syntax.specs.declared.script.RelationTree.{RelationTree}
-use Rattle.ocl_types.specs.declared.fault.TypeFault.{TypeFault}
-use Rattle.ocl_types.specs.declared.fault.TypeFault.TheVariants.{UnknownName, DuplicateName}
+use Rattle.ocl_environments.specs.declared.fault.TypeFault.{TypeFault}
+use Rattle.ocl_environments.specs.declared.fault.TypeFault.TheVariants.{UnknownName, DuplicateName}
 use Rattle.script_scopes.specs.ScriptNames.{model_names}
 use Rattle.script_scopes.specs.Occurrences.{relations_of, variables_of, template_variables, printed_name}
 use Rattle.script_scopes.specs.Declarations.{global_names, IsRepeated, IsWrittenFor}

@@ -23,7 +23,7 @@ use Rattle.qv_syntax.specs.declared.program.Tmpl.{Tmpl}
 use Rattle.qv_syntax.specs.declared.program.Conj.{Conj}
 use Rattle.qv_syntax.specs.declared.program.Conj.TheVariants as conjs
 use Rattle.qv_syntax.specs.WellFormed.{IsWellFormed}
-use Rattle.ocl_types.specs.Environments.{without_queries}
+use Rattle.ocl_environments.specs.Environments.{without_queries}
 use Rattle.ocl_types.specs.Queries.{AreQueries}
 use Rattle.ocl_types.specs.HasType.{HasTree}
 use Rattle.script_scopes.specs.ScriptNames.{model_names}

@@ -13,9 +13,9 @@ use Rattle.qv_syntax.specs.declared.script.ItemValueTree.TheVariants as values
 use Rattle.qv_syntax.specs.declared.program.Tmpl.{Tmpl, out-Tmpl}
 use Rattle.qv_syntax.specs.declared.program.Item.{Item}
 use Rattle.qv_syntax.specs.declared.program.ItemValue.TheVariants as items
-use Rattle.ocl_types.specs.Environments.{Environment, meta_at}
+use Rattle.ocl_environments.specs.Environments.{Environment, meta_at}
 use Rattle.ocl_types.specs.HasType.{HasTree}
-use Rattle.ocl_types.specs.Naming.{names_of}
+use Rattle.ocl_environments.specs.Naming.{names_of}
 use Rattle.script_scopes.specs.Conjuncts.{is_null}
 use Rattle.script_scopes.specs.Occurrences.{variable_text}
 use Rattle.script_scopes.specs.Environments.{place_of}

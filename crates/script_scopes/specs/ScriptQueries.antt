@@ -3,9 +3,9 @@ use Rattle.std.specs.Prelude.{◌≡◌, ℕ, List, Some, slice_get}
 use Rattle.qv_syntax.specs.declared.query.Query.{Query}
 use Rattle.qv_syntax.specs.declared.query.QueryTree.{QueryTree}
 use Rattle.qv_syntax.specs.QueryCalls.{Reaches}
-use Rattle.ocl_types.specs.declared.fault.TypeFault.{TypeFault}
-use Rattle.ocl_types.specs.declared.fault.TypeFault.TheVariants.{QueryCycle}
-use Rattle.ocl_types.specs.Environments.{Environment}
+use Rattle.ocl_environments.specs.declared.fault.TypeFault.{TypeFault}
+use Rattle.ocl_environments.specs.declared.fault.TypeFault.TheVariants.{QueryCycle}
+use Rattle.ocl_environments.specs.Environments.{Environment}
 use Rattle.ocl_types.specs.Queries.{AreQueries, StandInQueries}
 
 -- a typed query comes to itself by calls

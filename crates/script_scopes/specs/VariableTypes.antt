@@ -15,13 +15,13 @@ use Rattle.qv_syntax.specs.declared.script.DomainTree.{DomainTree}
 use Rattle.qv_syntax.specs.declared.script.DomainTree.TheVariants as domains
 use Rattle.qv_syntax.specs.declared.script.VarsTree.{VarsTree}
 use Rattle.qv_syntax.specs.declared.script.RelationTree.{RelationTree}
-use Rattle.ocl_types.specs.declared.fault.TypeFault.{TypeFault}
-use Rattle.ocl_types.specs.Environments.{Environment}
-use Rattle.ocl_types.specs.Naming.{names_of, path_text}
-use Rattle.ocl_types.specs.Written.{written}
-use Rattle.ocl_types.specs.Outcomes.{RuleResult, and_then, wrong_type}
+use Rattle.ocl_environments.specs.declared.fault.TypeFault.{TypeFault}
+use Rattle.ocl_environments.specs.Environments.{Environment}
+use Rattle.ocl_environments.specs.Naming.{names_of, path_text}
+use Rattle.ocl_environments.specs.Written.{written}
+use Rattle.ocl_environments.specs.Outcomes.{RuleResult, and_then, wrong_type}
 use Rattle.ocl_types.specs.TypingScopes.{element}
-use Rattle.ocl_types.specs.declared.fault.TypeFault.TheVariants.{UnknownName}
+use Rattle.ocl_environments.specs.declared.fault.TypeFault.TheVariants.{UnknownName}
 use Rattle.script_scopes.specs.declared.written.WrittenType.{WrittenType}
 use Rattle.script_scopes.specs.declared.template_classes.ModelNames.{ModelNames}
 use Rattle.script_scopes.specs.Occurrences.{Piece}

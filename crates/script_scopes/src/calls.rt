@@ -3,7 +3,7 @@ ghost use Rattle.std.specs.List.{flat_map, filter_map};
 ghost use Rattle.std.specs.Set.{is_member};
 ghost use Rattle.mof_metamodel.specs.Characters.{same_name};
 ghost use Rattle.qv_syntax.specs.declared.script.RelationTree.{RelationTree as Relation};
-ghost use Rattle.ocl_types.specs.Written.{IfFault};
+ghost use Rattle.ocl_environments.specs.Written.{IfFault};
 ghost use Rattle.script_scopes.specs.ScriptNames.{each_once as distinct};
 ghost use Rattle.script_scopes.specs.Usages.{call_in, calls_in};
 ghost use Rattle.script_scopes.specs.Conjuncts.{clause_conjuncts as all_conjuncts};
@@ -25,7 +25,7 @@ use crate::script_names::names_of_relations;
 use crate::usage::Usage;
 use crate::usages::add_usages;
 use mof_metamodel::{NameTable, NoMemory, Seq, Text};
-use ocl_types::{TypeError, TypeFault};
+use ocl_environments::{TypeError, TypeFault};
 use qv_syntax::{BlockTree, DomainTree, Expr, QueryTree, RelationTree, Script};
 use std::alloc::Global;
 

@@ -1,5 +1,5 @@
 ghost use Rattle.std.specs.Prelude.{◌≡◌, ◌++◌, [], ℕ, List, map, chars, Contains, All, IfOk, OnOk};
-ghost use Rattle.ocl_types.specs.Written.{IfFault};
+ghost use Rattle.ocl_environments.specs.Written.{IfFault};
 ghost use Rattle.script_scopes.specs.ScriptNames.{model_names, each_once as distinct};
 ghost use Rattle.script_scopes.specs.Occurrences.{variables_of as variables, template_variables as templates, printed_name};
 ghost use Rattle.script_scopes.specs.PrintedNames.{printed_after};
@@ -15,7 +15,7 @@ use crate::relation_names::{domain_models, template_variables, typed_names};
 use crate::repeats::{first_repeat, refuse_repeat};
 use crate::script_names::{add_model_names, add_texts, refuse_global_repeat, refuse_target};
 use mof_metamodel::{NameTable, NoMemory, Seq, Text};
-use ocl_types::{TypeError, TypeFault};
+use ocl_environments::{TypeError, TypeFault};
 use qv_syntax::{RelationTree, Script};
 use std::alloc::Global;
 

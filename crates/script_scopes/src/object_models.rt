@@ -2,8 +2,8 @@ ghost use Rattle.std.specs.Prelude.{◌≡◌, ◌↔◌, ◌++◌, Some, map, i
 ghost use Rattle.std.specs.List.{flat_map};
 ghost use Rattle.std.specs.Option.{option_map};
 ghost use Rattle.mof_metamodel.specs.NameTables.{value_of};
-ghost use Rattle.ocl_types.specs.Environments.{class_of};
-ghost use Rattle.ocl_types.specs.Written.{IfFault};
+ghost use Rattle.ocl_environments.specs.Environments.{class_of};
+ghost use Rattle.ocl_environments.specs.Written.{IfFault};
 ghost use Rattle.script_scopes.specs.Divisions.{model_of as domain_model};
 ghost use Rattle.script_scopes.specs.LocatedPieces.{shown_located};
 ghost use Rattle.script_scopes.specs.FirstEntries.{first_entries};
@@ -16,7 +16,7 @@ use crate::name_faults::printed;
 use crate::occurrences::variable_text;
 use crate::piece::BorrowedPiece;
 use mof_metamodel::{NameTable, NoMemory, Seq, Text};
-use ocl_types::{TypeError, TypeFault};
+use ocl_environments::{TypeError, TypeFault};
 use qv_syntax::{BlockTree, DomainTree, Expr, RelationTree, Ty};
 use std::alloc::Global;
 

@@ -1,11 +1,11 @@
 ghost use Rattle.std.specs.Prelude.{◌≡◌, [], ℕ, List, IfOk, OnOk, Some, None};
 ghost use Rattle.mof_metamodel.specs.MetaFaults.{first_repeat as repeat_in};
-ghost use Rattle.ocl_types.specs.Written.{IfFault};
+ghost use Rattle.ocl_environments.specs.Written.{IfFault};
 ghost use Rattle.script_scopes.specs.Declarations.{IsRepeated};
 ghost use Rattle.script_scopes.specs.Refusals.{IsRepeatFault};
 
 use mof_metamodel::{NameTable, NoMemory, Text};
-use ocl_types::{TypeError, TypeFault};
+use ocl_environments::{TypeError, TypeFault};
 use std::alloc::Global;
 
 /// The first name that stands before it in the list.

@@ -1,7 +1,7 @@
 ghost use Rattle.std.specs.Prelude.{◌≡◌, ◌<◌, ◌++◌, ℕ, List, map, chars, Contains, IfOk, OnOk, OnErr};
-ghost use Rattle.ocl_types.specs.Written.{IfFault};
-ghost use Rattle.ocl_types.specs.declared.limits.TheConstants.{MAX_NUMBERED};
-ghost use Rattle.ocl_types.specs.declared.fault.TypeFault.TheVariants as faults;
+ghost use Rattle.ocl_environments.specs.Written.{IfFault};
+ghost use Rattle.ocl_environments.specs.declared.limits.TheConstants.{MAX_NUMBERED};
+ghost use Rattle.ocl_environments.specs.declared.fault.TypeFault.TheVariants as faults;
 ghost use Rattle.script_scopes.specs.ScriptNames.{model_names, meta_names, script_names as names_of};
 ghost use Rattle.script_scopes.specs.Environments.{metamodel_names as metamodels, place_of as place, slots_of as slots};
 ghost use Rattle.script_scopes.specs.Declarations.{relation_names, global_names as globals, IsRepeated};
@@ -12,7 +12,7 @@ use crate::distinct::{each_once, each_once_listed};
 use crate::names::is_model;
 use crate::repeats::refuse_repeat;
 use mof_metamodel::{NameTable, NoMemory, Seq, Text};
-use ocl_types::{MAX_NUMBERED, TypeError, TypeFault};
+use ocl_environments::{MAX_NUMBERED, TypeError, TypeFault};
 use qv_syntax::{ModelSlot, ModelTree, QueryTree, RelationTree, Script};
 use std::alloc::Global;
 

@@ -18,7 +18,7 @@ use Rattle.qv_syntax.specs.declared.ty.Ty.{Ty}
 use Rattle.qv_syntax.specs.declared.script.DomainTree.{DomainTree}
 use Rattle.qv_syntax.specs.declared.script.DomainTree.TheVariants as domains
 use Rattle.qv_syntax.specs.declared.script.RelationTree.{RelationTree}
-use Rattle.ocl_types.specs.Environments.{class_of}
+use Rattle.ocl_environments.specs.Environments.{class_of}
 use Rattle.script_scopes.specs.ScriptNames.{each_once}
 use Rattle.script_scopes.specs.Usages.{variables_in}
 use Rattle.script_scopes.specs.Conjuncts.{clause_conjuncts, name_alone, equation_of}

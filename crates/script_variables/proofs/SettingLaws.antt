@@ -7,8 +7,8 @@ use Rattle.mof_metamodel.specs.NameTables.{NamesWith, value_of}
 use Rattle.qv_syntax.specs.declared.ty.Ty.{Ty}
 use Rattle.qv_syntax.specs.declared.program.Var.{Var}
 use Rattle.qv_syntax.specs.declared.script.RelationTree.{RelationTree}
-use Rattle.ocl_types.specs.declared.fault.TypeFault.{TypeFault}
-use Rattle.ocl_types.specs.Environments.{Environment}
+use Rattle.ocl_environments.specs.declared.fault.TypeFault.{TypeFault}
+use Rattle.ocl_environments.specs.Environments.{Environment}
 use Rattle.script_variables.specs.declared.resolved_variables.ScriptTables.{ScriptTables}
 use Rattle.script_scopes.specs.ScriptNames.{model_names, each_once}
 use Rattle.script_scopes.specs.Occurrences.{relations_of, variables_of}

@@ -14,12 +14,12 @@ use Rattle.qv_syntax.specs.declared.ty.Ty.{Ty}
 use Rattle.qv_syntax.specs.declared.ty.Ty.TheVariants as types
 use Rattle.qv_syntax.specs.declared.script.DomainTree.{DomainTree}
 use Rattle.qv_syntax.specs.declared.script.RelationTree.{RelationTree}
-use Rattle.ocl_types.specs.declared.fault.TypeFault.{TypeFault}
-use Rattle.ocl_types.specs.Environments.{Environment}
-use Rattle.ocl_types.specs.Naming.{names_of}
-use Rattle.ocl_types.specs.Written.{written}
-use Rattle.ocl_types.specs.Outcomes.{RuleResult, and_then, wrong_type}
-use Rattle.ocl_types.specs.Agreement.{collection_parts}
+use Rattle.ocl_environments.specs.declared.fault.TypeFault.{TypeFault}
+use Rattle.ocl_environments.specs.Environments.{Environment}
+use Rattle.ocl_environments.specs.Naming.{names_of}
+use Rattle.ocl_environments.specs.Written.{written}
+use Rattle.ocl_environments.specs.Outcomes.{RuleResult, and_then, wrong_type}
+use Rattle.ocl_environments.specs.Agreement.{collection_parts}
 use Rattle.ocl_types.specs.TypingScopes.{element, no_collection}
 use Rattle.ocl_types.proofs.JudgedLaws.{ok_ok, ok_err, err_err}
 use Rattle.ocl_types.proofs.LayerLaws.{is_collection}

@@ -11,8 +11,8 @@ use Rattle.qv_syntax.specs.declared.ty.Ty.{Ty}
 use Rattle.qv_syntax.specs.declared.ty.Ty.TheVariants as kinds
 use Rattle.qv_syntax.specs.declared.program.Var.{Var}
 use Rattle.qv_syntax.specs.declared.script.RelationTree.{RelationTree}
-use Rattle.ocl_types.specs.declared.fault.TypeFault.{TypeFault}
-use Rattle.ocl_types.specs.Environments.{class_of}
+use Rattle.ocl_environments.specs.declared.fault.TypeFault.{TypeFault}
+use Rattle.ocl_environments.specs.Environments.{class_of}
 use Rattle.ocl_types.proofs.LayerLaws.{is_class as class_is, class_of_class}
 use Rattle.script_scopes.specs.declared.template_classes.ModelNames.{ModelNames}
 use Rattle.script_scopes.specs.ScriptNames.{model_names, each_once}

@@ -11,9 +11,9 @@ use Rattle.qv_syntax.specs.declared.script.BlockTree.{BlockTree}
 use Rattle.qv_syntax.specs.declared.script.DomainTree.{DomainTree}
 use Rattle.qv_syntax.specs.declared.script.DomainTree.TheVariants as domains
 use Rattle.qv_syntax.specs.declared.script.RelationTree.{RelationTree}
-use Rattle.ocl_types.specs.Environments.{class_of}
-use Rattle.ocl_types.specs.declared.fault.TypeFault.{TypeFault}
-use Rattle.ocl_types.specs.declared.fault.TypeFault.TheVariants.{Unbound}
+use Rattle.ocl_environments.specs.Environments.{class_of}
+use Rattle.ocl_environments.specs.declared.fault.TypeFault.{TypeFault}
+use Rattle.ocl_environments.specs.declared.fault.TypeFault.TheVariants.{Unbound}
 use Rattle.script_scopes.specs.Usages.{variables_in}
 use Rattle.script_scopes.specs.Conjuncts.{clause_conjuncts, name_alone, equation_of}
 use Rattle.script_scopes.specs.Occurrences.{Piece, printed_name}

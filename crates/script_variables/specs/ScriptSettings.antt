@@ -2,8 +2,8 @@
 use Rattle.std.specs.Prelude.{◌≡◌, ℕ, List, map, Contains}
 use Rattle.mof_metamodel.specs.NameTables.{NamesWith, value_of}
 use Rattle.qv_syntax.specs.declared.script.RelationTree.{RelationTree}
-use Rattle.ocl_types.specs.declared.fault.TypeFault.{TypeFault}
-use Rattle.ocl_types.specs.Environments.{Environment}
+use Rattle.ocl_environments.specs.declared.fault.TypeFault.{TypeFault}
+use Rattle.ocl_environments.specs.Environments.{Environment}
 use Rattle.script_variables.specs.declared.resolved_variables.ScriptTables.{ScriptTables}
 use Rattle.script_scopes.specs.Occurrences.{relations_of}
 use Rattle.script_scopes.specs.Environments.{Setting, in_script, slots_of, metamodel_names}

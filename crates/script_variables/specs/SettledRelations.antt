@@ -5,7 +5,7 @@ use Rattle.std.specs.List.{AllZip}
 use Rattle.qv_syntax.specs.declared.ty.Ty.{Ty}
 use Rattle.qv_syntax.specs.declared.program.Var.{Var}
 use Rattle.qv_syntax.specs.declared.script.RelationTree.{RelationTree}
-use Rattle.ocl_types.specs.Environments.{IsInOrder}
+use Rattle.ocl_environments.specs.Environments.{IsInOrder}
 use Rattle.script_scopes.specs.Occurrences.{variables_of}
 use Rattle.script_scopes.specs.Divisions.{IsBound}
 use Rattle.script_scopes.specs.Environments.{Setting, in_script, in_relation}

@@ -3,9 +3,9 @@ use Rattle.std.specs.Prelude.{◌≡◌, ℕ, Bool, true, false, is_some, List, 
 use Rattle.mof_metamodel.specs.NameTables.{NamesWith, value_of}
 use Rattle.qv_syntax.specs.declared.ty.Ty.{Ty}
 use Rattle.qv_syntax.specs.declared.program.Var.{Var}
-use Rattle.ocl_types.specs.Environments.{class_of}
-use Rattle.ocl_types.specs.declared.fault.TypeFault.{TypeFault}
-use Rattle.ocl_types.specs.declared.fault.TypeFault.TheVariants.{Unbound}
+use Rattle.ocl_environments.specs.Environments.{class_of}
+use Rattle.ocl_environments.specs.declared.fault.TypeFault.{TypeFault}
+use Rattle.ocl_environments.specs.declared.fault.TypeFault.TheVariants.{Unbound}
 use Rattle.script_scopes.specs.Occurrences.{printed_name}
 use Rattle.script_scopes.specs.Environments.{place_of}
 

@@ -4,13 +4,13 @@ ghost use Rattle.std.specs.Prelude.{◌≡◌, ◌++◌, ◌∷◌, [], chars, m
 ghost use Rattle.std.specs.List.{flat_map};
 ghost use Rattle.std.specs.Option.{option_map, option_to_list};
 ghost use Rattle.mof_metamodel.specs.Characters.{same_name};
-ghost use Rattle.ocl_types.specs.Written.{IfFault};
+ghost use Rattle.ocl_environments.specs.Written.{IfFault};
 ghost use Rattle.script_scopes.specs.Usages.{variables_in};
 ghost use Rattle.script_scopes.specs.LocatedPieces.{shown_located};
 ghost use Rattle.script_variables.specs.Bindings.{bound_if, alone_rules, item_rules, conjunct_rules, primitive_rules, data_number as number_of_data, numbered, clause_rules, binding_rules as all_rules, IsBoundData, IsUnboundData, IsUnboundFault};
 
 use mof_metamodel::{NameTable, NoMemory, Seq, Text};
-use ocl_types::{TypeError, TypeFault};
+use ocl_environments::{TypeError, TypeFault};
 use qv_syntax::{BlockTree, DomainTree, Expr, RelationTree, Ty};
 use script_scopes::{
     BorrowedPiece, LocatedPiece, add_variables, clause_conjuncts, equation_of, is_class, is_name,

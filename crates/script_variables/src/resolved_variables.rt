@@ -3,8 +3,8 @@ ghost use Rattle.std.specs.Prelude.{◌≡◌, ◌↔◌, ◌⊎◌, ℕ, List, 
 ghost use Rattle.std.specs.List.{AllZip};
 ghost use Rattle.mof_metamodel.specs.NameTables.{value_of};
 ghost use Rattle.qv_syntax.specs.declared.program.Var.{Var as Variable};
-ghost use Rattle.ocl_types.specs.declared.fault.TypeFault.{TypeFault as Fault};
-ghost use Rattle.ocl_types.specs.Written.{IfFault};
+ghost use Rattle.ocl_environments.specs.declared.fault.TypeFault.{TypeFault as Fault};
+ghost use Rattle.ocl_environments.specs.Written.{IfFault};
 ghost use Rattle.script_scopes.specs.ScriptNames.{each_once as distinct};
 ghost use Rattle.script_scopes.specs.Occurrences.{relations_of as all_relations, variables_of as variables_named};
 ghost use Rattle.script_scopes.specs.UniversalNames.{universal_names as universals};
@@ -23,7 +23,7 @@ use crate::derivations::derived;
 use crate::variable_types::variable_types;
 use crate::variables::variables;
 use mof_metamodel::{NameTable, NoMemory, Seq, Text};
-use ocl_types::{Env, TypeError};
+use ocl_environments::{Env, TypeError};
 use qv_syntax::{RelationTree, Script, Ty, Var};
 use script_scopes::{
     ModelNames, each_once, model_names, named_relations, relations_of, universal_names,

@@ -1,14 +1,14 @@
 ghost use Rattle.std.specs.Prelude.{◌≡◌, ◌≢◌, ◌++◌, [], IfOk, OnOk, All, map, Err};
 ghost use Rattle.std.specs.List.{flat_map};
 ghost use Rattle.mof_metamodel.specs.Giving.{Gives};
-ghost use Rattle.ocl_types.specs.Written.{IfFault, fault_in, written};
-ghost use Rattle.ocl_types.specs.Outcomes.{wrong_type as wrong};
+ghost use Rattle.ocl_environments.specs.Written.{IfFault, fault_in, written};
+ghost use Rattle.ocl_environments.specs.Outcomes.{wrong_type as wrong};
 ghost use Rattle.ocl_types.specs.TypingScopes.{element as element_of};
 ghost use Rattle.script_scopes.specs.FirstEntries.{entries_onto, first_entries};
 ghost use Rattle.script_scopes.specs.VariableTypes.{shown_written, single_type as single, written_typing, HasSingle, IsWrittenFault, IsAgreed, IsOtherThan, IsOtherClass, AreTyped, StandsInTypes, class_in, written_types as types_written, declared_types as types_declared, variable_types as types_of_variables};
 
 use mof_metamodel::{MetaModel, NameTable, NoMemory, Seq, Text};
-use ocl_types::{Env, TypeError, written_type, wrong_type};
+use ocl_environments::{Env, TypeError, written_type, wrong_type};
 use qv_syntax::{RelationTree, Ty, TypeTree};
 use script_scopes::{ModelNames, WrittenType, put_first, template_types, written_types};
 use std::alloc::Global;

@@ -2,12 +2,12 @@ ghost use Rattle.std.specs.Prelude.{◌≡◌, true, false, is_some, map, All, I
 ghost use Rattle.std.specs.List.{AllZip};
 ghost use Rattle.std.specs.Option.{option_map};
 ghost use Rattle.mof_metamodel.specs.NameTables.{value_of};
-ghost use Rattle.ocl_types.specs.Written.{IfFault};
+ghost use Rattle.ocl_environments.specs.Written.{IfFault};
 ghost use Rattle.script_scopes.specs.Environments.{place_of as place};
 ghost use Rattle.script_variables.specs.Variables.{IsVarOf, LacksModel, IsModelFault};
 
 use mof_metamodel::{NameTable, NoMemory, Seq, Text};
-use ocl_types::{TypeError, TypeFault};
+use ocl_environments::{TypeError, TypeFault};
 use qv_syntax::{Ty, Var};
 use script_scopes::{ModelNames, is_class, place_of, printed};
 use std::alloc::Global;

@@ -8,12 +8,12 @@ use Rattle.mof_metamodel.specs.declared.desc.ClassId.{ClassId}
 use Rattle.qv_syntax.specs.declared.program.Var.{Var}
 use Rattle.qv_syntax.specs.declared.script.RelationTree.{RelationTree}
 use Rattle.qv_syntax.specs.declared.ty.Ty.{Ty}
-use Rattle.ocl_types.specs.Agreement.{same_type}
-use Rattle.ocl_types.specs.Naming.{path_text}
-use Rattle.ocl_types.specs.Outcomes.{RuleResult, wrong_type}
-use Rattle.ocl_types.specs.declared.fault.TypeFault.{TypeFault}
-use Rattle.ocl_types.specs.declared.fault.TypeFault.TheVariants.{UnknownName}
-use Rattle.ocl_types.proofs.TypeLaws.{same_is_one}
+use Rattle.ocl_environments.specs.Agreement.{same_type}
+use Rattle.ocl_environments.specs.Naming.{path_text}
+use Rattle.ocl_environments.specs.Outcomes.{RuleResult, wrong_type}
+use Rattle.ocl_environments.specs.declared.fault.TypeFault.{TypeFault}
+use Rattle.ocl_environments.specs.declared.fault.TypeFault.TheVariants.{UnknownName}
+use Rattle.ocl_environments.proofs.TypeLaws.{same_is_one}
 use Rattle.script_scopes.specs.declared.template_classes.ModelNames.{ModelNames}
 use Rattle.script_scopes.specs.ScriptNames.{model_names}
 use Rattle.script_scopes.specs.Occurrences.{Piece, relations_of, variables_of, template_variables}

@@ -16,8 +16,8 @@ use Rattle.qv_syntax.specs.declared.query.Query.{Query}
 use Rattle.qv_syntax.specs.declared.script.KeyTree.{KeyTree}
 use Rattle.qv_syntax.specs.declared.script.RelationTree.{RelationTree}
 use Rattle.qv_syntax.specs.declared.script.Script.{Script}
-use Rattle.ocl_types.specs.declared.fault.TypeFault.{TypeFault}
-use Rattle.ocl_types.specs.Environments.{Environment, AreWell, is_over, is_flat}
+use Rattle.ocl_environments.specs.declared.fault.TypeFault.{TypeFault}
+use Rattle.ocl_environments.specs.Environments.{Environment, AreWell, is_over, is_flat}
 use Rattle.ocl_types.proofs.TypedParts.{IsReady}
 use Rattle.script_scopes.specs.ScriptNames.{model_names}
 use Rattle.script_scopes.specs.Occurrences.{relations_of}

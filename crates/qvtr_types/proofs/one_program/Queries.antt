@@ -16,14 +16,14 @@ use Rattle.qv_syntax.specs.declared.ty.Ty.{Ty}
 use Rattle.qv_syntax.specs.declared.script.RelationTree.{RelationTree}
 use Rattle.qv_syntax.specs.declared.script.Script.{Script}
 use Rattle.qv_syntax.specs.TypedTrees.{Typing}
-use Rattle.ocl_types.specs.declared.variable.Signature.{Signature}
-use Rattle.ocl_types.specs.declared.variable.Variable.{Variable}
-use Rattle.ocl_types.specs.Agreement.{has_objects, model_for}
-use Rattle.ocl_types.specs.Environments.{Environment, AreWell, class_of, is_over, with_query, without_queries, without_variables}
+use Rattle.ocl_environments.specs.declared.variable.Signature.{Signature}
+use Rattle.ocl_environments.specs.declared.variable.Variable.{Variable}
+use Rattle.ocl_environments.specs.Agreement.{has_objects, model_for}
+use Rattle.ocl_environments.specs.Environments.{Environment, AreWell, class_of, is_over, with_query, without_queries, without_variables}
 use Rattle.ocl_types.specs.HasType.{HasType, HasTree, judgment}
-use Rattle.ocl_types.specs.Parts.{tree_of}
+use Rattle.ocl_environments.specs.Parts.{tree_of}
 use Rattle.ocl_types.specs.Judged.{Judged, both}
-use Rattle.ocl_types.specs.Outcomes.{RuleResult}
+use Rattle.ocl_environments.specs.Outcomes.{RuleResult}
 use Rattle.ocl_types.specs.Queries.{AreQueries, params_judged, signature_judged, reached_judged, body_judged, bodies_judged}
 use Rattle.ocl_types.specs.QueryTyping.{with_param}
 use Rattle.ocl_types.specs.TypeRules.{declared_judged, let_judged}

@@ -1,6 +1,6 @@
 -- Where no fault stands in a script its names are distinct.
 use Rattle.std.proofs.Common.{◌++◌, map}
-use Rattle.ocl_types.specs.declared.fault.TypeFault.{TypeFault}
+use Rattle.ocl_environments.specs.declared.fault.TypeFault.{TypeFault}
 use Rattle.script_scopes.specs.ScriptNames.{model_names}
 use Rattle.script_scopes.specs.Environments.{Setting, metamodel_names}
 use Rattle.script_scopes.specs.Declarations.{relation_names, queries_of, global_names}

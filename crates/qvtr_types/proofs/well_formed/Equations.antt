@@ -21,14 +21,14 @@ use Rattle.qv_syntax.specs.declared.typed.Typed.{Typed}
 use Rattle.qv_syntax.specs.declared.typed.Node.TheVariants as nodes
 use Rattle.qv_syntax.specs.declared.typed.TypedInfix.{TypedInfix}
 use Rattle.qv_syntax.specs.TypeRules.{AreComparable}
-use Rattle.ocl_types.specs.declared.part.TypedPart.{TypedPart}
-use Rattle.ocl_types.specs.declared.part.Chained.{Chained}
-use Rattle.ocl_types.specs.declared.variable.Variable.{Variable}
-use Rattle.ocl_types.specs.Environments.{Environment}
+use Rattle.ocl_environments.specs.declared.part.TypedPart.{TypedPart}
+use Rattle.ocl_environments.specs.declared.part.Chained.{Chained}
+use Rattle.ocl_environments.specs.declared.variable.Variable.{Variable}
+use Rattle.ocl_environments.specs.Environments.{Environment}
 use Rattle.ocl_types.specs.TypeRules.{IsFirstNamed, linked_judged, names_judged}
 use Rattle.ocl_types.specs.Judged.{Judged, gives, taking, both}
-use Rattle.ocl_types.specs.Parts.{tree_of}
-use Rattle.ocl_types.specs.Naming.{texts_of}
+use Rattle.ocl_environments.specs.Parts.{tree_of}
+use Rattle.ocl_environments.specs.Naming.{texts_of}
 use Rattle.ocl_types.specs.TypingOperators.{unchained, and_linked, chain_part}
 use Rattle.ocl_types.specs.HasType.{Judgment, LinkJudgment, linked, judgment, link_judgment, HasType}
 use Rattle.ocl_types.proofs.JudgmentLaws.{expr_unrolled, link_unrolled}

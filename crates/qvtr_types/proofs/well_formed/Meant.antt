@@ -12,7 +12,7 @@ use Rattle.qv_syntax.specs.declared.program.Var.{Var}
 use Rattle.qv_syntax.specs.declared.program.Dom.{Dom}
 use Rattle.qv_syntax.specs.Relations as programs
 use Rattle.qv_syntax.specs.Directions.{IsInModel, HasVariables, CallsInDirection, IsMeant, AreMeant}
-use Rattle.ocl_types.specs.declared.fault.TypeFault.{TypeFault}
+use Rattle.ocl_environments.specs.declared.fault.TypeFault.{TypeFault}
 use Rattle.script_scopes.specs.ScriptNames.{model_names}
 use Rattle.script_scopes.specs.Occurrences.{relations_of, variables_of, template_variables}
 use Rattle.script_scopes.specs.Divisions.{first_template, IsUniversal}

@@ -7,7 +7,7 @@ use Rattle.std.proofs.lemmas.Map.Keys.{apart_from_distinct}
 use Rattle.mof_metamodel.specs.Characters.{same_name}
 use Rattle.qv_syntax.specs.declared.program.Var.{Var}
 use Rattle.qv_syntax.specs.declared.script.RelationTree.{RelationTree}
-use Rattle.ocl_types.specs.declared.variable.Variable.{Variable}
+use Rattle.ocl_environments.specs.declared.variable.Variable.{Variable}
 use Rattle.script_scopes.specs.ScriptNames.{each_once}
 use Rattle.script_scopes.specs.Occurrences.{variables_of}
 use Rattle.script_scopes.specs.Declarations.{IsRepeated}

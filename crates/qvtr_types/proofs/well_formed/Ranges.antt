@@ -26,8 +26,8 @@ use Rattle.qv_syntax.specs.declared.program.Item.{Item}
 use Rattle.qv_syntax.specs.Types.{IsClassIn, IsEnumIn, IsSingleType}
 use Rattle.qv_syntax.specs.Relations.{IsModelDomain, IsTemplateOf}
 use Rattle.qv_syntax.specs.ProgramNumbers.{AreVariablesInRange, IsTemplateInRange, IsRelationInRange}
-use Rattle.ocl_types.specs.declared.fault.TypeFault.{TypeFault}
-use Rattle.ocl_types.specs.Environments.{IsInOrder, no_meta, meta_at, is_over, is_over_step, is_flat, is_flat_layer, class_of}
+use Rattle.ocl_environments.specs.declared.fault.TypeFault.{TypeFault}
+use Rattle.ocl_environments.specs.Environments.{IsInOrder, no_meta, meta_at, is_over, is_over_step, is_flat, is_flat_layer, class_of}
 use Rattle.script_scopes.specs.ScriptNames.{model_names}
 use Rattle.qv_syntax.specs.declared.name.Path.{Path}
 use Rattle.script_scopes.specs.Occurrences.{Piece, pieces_of, relations_of, variables_of, root_of}
@@ -38,7 +38,7 @@ use Rattle.script_scopes.specs.Resolutions.{IsVariable, IsRelation, model_number
 use Rattle.script_scopes.specs.Faults.{StandsInScript, StandsInDeclarations}
 use Rattle.script_variables.specs.SettledRelations.{IsSettled}
 use Rattle.ocl_types.proofs.LayerLaws.{class_of_class, class_of_collection}
-use Rattle.ocl_types.proofs.TypeLaws.{both_true}
+use Rattle.ocl_environments.proofs.TypeLaws.{both_true}
 use Rattle.mof_metamodel.proofs.MetaLaws.{prop_named}
 use Rattle.script_scopes.proofs.CallRowLaws.{among_some}
 use Rattle.qvtr_types.proofs.ProgramCallLaws.{when_from, where_from}

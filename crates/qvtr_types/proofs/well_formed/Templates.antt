@@ -25,7 +25,7 @@ use Rattle.qv_syntax.specs.declared.program.ItemValue.TheOpen as of_templates
 use Rattle.qv_syntax.specs.declared.program.Item.{fold-Item}
 use Rattle.qv_syntax.specs.Parts as program
 use Rattle.qv_syntax.specs.Parts.{IsNested, HasItem}
-use Rattle.ocl_types.specs.Environments.{meta_at}
+use Rattle.ocl_environments.specs.Environments.{meta_at}
 use Rattle.ocl_types.specs.HasType.{HasTree}
 use Rattle.script_scopes.specs.Conjuncts.{is_null}
 use Rattle.script_scopes.specs.Occurrences.{WrittenProperty, Piece, ValuePieces, ItemPieces, in_turn, with_variable, template_body, item_pieces, value_pieces, variable_text, piece_template}

@@ -23,15 +23,15 @@ use Rattle.qv_syntax.specs.declared.typed.Call.{Call}
 use Rattle.qv_syntax.specs.declared.typed.Call.TheOpen as layers
 use Rattle.qv_syntax.specs.declared.typed.TypedInfix.{TypedInfix}
 use Rattle.qv_syntax.specs.declared.typed.TypedPostfix.{TypedPostfix}
-use Rattle.ocl_types.specs.declared.part.TypedPart.{TypedPart}
-use Rattle.ocl_types.specs.declared.part.CallsSoFar.{CallsSoFar}
-use Rattle.ocl_types.specs.declared.part.Chained.{Chained}
-use Rattle.ocl_types.specs.Environments.{Environment}
-use Rattle.ocl_types.specs.Environments as environments
-use Rattle.ocl_types.specs.Classifiers.{named_literal, named_class}
+use Rattle.ocl_environments.specs.declared.part.TypedPart.{TypedPart}
+use Rattle.ocl_environments.specs.declared.part.CallsSoFar.{CallsSoFar}
+use Rattle.ocl_environments.specs.declared.part.Chained.{Chained}
+use Rattle.ocl_environments.specs.Environments.{Environment}
+use Rattle.ocl_environments.specs.Environments as environments
+use Rattle.ocl_environments.specs.Classifiers.{named_literal, named_class}
 use Rattle.ocl_types.specs.Judged.{Judged, gives, taking, both}
-use Rattle.ocl_types.specs.Parts.{tree_of, trees_of}
-use Rattle.ocl_types.specs.Naming.{names_of, texts_of}
+use Rattle.ocl_environments.specs.Parts.{tree_of, trees_of}
+use Rattle.ocl_environments.specs.Naming.{names_of, texts_of}
 use Rattle.ocl_types.specs.Typing.{called_whole, path_of_extent}
 use Rattle.ocl_types.specs.TypingScopes.{let_part}
 use Rattle.ocl_types.specs.TypingOperators.{unchained, and_linked, chain_part}
@@ -41,7 +41,7 @@ use Rattle.ocl_types.proofs.JudgmentLaws.{expr_unrolled, link_unrolled}
 use Rattle.ocl_types.proofs.TypedParts.{finds_has}
 use Rattle.script_scopes.specs.Conjuncts.{one_name, name_alone, equal_to, clause_conjuncts, behind_equals, variable_with, equation_in, equation_of, behind, conjuncts}
 use Rattle.qv_syntax.specs.declared.script.BlockTree.{BlockTree}
-use Rattle.ocl_types.specs.declared.variable.Variable.{Variable}
+use Rattle.ocl_environments.specs.declared.variable.Variable.{Variable}
 use Rattle.ocl_types.specs.TypeRules.{IsFirstNamed}
 use Rattle.qvtr_types.specs.TypedUsages.{HasNumber}
 use Rattle.script_scopes.proofs.ConjunctLemmas.{by_layer, conjuncts_behind}

@@ -11,7 +11,7 @@ use Rattle.mof_metamodel.specs.Characters.{same_name}
 use Rattle.mof_metamodel.specs.Metamodels.{prop_number}
 use Rattle.qv_syntax.specs.declared.typed.Values.{Values}
 use Rattle.qv_syntax.specs.declared.program.ItemValue.{ItemValue}
-use Rattle.ocl_types.specs.declared.variable.Variable.{Variable}
+use Rattle.ocl_environments.specs.declared.variable.Variable.{Variable}
 use Rattle.qv_syntax.specs.declared.name.Path.{Path}
 use Rattle.qv_syntax.specs.declared.ty.Ty.{Ty}
 use Rattle.qv_syntax.specs.declared.ty.Ty.TheVariants as types
@@ -34,10 +34,10 @@ use Rattle.qv_syntax.specs.Parts.{IsNested, HasItem}
 use Rattle.qv_syntax.specs.Relations.{IsModelDomain, IsTemplateOf}
 use Rattle.qv_syntax.specs.ProgramTypes as programs
 use Rattle.qv_syntax.specs.ProgramTypes.{typing_of, Fits, IsGiven, IsConditionTyped, IsEquationTyped, AreGiven, IsCallTyped, IsConjunctTyped, IsItemOfType, IsItemTyped, IsRelationTyped}
-use Rattle.ocl_types.specs.declared.fault.TypeFault.{TypeFault}
-use Rattle.ocl_types.specs.declared.part.TypedPart.{TypedPart}
-use Rattle.ocl_types.specs.Environments.{Environment, meta_at, is_over}
-use Rattle.ocl_types.specs.Parts.{tree_of}
+use Rattle.ocl_environments.specs.declared.fault.TypeFault.{TypeFault}
+use Rattle.ocl_environments.specs.declared.part.TypedPart.{TypedPart}
+use Rattle.ocl_environments.specs.Environments.{Environment, meta_at, is_over}
+use Rattle.ocl_environments.specs.Parts.{tree_of}
 use Rattle.ocl_types.specs.Typing.{typed}
 use Rattle.ocl_types.specs.HasType.{HasType, HasTree}
 use Rattle.ocl_types.specs.TypedContext as context

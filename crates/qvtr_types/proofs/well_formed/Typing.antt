@@ -27,17 +27,17 @@ use Rattle.qv_syntax.specs.Types.{IsClassIn, ConformsTo, AreRelated}
 use Rattle.qv_syntax.specs.TypeRules.{HasProperty}
 use Rattle.qv_syntax.specs.TypedTrees.{QueryType, Context, Variables, IsTyped}
 use Rattle.qv_syntax.specs.ProgramTypes as programs
-use Rattle.ocl_types.specs.declared.part.TypedPart.{TypedPart}
-use Rattle.ocl_types.specs.Environments.{Environment, IsInOrder, AreWell, no_meta, meta_at, is_over, is_over_step, is_flat, is_type, class_of, slot_at, is_object_type, is_variable}
-use Rattle.ocl_types.specs.Agreement.{same_type, fits}
-use Rattle.ocl_types.specs.Navigation.{value_type, values_of}
-use Rattle.ocl_types.specs.Parts.{tree_of}
+use Rattle.ocl_environments.specs.declared.part.TypedPart.{TypedPart}
+use Rattle.ocl_environments.specs.Environments.{Environment, IsInOrder, AreWell, no_meta, meta_at, is_over, is_over_step, is_flat, is_type, class_of, slot_at, is_object_type, is_variable}
+use Rattle.ocl_environments.specs.Agreement.{same_type, fits}
+use Rattle.ocl_environments.specs.Navigation.{value_type, values_of}
+use Rattle.ocl_environments.specs.Parts.{tree_of}
 use Rattle.ocl_types.specs.HasType.{HasType}
 use Rattle.ocl_types.specs.QueryTyping.{signed}
 use Rattle.ocl_types.specs.TypedContext as context
 use Rattle.ocl_types.proofs.LayerLaws.{class_of_class}
 use Rattle.ocl_types.proofs.DemandLaws.{conforming_is}
-use Rattle.ocl_types.proofs.TypeLaws.{both_true, same_is_one}
+use Rattle.ocl_environments.proofs.TypeLaws.{both_true, same_is_one}
 use Rattle.ocl_types.proofs.TypedTrees.{tree_typed, type_within}
 use Rattle.script_scopes.specs.Occurrences.{variables_of}
 use Rattle.script_scopes.specs.Environments.{Setting, in_script, in_relation, named_variables, slots_of}

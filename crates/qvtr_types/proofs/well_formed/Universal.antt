@@ -22,7 +22,7 @@ use Rattle.qv_syntax.specs.declared.program.Conj.{Conj}
 use Rattle.qv_syntax.specs.declared.program.Conj.TheVariants as conjs
 use Rattle.qv_syntax.specs.Parts.{Names, IsNested, HasItem}
 use Rattle.qv_syntax.specs.Relations as programs
-use Rattle.ocl_types.specs.Parts.{tree_of}
+use Rattle.ocl_environments.specs.Parts.{tree_of}
 use Rattle.ocl_types.specs.HasType.{HasTree}
 use Rattle.script_scopes.specs.ScriptNames.{model_names}
 use Rattle.script_scopes.specs.Usages.{variables_in}

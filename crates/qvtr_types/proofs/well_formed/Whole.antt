@@ -16,8 +16,8 @@ use Rattle.qv_syntax.specs.QueryCalls.{Reaches, AreAcyclic}
 use Rattle.qv_syntax.specs.ProgramNumbers.{IsRelationInRange}
 use Rattle.qv_syntax.specs.ProgramTypes.{IsQueryTyped, IsRelationTyped}
 use Rattle.qv_syntax.specs.WellFormed.{IsWellFormed}
-use Rattle.ocl_types.specs.declared.fault.TypeFault.{TypeFault}
-use Rattle.ocl_types.specs.Environments.{IsInOrder, Environment, most, without_queries}
+use Rattle.ocl_environments.specs.declared.fault.TypeFault.{TypeFault}
+use Rattle.ocl_environments.specs.Environments.{IsInOrder, Environment, most, without_queries}
 use Rattle.ocl_types.proofs.QueryTrees.{queries_are_typed}
 use Rattle.script_scopes.specs.Occurrences.{relations_of}
 use Rattle.script_scopes.specs.Environments.{Setting, in_script}

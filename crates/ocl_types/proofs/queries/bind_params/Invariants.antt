@@ -1,6 +1,6 @@
 use Rattle.std.proofs.Common.{◌≡◌, [], drop}
 use Rattle.std.specs.Prelude.{IsTrue}
-use Rattle.ocl_types.specs.Environments.{are_types, without_variables}
+use Rattle.ocl_environments.specs.Environments.{are_types, without_variables}
 use Rattle.ocl_types.specs.QueryTyping.{params_from}
 use Rattle.ocl_types.proofs.queries.bind_params.Given as goal
 

@@ -1,5 +1,5 @@
 use Rattle.std.proofs.Common.{◌≡◌, drop, map}
-use Rattle.ocl_types.specs.Environments.{without_variables, without_names}
+use Rattle.ocl_environments.specs.Environments.{without_variables, without_names}
 use Rattle.ocl_types.specs.QueryTyping.{queries_bound}
 use Rattle.ocl_types.proofs.queries.bind_queries.Given as goal
 

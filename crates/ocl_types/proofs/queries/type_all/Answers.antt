@@ -3,7 +3,7 @@ use Rattle.std.proofs.lemmas.Result.{err_from_is_err_and}
 use Rattle.call_graph.specs.Graphs.{IsOnCycle}
 use Rattle.qv_syntax.specs.declared.query.Query.{Query}
 use Rattle.qv_syntax.specs.declared.query.QueryTree.{QueryTree}
-use Rattle.ocl_types.specs.QueryCalls.{rows_of, IsCycleFault}
+use Rattle.ocl_environments.specs.QueryCalls.{rows_of, IsCycleFault}
 use Rattle.ocl_types.proofs.QueryLemmas.{err_told, bound_failed, bodies_failed, cycle_failed, all_typed, both_answered}
 use Rattle.ocl_types.proofs.queries.type_all.Goals as goal
 

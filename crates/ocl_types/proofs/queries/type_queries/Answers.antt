@@ -1,8 +1,8 @@
 use Rattle.std.proofs.Common.{ℕ, List, Bor, map, ap, subst, ◌∙◌, length}
 use Rattle.call_graph.specs.Graphs.{IsOnCycle}
-use Rattle.ocl_types.specs.Environments.{Environment, without_names}
+use Rattle.ocl_environments.specs.Environments.{Environment, without_names}
 use Rattle.ocl_types.specs.QueryTyping.{IsFirstFault}
-use Rattle.ocl_types.specs.QueryCalls.{rows_of}
+use Rattle.ocl_environments.specs.QueryCalls.{rows_of}
 use Rattle.ocl_types.proofs.QueryLemmas.{kept_variables, fault_of_result, fault_without, ok_told, put_typed}
 use Rattle.qv_syntax.specs.declared.query.QueryTree.{QueryTree}
 use Rattle.ocl_types.proofs.SignatureLemmas.{in_reach_of}

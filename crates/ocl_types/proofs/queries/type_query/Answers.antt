@@ -1,7 +1,7 @@
 use Rattle.std.proofs.Common.{[], sym, ap, subst, ◌∙◌}
 use Rattle.mof_metamodel.specs.Giving.{Gives}
-use Rattle.ocl_types.specs.Environments.{Environment}
-use Rattle.ocl_types.specs.Written.{fault_in}
+use Rattle.ocl_environments.specs.Environments.{Environment}
+use Rattle.ocl_environments.specs.Written.{fault_in}
 use Rattle.ocl_types.specs.QueryTyping.{params_from}
 use Rattle.ocl_types.proofs.QueryLemmas.{query_made}
 use Rattle.ocl_types.proofs.queries.type_query.Goals as goal

@@ -1,7 +1,7 @@
 use Rattle.std.proofs.Common.{◌≡◌, ◌∙◌, Ok, Err, sym, ap, subst, arith}
 use Rattle.std.proofs.lemmas.Result.{err_from_is_err_and}
 use Rattle.qv_syntax.specs.declared.expr.Expr.{Expr}
-use Rattle.ocl_types.specs.Environments.{Environment}
+use Rattle.ocl_environments.specs.Environments.{Environment}
 use Rattle.ocl_types.proofs.QueryLemmas.{gives_told}
 use Rattle.ocl_types.proofs.TypingLaws.{at, let_done, let_fault, links_fall}
 use Rattle.ocl_types.proofs.typing.+typing.Goals as goal

@@ -1,5 +1,5 @@
 use Rattle.std.proofs.Common.{◌≡◌, map, drop, []}
-use Rattle.ocl_types.specs.Scopes.{in_reach}
+use Rattle.ocl_environments.specs.Scopes.{in_reach}
 use Rattle.ocl_types.specs.Typing.{meaning, operated_by, calling, parts_from, chained_from, called_from}
 use Rattle.ocl_types.proofs.typing.+typing.Given as goal
 

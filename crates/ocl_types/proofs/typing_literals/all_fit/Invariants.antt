@@ -1,6 +1,6 @@
 use Rattle.std.proofs.Common.{◌≡◌, drop}
-use Rattle.ocl_types.specs.Agreement.{all_fit}
-use Rattle.ocl_types.specs.Parts.{types_of}
+use Rattle.ocl_environments.specs.Agreement.{all_fit}
+use Rattle.ocl_environments.specs.Parts.{types_of}
 use Rattle.ocl_types.proofs.typing_literals.all_fit.Given as goal
 
 abbrev pub invariant-loop-part : goal.invariant-loop-part

@@ -1,7 +1,7 @@
 use Rattle.std.proofs.Common.{◌≡◌, drop}
 use Rattle.std.specs.Prelude.{fold}
-use Rattle.ocl_types.specs.Agreement.{higher}
-use Rattle.ocl_types.specs.Parts.{types_of}
+use Rattle.ocl_environments.specs.Agreement.{higher}
+use Rattle.ocl_environments.specs.Parts.{types_of}
 use Rattle.ocl_types.proofs.typing_literals.highest.Given as goal
 
 abbrev pub invariant-loop-part : goal.invariant-loop-part

@@ -1,5 +1,5 @@
 use Rattle.std.proofs.Common.{[], ◌∷◌, ◌++◌, sym, ◌∙◌, ap}
-use Rattle.ocl_types.specs.Environments.{no_meta}
+use Rattle.ocl_environments.specs.Environments.{no_meta}
 use Rattle.qvtr_engine.proofs.NumberingLaws.{still_named, remains_more, numbered_more, not_missing}
 use Rattle.qvtr_engine.proofs.RequestLaws.{item_at}
 use Rattle.qvtr_engine.proofs.numbering_inputs.number_metas.Goals as goal

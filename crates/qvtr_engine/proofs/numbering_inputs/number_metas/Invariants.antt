@@ -1,5 +1,5 @@
 use Rattle.std.proofs.Common.{◌≡◌, take}
-use Rattle.ocl_types.specs.Environments.{no_meta}
+use Rattle.ocl_environments.specs.Environments.{no_meta}
 use Rattle.qvtr_engine.specs.FoundFiles.{items_named}
 use Rattle.qvtr_engine.proofs.NumberingLaws.{Remains}
 use Rattle.qvtr_engine.proofs.numbering_inputs.number_metas.Given as goal

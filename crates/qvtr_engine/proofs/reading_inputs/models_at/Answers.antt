@@ -4,7 +4,7 @@ use Rattle.std.specs.List.{AllZip}
 use Rattle.std.proofs.lemmas.Result.{err_from_is_err_and}
 use Rattle.vault_io.specs.Counts.{Rose}
 use Rattle.object_tables.specs.Models.{ModelData}
-use Rattle.ocl_types.specs.Environments.{meta_at}
+use Rattle.ocl_environments.specs.Environments.{meta_at}
 use Rattle.qvtr_engine.specs.declared.numbering_inputs.Found.{Found}
 use Rattle.qvtr_engine.specs.CheckView.{bound_view}
 use Rattle.qvtr_engine.specs.CheckWords.{Bound}

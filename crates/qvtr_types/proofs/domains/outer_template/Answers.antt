@@ -5,7 +5,7 @@ use Rattle.qv_syntax.specs.declared.name.Name.{Name}
 use Rattle.qv_syntax.specs.declared.program.Tmpl.{Tmpl}
 use Rattle.qv_syntax.specs.declared.script.TemplateTree.{out-TemplateTree}
 use Rattle.std.specs.Prelude.{Option}
-use Rattle.ocl_types.specs.declared.fault.TypeFault.{TypeFault}
+use Rattle.ocl_environments.specs.declared.fault.TypeFault.{TypeFault}
 use Rattle.ocl_types.proofs.QueryLemmas.{err_told, fault_of_result}
 use Rattle.script_scopes.specs.Environments.{place_of}
 use Rattle.script_scopes.specs.Occurrences.{begun, template_body, variable_text}

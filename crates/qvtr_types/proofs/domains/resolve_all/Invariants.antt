@@ -1,7 +1,7 @@
 use Rattle.std.proofs.Common.{ℕ, List, ◌++◌, drop}
 use Rattle.std.specs.Prelude.{All}
 use Rattle.qv_syntax.specs.declared.program.Dom.{Dom}
-use Rattle.ocl_types.specs.declared.fault.TypeFault.{TypeFault}
+use Rattle.ocl_environments.specs.declared.fault.TypeFault.{TypeFault}
 use Rattle.script_scopes.specs.LocatedPieces.{located_from}
 use Rattle.qvtr_types.specs.ResolvedDomains.{shown_scope, AreDomainsFrom, IsMeantIn, IsLocatedFault}
 use Rattle.qvtr_types.proofs.domains.resolve_all.Given as goal

@@ -1,8 +1,8 @@
 use Rattle.std.proofs.Common.{◌≡◌, ◌≢◌, refl, ap, ◌∙◌}
 use Rattle.std.proofs.lemmas.Result.{err_from_is_err_and}
 use Rattle.qv_syntax.specs.declared.ty.Ty.TheVariants as types
-use Rattle.ocl_types.specs.Outcomes.{wrong_type}
-use Rattle.ocl_types.specs.Parts.{tree_of}
+use Rattle.ocl_environments.specs.Outcomes.{wrong_type}
+use Rattle.ocl_environments.specs.Parts.{tree_of}
 use Rattle.ocl_types.specs.TypedContext.{typing_of}
 use Rattle.ocl_types.proofs.QueryLemmas.{err_told}
 use Rattle.qvtr_types.specs.Expressions.{StandsInCondition}

@@ -2,9 +2,9 @@ use Rattle.std.proofs.Common.{◌≡◌, ◌≢◌, ℕ, refl, ap, subst, ◌∙
 use Rattle.std.specs.Prelude.{Some}
 use Rattle.std.proofs.lemmas.Result.{err_from_is_err_and}
 use Rattle.qv_syntax.specs.Types.{AreRelated}
-use Rattle.ocl_types.specs.declared.fault.TypeFault.TheVariants.{ModelMix}
-use Rattle.ocl_types.specs.Outcomes.{wrong_type}
-use Rattle.ocl_types.specs.Parts.{tree_of}
+use Rattle.ocl_environments.specs.declared.fault.TypeFault.TheVariants.{ModelMix}
+use Rattle.ocl_environments.specs.Outcomes.{wrong_type}
+use Rattle.ocl_environments.specs.Parts.{tree_of}
 use Rattle.ocl_types.specs.TypedContext.{typing_of}
 use Rattle.ocl_types.proofs.QueryLemmas.{err_told}
 use Rattle.qvtr_types.specs.Expressions.{StandsInGiven}

@@ -1,5 +1,5 @@
 use Rattle.std.proofs.Common.{sym, ap}
-use Rattle.ocl_types.specs.declared.fault.TypeFault.TheVariants.{UnknownName}
+use Rattle.ocl_environments.specs.declared.fault.TypeFault.TheVariants.{UnknownName}
 use Rattle.script_scopes.specs.BorrowedPieces.{shown_property}
 use Rattle.qvtr_types.proofs.TemplateLaws.{class_at, item_property_is}
 use Rattle.qvtr_types.proofs.items.item_property.Goals as goal

@@ -1,9 +1,9 @@
 use Rattle.std.proofs.Common.{◌≡◌, ℕ, true, false, refl, sym, subst, ◌∙◌}
 use Rattle.std.specs.Prelude.{Some, IsTrue}
 use Rattle.std.proofs.lemmas.Result.{err_from_is_err_and}
-use Rattle.ocl_types.specs.Environments.{Environment, is_over}
+use Rattle.ocl_environments.specs.Environments.{Environment, is_over}
 use Rattle.ocl_types.specs.HasType.{HasTree, Stands}
-use Rattle.ocl_types.specs.Parts.{tree_of}
+use Rattle.ocl_environments.specs.Parts.{tree_of}
 use Rattle.ocl_types.specs.TypedContext.{typing_of}
 use Rattle.ocl_types.proofs.QueryLemmas.{err_told}
 use Rattle.script_scopes.specs.Conjuncts.{is_null}

@@ -4,9 +4,9 @@ use Rattle.std.proofs.lemmas.Result.{err_from_is_err_and}
 use Rattle.mof_metamodel.specs.declared.desc.MetaDesc.{MetaDesc}
 use Rattle.qv_syntax.specs.declared.ty.Ty.TheVariants as types
 use Rattle.qv_syntax.specs.Types.{AreRelated}
-use Rattle.ocl_types.specs.Environments.{Environment, AreWell, is_over}
-use Rattle.ocl_types.specs.Naming.{names_of}
-use Rattle.ocl_types.specs.Outcomes.{wrong_type}
+use Rattle.ocl_environments.specs.Environments.{Environment, AreWell, is_over}
+use Rattle.ocl_environments.specs.Naming.{names_of}
+use Rattle.ocl_environments.specs.Outcomes.{wrong_type}
 use Rattle.ocl_types.proofs.QueryLemmas.{err_told}
 use Rattle.qvtr_types.specs.TemplatePieces.{IsUnknownClass, StandsInNested}
 use Rattle.qvtr_types.proofs.TemplateLaws.{path_class_at, class_over}

@@ -1,5 +1,5 @@
 use Rattle.std.proofs.Common.{sym, ap, ◌∙◌}
-use Rattle.ocl_types.specs.declared.fault.TypeFault.TheVariants.{UnknownName}
+use Rattle.ocl_environments.specs.declared.fault.TypeFault.TheVariants.{UnknownName}
 use Rattle.qvtr_types.proofs.items.template_class_of.Goals as goal
 
 pub returns-in_ok-text-in-None-clause-fault : goal.returns-in_ok-text-in-None-clause-fault

@@ -1,5 +1,5 @@
 use Rattle.std.proofs.Common.{◌∙◌, sym, subst}
-use Rattle.ocl_types.specs.declared.fault.TypeFault.TheVariants.{UnknownName}
+use Rattle.ocl_environments.specs.declared.fault.TypeFault.TheVariants.{UnknownName}
 use Rattle.script_scopes.specs.Keys.{StandsInKey}
 use Rattle.qvtr_types.proofs.keys.key_class.Goals as goal
 

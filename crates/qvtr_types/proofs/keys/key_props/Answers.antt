@@ -5,7 +5,7 @@ use Rattle.std.proofs.lemmas.List.{take_more, take_all}
 use Rattle.mof_metamodel.specs.declared.desc.ClassId.{ClassId}
 use Rattle.mof_metamodel.specs.declared.desc.PropId.{PropId}
 use Rattle.qv_syntax.specs.declared.name.Name.{Name}
-use Rattle.ocl_types.specs.Environments.{Environment}
+use Rattle.ocl_environments.specs.Environments.{Environment}
 use Rattle.script_scopes.specs.Declarations.{key_property}
 use Rattle.script_scopes.proofs.LoopLemmas.{zip_push}
 use Rattle.qvtr_types.proofs.keys.key_props.Goals as goal

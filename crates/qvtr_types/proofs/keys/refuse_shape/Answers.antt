@@ -1,7 +1,7 @@
 use Rattle.std.proofs.Common.{◌≡◌, [], true≢false, sym, ap, subst, ◌∙◌}
 use Rattle.mof_metamodel.specs.MetaFaults.{first_repeat}
-use Rattle.ocl_types.specs.Naming.{texts_of}
-use Rattle.ocl_types.specs.declared.fault.TypeFault.TheVariants.{KeyShape}
+use Rattle.ocl_environments.specs.Naming.{texts_of}
+use Rattle.ocl_environments.specs.declared.fault.TypeFault.TheVariants.{KeyShape}
 use Rattle.script_scopes.specs.Keys.{StandsInKey}
 use Rattle.script_scopes.proofs.RepeatLemmas.{is_repeated, none_repeated}
 use Rattle.qvtr_types.proofs.keys.refuse_shape.Goals as goal

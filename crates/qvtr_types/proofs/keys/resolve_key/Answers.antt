@@ -1,7 +1,7 @@
 use Rattle.std.proofs.Common.{List, subst}
 use Rattle.std.proofs.lemmas.Result.{err_from_is_err_and}
 use Rattle.qv_syntax.specs.declared.name.Name.{Name}
-use Rattle.ocl_types.specs.Naming.{names_of}
+use Rattle.ocl_environments.specs.Naming.{names_of}
 use Rattle.ocl_types.proofs.QueryLemmas.{err_told}
 use Rattle.script_scopes.specs.Keys.{StandsInKey}
 use Rattle.qvtr_types.specs.KeySearches.{IsLacking}

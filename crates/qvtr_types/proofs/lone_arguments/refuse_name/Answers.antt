@@ -5,9 +5,9 @@ use Rattle.std.proofs.lemmas.Result.{on_ok_weaker}
 use Rattle.std.proofs.lemmas.List.Elements.{All-contains}
 use Rattle.qv_syntax.specs.declared.program.Var.{Var}
 use Rattle.qv_syntax.specs.Types.{AreRelated}
-use Rattle.ocl_types.specs.declared.fault.TypeFault.{TypeFault}
-use Rattle.ocl_types.specs.Environments.{is_over}
-use Rattle.ocl_types.specs.Outcomes.{wrong_type}
+use Rattle.ocl_environments.specs.declared.fault.TypeFault.{TypeFault}
+use Rattle.ocl_environments.specs.Environments.{is_over}
+use Rattle.ocl_environments.specs.Outcomes.{wrong_type}
 use Rattle.ocl_types.proofs.QueryLemmas.{fault_of_result}
 use Rattle.qvtr_types.specs.LoneArguments.{IsUnrelatedName}
 use Rattle.qvtr_types.proofs.LoneLaws.{named_one}

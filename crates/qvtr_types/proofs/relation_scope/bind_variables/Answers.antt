@@ -4,8 +4,8 @@ use Rattle.std.proofs.lemmas.List.{take_all}
 use Rattle.std.proofs.lemmas.List.Elements.{All-contains}
 use Rattle.mof_metamodel.specs.NameTables.{NamesWith, value_of}
 use Rattle.qv_syntax.specs.declared.program.Var.{Var}
-use Rattle.ocl_types.specs.declared.variable.Variable.{Variable}
-use Rattle.ocl_types.specs.Environments.{Environment, is_variable, with_variable}
+use Rattle.ocl_environments.specs.declared.variable.Variable.{Variable}
+use Rattle.ocl_environments.specs.Environments.{Environment, is_variable, with_variable}
 use Rattle.script_scopes.specs.Environments.{named_variables}
 use Rattle.qvtr_types.proofs.RelationScopeLaws.{unbound_yet, one_bound}
 use Rattle.qvtr_types.proofs.relation_scope.bind_variables.Goals as goal

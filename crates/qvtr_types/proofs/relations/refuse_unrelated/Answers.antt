@@ -1,7 +1,7 @@
 use Rattle.std.proofs.Common.{◌⊎◌, inl, inr, List}
 use Rattle.std.proofs.lemmas.Result.{err_from_is_err_and}
 use Rattle.qv_syntax.specs.declared.program.Var.{Var}
-use Rattle.ocl_types.specs.declared.fault.TypeFault.{TypeFault}
+use Rattle.ocl_environments.specs.declared.fault.TypeFault.{TypeFault}
 use Rattle.ocl_types.proofs.QueryLemmas.{err_told, fault_of_result}
 use Rattle.script_scopes.specs.Conjuncts.{clause_conjuncts}
 use Rattle.qvtr_types.specs.ResolvedConjuncts.{ClauseReach, reach_of}

@@ -3,9 +3,9 @@ use Rattle.std.proofs.lemmas.Result.{err_from_is_err_and}
 use Rattle.mof_metamodel.specs.NameTables.{NamesWith}
 use Rattle.qv_syntax.specs.declared.program.Var.{Var}
 use Rattle.qv_syntax.specs.declared.script.RelationTree.{RelationTree}
-use Rattle.ocl_types.specs.declared.fault.TypeFault.{TypeFault}
-use Rattle.ocl_types.specs.declared.variable.Variable.{Variable}
-use Rattle.ocl_types.specs.Environments.{Environment, without_variables}
+use Rattle.ocl_environments.specs.declared.fault.TypeFault.{TypeFault}
+use Rattle.ocl_environments.specs.declared.variable.Variable.{Variable}
+use Rattle.ocl_environments.specs.Environments.{Environment, without_variables}
 use Rattle.ocl_types.proofs.QueryLemmas.{err_told}
 use Rattle.script_scopes.specs.Environments.{Setting}
 use Rattle.script_scopes.specs.Faults.{StandsInExpressions}

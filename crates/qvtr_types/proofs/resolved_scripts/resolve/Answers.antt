@@ -3,8 +3,8 @@ use Rattle.std.specs.Prelude.{chars}
 use Rattle.std.proofs.lemmas.Result.{err_from_is_err_and}
 use Rattle.mof_metamodel.specs.declared.desc.MetaDesc.{MetaDesc}
 use Rattle.qv_syntax.specs.declared.program.Program.{Program}
-use Rattle.ocl_types.specs.declared.fault.TypeError.TheVariants as errors
-use Rattle.ocl_types.specs.Environments.{Environment}
+use Rattle.ocl_environments.specs.declared.fault.TypeError.TheVariants as errors
+use Rattle.ocl_environments.specs.Environments.{Environment}
 use Rattle.ocl_types.proofs.QueryLemmas.{err_told}
 use Rattle.script_scopes.specs.Environments.{in_script}
 use Rattle.script_scopes.specs.Resolutions.{IsResolution}

@@ -6,8 +6,8 @@ use Rattle.mof_metamodel.specs.declared.desc.MetaDesc.{MetaDesc}
 use Rattle.qv_syntax.specs.declared.query.Query.{Query}
 use Rattle.qv_syntax.specs.declared.program.Rel.{Rel}
 use Rattle.qv_syntax.specs.declared.script.Script.{Script}
-use Rattle.ocl_types.specs.declared.fault.TypeFault.{TypeFault}
-use Rattle.ocl_types.specs.Environments.{Environment, IsInOrder}
+use Rattle.ocl_environments.specs.declared.fault.TypeFault.{TypeFault}
+use Rattle.ocl_environments.specs.Environments.{Environment, IsInOrder}
 use Rattle.ocl_types.proofs.QueryLemmas.{err_told}
 use Rattle.script_scopes.specs.Occurrences.{relations_of}
 use Rattle.script_scopes.specs.Environments.{Setting, in_script}

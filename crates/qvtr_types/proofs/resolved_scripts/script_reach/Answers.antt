@@ -1,7 +1,7 @@
 use Rattle.std.proofs.Common.{ℕ, List, length, sym, ap, subst, ◌∙◌}
 use Rattle.std.specs.Prelude.{IsTrue}
 use Rattle.qv_syntax.specs.declared.query.ModelSlot.{ModelSlot}
-use Rattle.ocl_types.specs.Environments.{have_metas}
+use Rattle.ocl_environments.specs.Environments.{have_metas}
 use Rattle.script_scopes.specs.Environments.{metamodel_names}
 use Rattle.qvtr_types.proofs.SlotLaws.{slots_placed}
 use Rattle.qvtr_types.proofs.resolved_scripts.script_reach.Goals as goal

@@ -2,10 +2,10 @@ use Rattle.std.proofs.Common.{ℕ, List, Bor, map, length, subst}
 use Rattle.std.proofs.lemmas.Result.{IfOk-weaker}
 use Rattle.call_graph.specs.Graphs.{IsOnCycle}
 use Rattle.qv_syntax.specs.declared.query.QueryTree.{QueryTree}
-use Rattle.ocl_types.specs.declared.fault.TypeFault.{TypeFault}
-use Rattle.ocl_types.specs.declared.variable.Signature.{Signature}
-use Rattle.ocl_types.specs.Environments.{NamesWith}
-use Rattle.ocl_types.specs.QueryCalls.{rows_of}
+use Rattle.ocl_environments.specs.declared.fault.TypeFault.{TypeFault}
+use Rattle.ocl_environments.specs.declared.variable.Signature.{Signature}
+use Rattle.ocl_environments.specs.Environments.{NamesWith}
+use Rattle.ocl_environments.specs.QueryCalls.{rows_of}
 use Rattle.ocl_types.proofs.QueryLemmas.{fault_of_result}
 use Rattle.qvtr_types.proofs.ScriptQueryLaws.{both_told, first_stands, none_stands}
 use Rattle.script_scopes.specs.ScriptQueries.{StandsInQueries}

@@ -1,7 +1,7 @@
 use Rattle.std.proofs.Common.{◌≡◌, ℕ, ◌+◌, List, ◌++◌, map, drop}
 use Rattle.std.specs.Prelude.{All}
 use Rattle.qv_syntax.specs.declared.program.Item.{Item}
-use Rattle.ocl_types.specs.declared.fault.TypeFault.{TypeFault}
+use Rattle.ocl_environments.specs.declared.fault.TypeFault.{TypeFault}
 use Rattle.script_scopes.specs.ResolvedTemplates.{AreItems}
 use Rattle.qvtr_types.specs.TemplatePieces.{IsMeant, IsPieceFault}
 use Rattle.qvtr_types.proofs.ItemLaws.{pieces_from, pieces_count}

@@ -2,7 +2,7 @@ use Rattle.std.proofs.Common.{◌≡◌, ℕ, List, Bor, map, ap, subst, ◌∙�
 use Rattle.std.specs.Prelude.{All, Contains, chars}
 use Rattle.std.proofs.lemmas.Result.{err_from_is_err_and}
 use Rattle.qv_syntax.specs.declared.script.RelationTree.{RelationTree}
-use Rattle.ocl_types.specs.declared.fault.TypeFault.TheVariants.{UnknownModel}
+use Rattle.ocl_environments.specs.declared.fault.TypeFault.TheVariants.{UnknownModel}
 use Rattle.ocl_types.proofs.QueryLemmas.{err_told, fault_of_result}
 use Rattle.script_scopes.specs.ScriptNames.{model_names}
 use Rattle.script_scopes.specs.Occurrences.{relations_of}

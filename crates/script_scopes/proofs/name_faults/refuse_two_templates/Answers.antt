@@ -1,6 +1,6 @@
 use Rattle.std.proofs.Common.{[], ◌∙◌, sym, ap}
 use Rattle.mof_metamodel.specs.MetaFaults.{first_repeat}
-use Rattle.ocl_types.specs.declared.fault.TypeFault.TheVariants.{DuplicateName}
+use Rattle.ocl_environments.specs.declared.fault.TypeFault.TheVariants.{DuplicateName}
 use Rattle.script_scopes.specs.Occurrences.{template_variables}
 use Rattle.script_scopes.proofs.RepeatLemmas.{is_repeated, none_repeated}
 use Rattle.script_scopes.proofs.name_faults.refuse_two_templates.Goals as goal

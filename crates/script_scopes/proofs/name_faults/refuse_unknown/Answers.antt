@@ -2,7 +2,7 @@ use Rattle.std.proofs.Common.{ℕ, List, map, arith, ap, sym, subst, ◌∙◌}
 use Rattle.std.specs.Prelude.{All, Contains}
 use Rattle.std.proofs.lemmas.List.{take_all}
 use Rattle.std.proofs.lemmas.List.Elements.{All-more}
-use Rattle.ocl_types.specs.declared.fault.TypeFault.TheVariants.{UnknownName}
+use Rattle.ocl_environments.specs.declared.fault.TypeFault.TheVariants.{UnknownName}
 use Rattle.script_scopes.proofs.NameLemmas.{has_name, lacks_name}
 use Rattle.script_scopes.proofs.DistinctLemmas.{met_member}
 use Rattle.script_scopes.proofs.name_faults.refuse_unknown.Goals as goal

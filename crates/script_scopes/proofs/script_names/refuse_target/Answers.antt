@@ -2,7 +2,7 @@ use Rattle.std.proofs.Common.{◌≡◌, true, false, ap}
 use Rattle.std.specs.Prelude.{chars}
 use Rattle.std.specs.Set.{is_member}
 use Rattle.mof_metamodel.specs.Characters.{same_name}
-use Rattle.ocl_types.specs.declared.fault.TypeFault.TheVariants.{UnknownModel}
+use Rattle.ocl_environments.specs.declared.fault.TypeFault.TheVariants.{UnknownModel}
 use Rattle.script_scopes.specs.ScriptNames.{model_names}
 use Rattle.script_scopes.proofs.NameLemmas.{has_name, lacks_name}
 use Rattle.script_scopes.proofs.script_names.refuse_target.Goals as goal

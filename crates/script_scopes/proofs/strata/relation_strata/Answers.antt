@@ -5,8 +5,8 @@ use Rattle.std.proofs.lemmas.Result.{IfOk-weaker}
 use Rattle.qv_syntax.specs.declared.script.RelationTree.{RelationTree}
 use Rattle.call_graph.specs.declared.layers.Layers.{Layers}
 use Rattle.call_graph.specs.declared.layers.Layers.TheVariants.{Layered}
-use Rattle.ocl_types.specs.declared.fault.TypeFault.{TypeFault}
-use Rattle.ocl_types.specs.Written.{IfFault}
+use Rattle.ocl_environments.specs.declared.fault.TypeFault.{TypeFault}
+use Rattle.ocl_environments.specs.Written.{IfFault}
 use Rattle.ocl_types.proofs.QueryLemmas.{fault_of_result}
 use Rattle.script_scopes.specs.Occurrences.{relations_of}
 use Rattle.script_scopes.specs.Declarations.{relation_names}

@@ -4,7 +4,7 @@ use Rattle.std.specs.List.{AllZip}
 use Rattle.std.proofs.lemmas.Result.{err_from_is_err_and}
 use Rattle.mof_metamodel.specs.NameTables.{NamesWith}
 use Rattle.qv_syntax.specs.declared.program.Var.{Var}
-use Rattle.ocl_types.specs.declared.fault.TypeFault.{TypeFault}
+use Rattle.ocl_environments.specs.declared.fault.TypeFault.{TypeFault}
 use Rattle.ocl_types.proofs.QueryLemmas.{err_told, fault_of_result, ok_told}
 use Rattle.script_scopes.specs.Occurrences.{variables_of}
 use Rattle.script_scopes.specs.Environments.{Setting}

@@ -3,7 +3,7 @@ use Rattle.std.specs.Prelude.{All}
 use Rattle.std.proofs.lemmas.List.{take_all}
 use Rattle.std.proofs.lemmas.Result.{err_from_is_err_and}
 use Rattle.ocl_types.proofs.QueryLemmas.{err_told}
-use Rattle.ocl_types.specs.declared.fault.TypeFault.{TypeFault}
+use Rattle.ocl_environments.specs.declared.fault.TypeFault.{TypeFault}
 use Rattle.std.specs.Prelude.{Err, ◌≡◌}
 use Rattle.script_scopes.specs.declared.written.WrittenType.{WrittenType}
 use Rattle.script_scopes.specs.VariableTypes.{shown_written, single_type, written_typing, HasSingle, IsWrittenFault}

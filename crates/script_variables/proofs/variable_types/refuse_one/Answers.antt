@@ -1,7 +1,7 @@
 use Rattle.std.proofs.Common.{◌≡◌, ◌≢◌, sym, ap, ◌∙◌}
 use Rattle.mof_metamodel.specs.NameTables.{value_of}
-use Rattle.ocl_types.specs.declared.fault.TypeFault.{TypeFault}
-use Rattle.ocl_types.specs.Outcomes.{wrong_type}
+use Rattle.ocl_environments.specs.declared.fault.TypeFault.{TypeFault}
+use Rattle.ocl_environments.specs.Outcomes.{wrong_type}
 use Rattle.ocl_types.proofs.QueryLemmas.{fault_of_result}
 use Rattle.script_scopes.specs.VariableTypes.{IsOtherThan}
 use Rattle.script_variables.proofs.variable_types.refuse_one.Goals as goal

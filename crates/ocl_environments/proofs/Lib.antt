@@ -1,0 +1,11 @@
+pub mod MetaLaws
+pub mod FindLaws
+pub mod NamingLaws
+pub mod ScopeLaws
+pub mod AgreementLaws
+pub mod ModelLaws
+pub mod ModelLemmas
+pub mod TypeLaws
+pub mod MeaningLemmas
+pub mod ClassifierIndexLemmas
+pub mod QueryCallLemmas

@@ -1,0 +1,17 @@
+pub mod FaultWords
+pub mod Environments
+pub mod Naming
+pub mod Classifiers
+pub mod Written
+pub mod Finding
+pub mod Meanings
+pub mod ClassifierIndexes
+pub mod Conformance
+pub mod Navigation
+pub mod Outcomes
+pub mod Agreement
+pub mod Parts
+pub mod Scopes
+pub mod Extents
+pub mod QueryCalls
+pub mod Lets

@@ -1,7 +1,0 @@
-use Rattle.std.proofs.Common.{arith}
-use Rattle.ocl_types.proofs.MetaLaws.{pushed}
-use Rattle.ocl_types.proofs.metas.Metas.push.Goals as goal
-
-pub invariant_of-self : goal.invariant_of-self
-invariant_of-self c =
-    pushed c.push.result c.self.inside.metas c.push.new.self c.args.meta c.self.invariant (omega arith) c.class_count-classes.ensures.well c.push.ensures.ok c.push.ensures.err

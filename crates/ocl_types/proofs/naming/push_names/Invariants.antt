@@ -1,6 +1,0 @@
-use Rattle.std.proofs.Common.{◌≡◌, ◌++◌, drop}
-use Rattle.ocl_types.specs.Naming.{behind_colons, texts_of}
-use Rattle.ocl_types.proofs.naming.push_names.Given as goal
-
-abbrev pub invariant-loop-name : goal.invariant-loop-name
-invariant-loop-name l = l.text ++ behind_colons (texts_of (drop l.name-index l.names)) ≡ l.initial.text ++ behind_colons (texts_of l.names)

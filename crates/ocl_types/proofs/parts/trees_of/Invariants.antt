@@ -1,6 +1,0 @@
-use Rattle.std.proofs.Common.{◌≡◌}
-use Rattle.ocl_types.specs.Parts.{trees_of as all_trees}
-use Rattle.ocl_types.proofs.parts.trees_of.Given as goal
-
-abbrev pub invariant-loop-part : goal.invariant-loop-part
-invariant-loop-part l = l.trees ≡ all_trees l.yielded

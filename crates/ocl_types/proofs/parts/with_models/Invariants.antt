@@ -1,6 +1,0 @@
-use Rattle.std.proofs.Common.{◌≡◌, drop}
-use Rattle.ocl_types.specs.Parts.{with_models as joined_with}
-use Rattle.ocl_types.proofs.parts.with_models.Given as goal
-
-abbrev pub invariant-loop-part : goal.invariant-loop-part
-invariant-loop-part l = joined_with l.joined (drop l.part-index l.parts) ≡ joined_with l.fn.model l.parts

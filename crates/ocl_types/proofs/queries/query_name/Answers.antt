@@ -1,5 +1,0 @@
-use Rattle.ocl_types.proofs.QueryCallLemmas.{name_read}
-use Rattle.ocl_types.proofs.queries.query_name.Goals as goal
-
-pub returns : goal.returns
-returns c = name_read c.duplicate.result c.args.queries.now c.args.place c.index-queries-place.result c.requires c.index-queries-place.is c.duplicate.ensures
