@@ -1,49 +1,30 @@
 -- What a memo keeps: a new one has no answer, and one more answer that is true leaves all true.
-use Rattle.std.specs.Prelude.{◌≡◌, Bool, true, false, List, [], ◌∷◌, Option, None, Some}
+use Rattle.std.specs.Prelude.{◌≡◌, ℕ, Bool, true, false, List, Option, None, Some}
 use Rattle.std.specs.BTreeMap.{BTreeMap, get, IsEmpty, IsUnchanged, Updates, is_at}
 use Rattle.std.specs.Map.{lookup}
-use Rattle.std.specs.Ordering.{nat_cmp, ordering_then, is_eq}
-use Rattle.std.specs.declared.cmp.Ordering.{Ordering}
-use Rattle.std.specs.declared.cmp.Ordering.TheVariants.{Less, Equal, Greater}
+use Rattle.std.specs.FinMap.{IsAntisymmetric, slice_cmp-IsAntisymmetric}
+use Rattle.std.specs.Ordering.{nat_cmp}
 use Rattle.std.proofs.Common.{refl, sym, ap, subst, ◌∙◌, cond}
-use Rattle.std.proofs.lemmas.Map.Lookups.{CmpEqualImpliesEq, exact_unsigned}
+use Rattle.std.proofs.lemmas.Map.Lookups.{CmpEqualImpliesEq, exact_unsigned, exact_pairs}
 use Rattle.std.proofs.lemmas.Map.Views.{tells_apart}
 use Rattle.std.proofs.lemmas.Option.{same_Some}
 use Rattle.object_tables.specs.Models.{ModelData}
 use Rattle.qv_syntax.specs.declared.program.Program.{Program}
-use Rattle.qvtr_semantics.specs.declared.datum.Datum.{Datum}
+use Rattle.qvtr_semantics.specs.Templates.{Values}
 use Rattle.qvtr_semantics.specs.Calls.{RelationCall}
-use Rattle.ocl_eval.specs.OrderLaws.{ties_where_same, same_decides}
+use Rattle.template_match.specs.OrderLaws.{optional_exact}
 use Rattle.relation_calls.specs.declared.memo.Answer.{Answer}
 use Rattle.relation_calls.specs.declared.memo.Memo.{Memo}
-use Rattle.relation_calls.specs.CallOrder.{root_order, roots_order, call_order}
+use Rattle.relation_calls.specs.CallOrder.{roots_order, call_order}
 use Rattle.relation_calls.specs.Memos.{IsMatching, IsHolding, IsTold}
 
 -- ---- calls that tie are one
 
-then_equal : (o q : Ordering) → ordering_then o q ≡ Equal → (o ≡ Equal) × (q ≡ Equal)
-then_equal Equal q h = (refl, h)
-then_equal Less q h = absurd (cc)
-then_equal Greater q h = absurd (cc)
-
-same_root : (x y : Option Datum) → root_order x y ≡ Equal → x ≡ y
-same_root None None h = refl
-same_root None (Some e) h = absurd (cc)
-same_root (Some d) None h = absurd (cc)
-same_root (Some d) (Some e) h = ap (λ k. Some k) ((same_decides d e).0 (ties_where_same d e ∙ ap is_eq h))
-
-same_roots : CmpEqualImpliesEq roots_order
-same_roots [] [] h = refl
-same_roots [] (y ∷ ys) h = absurd (cc)
-same_roots (x ∷ xs) [] h = absurd (cc)
-same_roots (x ∷ xs) (y ∷ ys) h =
-    let both = then_equal (root_order x y) (roots_order xs ys) h in
-    ap (λ z. z ∷ xs) (same_root x y both.0) ∙ ap (λ zs. y ∷ zs) (same_roots xs ys both.1)
+same_roots : IsAntisymmetric roots_order
+same_roots = slice_cmp-IsAntisymmetric optional_exact
 
 pub one_call : CmpEqualImpliesEq call_order
-one_call c d h =
-    let both = then_equal (nat_cmp c.rel d.rel) (roots_order c.roots d.roots) h in
-    ap (λ n. record { rel = n; roots = c.roots }) (exact_unsigned c.rel d.rel both.0) ∙ ap (λ rs. record { rel = d.rel; roots = rs }) (same_roots c.roots d.roots both.1)
+one_call c d h = ap (λ (p : ℕ × Values). record { rel = p.0; roots = p.1 }) (exact_pairs nat_cmp roots_order exact_unsigned same_roots (c.rel, c.roots) (d.rel, d.roots) h)
 
 -- ---- answers
 

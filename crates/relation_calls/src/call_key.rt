@@ -2,7 +2,6 @@ ghost use Rattle.std.specs.Prelude.{◌≡◌, IfOk};
 ghost use Rattle.relation_calls.specs.CallOrder.{call_order};
 ghost use Rattle.relation_calls.specs.Names.{call_named};
 
-use crate::copying::duplicate_value;
 use crate::name::CallName;
 use crate::root_key::RootKey;
 use mof_metamodel::NoMemory;
@@ -10,6 +9,7 @@ use qvtr_semantics::Datum;
 use std::alloc::Global;
 use std::cmp::Ordering;
 use std::marker::Model;
+use template_match::duplicate_value;
 
 /// A call as a key of a table: keys stand in an order of calls, and are equal where the calls are one.
 #[derive(Drop)]

@@ -13,7 +13,6 @@ ghost use Rattle.relation_calls.specs.Memos.{IsTold};
 
 use crate::asking::{explore, is_match};
 use crate::chain::longer_chain;
-use crate::copying::duplicate_binding;
 use crate::error::CallError;
 use crate::making::free;
 use crate::memo::Memo;
@@ -24,6 +23,7 @@ use ocl_eval::Models;
 use qv_syntax::Program;
 use qvtr_semantics::Binding;
 use std::alloc::Global;
+use template_match::duplicate_binding;
 
 /// The name of a call with these roots.
 fn name_of(alloc: Global, rel: u32, roots: &Binding) -> Result<CallName, NoMemory>

@@ -3,33 +3,10 @@ ghost use Rattle.relation_calls.specs.Names.{call_named, chain_named};
 
 use crate::name::CallName;
 use mof_metamodel::{NoMemory, Seq};
-use ocl_eval::{duplicate_datum, same_datum};
-use qvtr_semantics::{Binding, Datum};
+use ocl_eval::same_datum;
+use qvtr_semantics::Datum;
 use std::alloc::Global;
-
-/// Another of the same value, or of none.
-pub(crate) fn duplicate_value(
-    alloc: Global,
-    value: &Option<Datum>,
-) -> Result<Option<Datum>, NoMemory>
-    ensures { IfOk result (λ d. d ≡ value.now) }
-{
-    match value {
-        Some(datum) => Ok(Some(duplicate_datum(alloc, datum)?)),
-        None => Ok(None),
-    }
-}
-
-/// Another of the same binding.
-pub(crate) fn duplicate_binding(alloc: Global, binding: &Binding) -> Result<Binding, NoMemory>
-    ensures { IfOk result (λ b. b.values ≡ binding.now.values) }
-{
-    let mut values = Seq::new(alloc);
-    for value in binding.values.as_slice() {
-        values.push(duplicate_value(alloc, value)?)?;
-    }
-    Ok(Binding { values })
-}
+use template_match::duplicate_binding;
 
 /// Another name of the same call.
 fn duplicate_name(alloc: Global, name: &CallName) -> Result<CallName, NoMemory>

@@ -1,7 +1,8 @@
-ghost use Rattle.std.specs.Prelude.{◌≡◌, ◌≤◌, ℕ, List, Some, Bool, IfSome, OnOk, OnErr};
+ghost use Rattle.std.specs.Prelude.{◌≡◌, ◌≤◌, ◌<◌, ℕ, List, None, Some, Bool, IfSome, OnOk, OnErr};
 ghost use Rattle.std.specs.BTreeMap.{get, IsUnchanged, Updates};
 ghost use Rattle.object_tables.specs.Models.{ModelData};
 ghost use Rattle.qv_syntax.specs.declared.program.Program.{Program};
+ghost use Rattle.relation_calls.specs.declared.memo.Answer.{Answer};
 ghost use Rattle.relation_calls.specs.CallOrder.{call_order};
 ghost use Rattle.relation_calls.specs.Memos.{IsMatching, IsHolding, IsTold};
 
@@ -56,9 +57,10 @@ impl Memo {
         Ok(())
     }
 
-    /// Whether the call holds, if an answer is kept and no chain that begins with the call has more than `left` calls.
+    /// Whether the call holds, if an answer is kept by which no chain that begins with the call has more than `left` calls.
     pub(crate) fn kept_hold(&self, call: &CallKey, left: usize) -> Option<bool>
-        ensures { IfSome result (λ holds. (height : ℕ) × (height ≤ left) × (get call_order self.now.holding call.now ≡ Some (record { holds = holds; height = height }))) }
+        ensures kept { IfSome result (λ holds. (height : ℕ) × (height ≤ left) × (get call_order self.now.holding call.now ≡ Some (record { holds = holds; height = height }))) }
+        ensures none { result ≡ None → (answer : Answer) → get call_order self.now.holding call.now ≡ Some answer → left < answer.height }
     {
         match self.holding.get(call) {
             Some(answer) => if answer.height <= left {

@@ -4,10 +4,10 @@ ghost use Rattle.std.specs.Option.{option_map};
 ghost use Rattle.template_match.specs.Search.{values_of};
 ghost use Rattle.relation_calls.specs.Outcomes.{is_alone, is_partnered, first_alone};
 
-use crate::copying::duplicate_binding;
 use mof_metamodel::NoMemory;
 use qvtr_semantics::Binding;
 use std::alloc::Global;
+use template_match::duplicate_binding;
 
 /// What comes of a binding that meets the source of a relation.
 #[derive(Clone, Copy)]

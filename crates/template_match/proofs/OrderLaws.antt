@@ -2,9 +2,7 @@
 use Rattle.std.specs.Prelude.{◌≡◌, ◌⊎◌, ◌<◌, ◌↔◌, ℕ, zero, suc, Bool, true, List, [], ◌∷◌, map, length, Option, None, Some, Contains, AllPairs, IsTrue, slice_index_or}
 use Rattle.std.specs.List.{AllByRecursion, dedup}
 use Rattle.std.specs.List.Sorted.{IsPermutation, IsSorted, IsStrictlySortedBy}
-use Rattle.std.specs.Option.{option_cmp}
 use Rattle.std.specs.Cmp.{IsTotalOrder}
-use Rattle.std.specs.Cmp.Lexicographic.{options_total}
 use Rattle.std.specs.Ordering.{ordering_then, eq_by_cmp, is_lt, is_eq, on}
 use Rattle.std.specs.declared.cmp.Ordering.{Ordering}
 use Rattle.std.specs.declared.cmp.Ordering.TheVariants.{Less, Equal, Greater}
@@ -19,8 +17,9 @@ use Rattle.qvtr_semantics.specs.Templates.{Values, value_at}
 use Rattle.qvtr_semantics.specs.Satisfaction.{comes_before, IsLess}
 use Rattle.template_match.proofs.ListLaws.{contains_first, contains_later}
 use Rattle.ocl_eval.specs.Order.{datum_order}
-use Rattle.ocl_eval.specs.OrderLaws.{before_by_order, order_total, ties_where_same, same_decides}
-use Rattle.template_match.specs.Order.{values_order, binding_order}
+use Rattle.ocl_eval.specs.OrderLaws.{before_by_order, ties_where_same, same_decides}
+use Rattle.template_match.specs.Order.{optional_order, values_order, binding_order}
+use Rattle.template_match.specs.OrderLaws.{optional_total, optional_exact}
 use Rattle.template_match.specs.Each.{IsEachOnce}
 
 less_equal : Equal ≡ Less → ⊥
@@ -31,7 +30,7 @@ greater_less h = cc
 
 pub values_total : (vars : List ℕ) → IsTotalOrder (values_order vars)
 values_total [] = record { antisymm = λ a b. refl; trans = λ a b c h k. h; congr = λ a b c h. refl }
-values_total (v ∷ vs) = then_total (on_total (λ (b : Values). value_at b v) (options_total order_total)) (values_total vs)
+values_total (v ∷ vs) = then_total (on_total (λ (b : Values). value_at b v) optional_total) (values_total vs)
 
 pub binding_total : (vars : List ℕ) → IsTotalOrder (binding_order vars)
 binding_total vars = on_total (λ (b : Binding). b.values) (values_total vars)
@@ -55,7 +54,7 @@ less_is (v ∷ vs) a b p q h =
     let x = p v (contains_first v vs) in
     let y = q v (contains_first v vs) in
     less_first v vs a b x.0 y.0 (datum_order x.0 y.0) x.1 y.1 refl
-    (ap (λ o. ordering_then o (values_order vs a b)) (sym (ap (λ k. option_cmp datum_order k (value_at b v)) x.1 ∙ ap (option_cmp datum_order (Some x.0)) y.1)) ∙ h)
+    (ap (λ o. ordering_then o (values_order vs a b)) (sym (ap (λ k. optional_order k (value_at b v)) x.1 ∙ ap (optional_order (Some x.0)) y.1)) ∙ h)
     (less_is vs a b (λ w c. p w (contains_later w v vs c)) (λ w c. q w (contains_later w v vs c)))
 
 then_equal : (o q : Ordering) → ordering_then o q ≡ Equal → (o ≡ Equal) × (q ≡ Equal)
@@ -63,19 +62,13 @@ then_equal Equal q h = (refl, h)
 then_equal Less q h = absurd (cc)
 then_equal Greater q h = absurd (cc)
 
-same_option : (x y : Option Datum) → option_cmp datum_order x y ≡ Equal → x ≡ y
-same_option None None h = refl
-same_option None (Some e) h = absurd (cc)
-same_option (Some d) None h = absurd (cc)
-same_option (Some d) (Some e) h = ap (λ k. Some k) ((same_decides d e).0 (ties_where_same d e ∙ ap is_eq h))
-
 -- bindings that tie have the same values of the variables
 pub ties_are : (vars : List ℕ) (a b : Values) → values_order vars a b ≡ Equal → (v : ℕ) → Contains vars v → value_at a v ≡ value_at b v
 ties_are [] a b h v (k, within, is) = absurd (omega (arith, within))
 ties_are (w ∷ vs) a b h v (zero, within, is) =
-    subst (λ x. value_at a x ≡ value_at b x) is (same_option (value_at a w) (value_at b w) (then_equal (option_cmp datum_order (value_at a w) (value_at b w)) (values_order vs a b) h).0)
+    subst (λ x. value_at a x ≡ value_at b x) is (optional_exact (value_at a w) (value_at b w) (then_equal (optional_order (value_at a w) (value_at b w)) (values_order vs a b) h).0)
 ties_are (w ∷ vs) a b h v (suc k, within, is) =
-    ties_are vs a b (then_equal (option_cmp datum_order (value_at a w) (value_at b w)) (values_order vs a b) h).1 v (k, omega (arith, within), is)
+    ties_are vs a b (then_equal (optional_order (value_at a w) (value_at b w)) (values_order vs a b) h).1 v (k, omega (arith, within), is)
 
 -- ---- sorted, each once
 

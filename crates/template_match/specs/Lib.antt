@@ -7,6 +7,7 @@ pub mod Pruning
 pub mod Search
 pub mod Tasks
 pub mod Order
+pub mod OrderLaws
 pub mod Each
 pub mod Posed
 pub mod Plans

@@ -24,5 +24,7 @@ mod without_target;
 
 pub use finding::{bindings, source_bindings, target_bindings};
 pub use link::Link;
+pub use order::optional_order;
 pub use plan::{Plan, plan_of};
 pub use side::Side;
+pub use values::{duplicate_binding, duplicate_value};

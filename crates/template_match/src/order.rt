@@ -1,10 +1,9 @@
 ghost use Rattle.std.specs.Prelude.{◌≡◌};
 ghost use Rattle.std.specs.List.{dedup};
 ghost use Rattle.std.specs.List.Sorted.{IsPermutation, IsSorted};
-ghost use Rattle.std.specs.Option.{option_cmp, option_copied};
+ghost use Rattle.std.specs.Option.{option_copied};
 ghost use Rattle.std.specs.Ordering.{eq_by_cmp};
-ghost use Rattle.ocl_eval.specs.Order.{datum_order};
-ghost use Rattle.template_match.specs.Order.{binding_order};
+ghost use Rattle.template_match.specs.Order.{optional_order, binding_order};
 ghost use Rattle.template_match.specs.Each.{IsEachOnce};
 
 use crate::values::value_at;
@@ -13,9 +12,9 @@ use ocl_eval::datum_order;
 use qvtr_semantics::{Binding, Datum};
 use std::cmp::Ordering;
 
-/// How two values stand; none comes first.
-fn value_order(one: Option<&Datum>, other: Option<&Datum>) -> Ordering
-    ensures { result ≡ option_cmp datum_order (option_copied one.entry) (option_copied other.entry) }
+/// How the values of two variables stand; none comes before each value.
+pub fn optional_order(one: Option<&Datum>, other: Option<&Datum>) -> Ordering
+    ensures { result ≡ optional_order (option_copied one.entry) (option_copied other.entry) }
 {
     match one {
         Some(d) => match other {
@@ -34,7 +33,7 @@ fn binding_order(variables: &[u32], one: &Binding, other: &Binding) -> Ordering
     ensures { result ≡ binding_order variables.now one.now other.now }
 {
     for variable in variables {
-        let order = value_order(value_at(one, *variable), value_at(other, *variable));
+        let order = optional_order(value_at(one, *variable), value_at(other, *variable));
         if order.is_ne() {
             return order;
         }

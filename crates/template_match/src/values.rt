@@ -19,7 +19,7 @@ pub(crate) fn value_at(binding: &Binding, variable: u32) -> Option<&Datum>
 }
 
 /// Another of the same value, or of none.
-fn duplicate_value(alloc: Global, value: &Option<Datum>) -> Result<Option<Datum>, NoMemory>
+pub fn duplicate_value(alloc: Global, value: &Option<Datum>) -> Result<Option<Datum>, NoMemory>
     ensures { IfOk result (λ d. d ≡ value.now) }
 {
     match value {
@@ -40,7 +40,7 @@ fn duplicate_values(alloc: Global, values: &[Option<Datum>]) -> Result<Seq<Optio
 }
 
 /// Another of the same binding.
-pub(crate) fn duplicate_binding(alloc: Global, binding: &Binding) -> Result<Binding, NoMemory>
+pub fn duplicate_binding(alloc: Global, binding: &Binding) -> Result<Binding, NoMemory>
     ensures { IfOk result (λ b. b.values ≡ binding.now.values) }
 {
     let values = duplicate_values(alloc, binding.values.as_slice())?;

@@ -693,10 +693,10 @@ called_kept-returns-clause-told t c =
 pub called-returns-in-Some-clause-value : goal.called-returns-in-Some-clause-value
 called-returns-in-Some-clause-value t c =
     let v = c.args.visit.now in
-    taken_value v.program.now v.models.now _ c.requires.told (upto_of v) c.in_ok-key.key (call_named c.args.name.now) c.in_ok-key.ensures _ c.calls_left.ensures _ c.in-Some.holds c.in-Some.is c.kept_hold.ensures
+    taken_value v.program.now v.models.now _ c.requires.told (upto_of v) c.in_ok-key.key (call_named c.args.name.now) c.in_ok-key.ensures _ c.calls_left.ensures _ c.in-Some.holds c.in-Some.is c.kept_hold.ensures.kept
 
 pub called-returns-in-Some-clause-clean : goal.called-returns-in-Some-clause-clean
 called-returns-in-Some-clause-clean t c =
     let v = c.args.visit.now in
-    taken_clean v.program.now v.models.now _ c.requires.told (upto_of v) c.in_ok-key.key (call_named c.args.name.now) c.in_ok-key.ensures _ c.calls_left.ensures _ c.in-Some.holds c.in-Some.is c.kept_hold.ensures
+    taken_clean v.program.now v.models.now _ c.requires.told (upto_of v) c.in_ok-key.key (call_named c.args.name.now) c.in_ok-key.ensures _ c.calls_left.ensures _ c.in-Some.holds c.in-Some.is c.kept_hold.ensures.kept
     c.requires.visit.chain (c.requires.linked (call_named c.args.name.now) (0, omega arith, refl))
