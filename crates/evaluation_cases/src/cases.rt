@@ -35,8 +35,21 @@ fn put_answers(alloc: Global, pen: &mut Pen, metas: &Metas, setting: &str) -> Re
 
 fn put_cases(pen: &mut Pen, stage: &Stage<'_, '_>, setting: &str) -> Result<(), NoMemory> {
     let mut env = reach(stage.alloc, pen, stage.metas, setting)?;
-    let binding = bound(pen, stage, &mut env, setting)?;
-    put_lines(pen, stage, &env, &binding, setting);
+    let put = put_bound(pen, stage, &mut env, setting);
+    drop(env);
+    put
+}
+
+/// The same, with these names in reach.
+fn put_bound(
+    pen: &mut Pen,
+    stage: &Stage<'_, '_>,
+    env: &mut Env<'_>,
+    setting: &str,
+) -> Result<(), NoMemory> {
+    let binding = bound(pen, stage, env, setting)?;
+    put_lines(pen, stage, env, &binding, setting);
+    drop(binding);
     Ok(())
 }
 
@@ -113,8 +126,11 @@ fn put_value(
     text: &str,
 ) -> Result<(), Fault> {
     let typed = typed(stage.alloc, env, text)?;
-    let out = eval(stage.alloc, stage.program, &typed, stage.models, binding)?;
+    let out = eval(stage.alloc, stage.program, &typed, stage.models, binding);
+    drop(typed);
+    let out = out?;
     put_out(pen, stage, &out);
+    drop(out);
     Ok(())
 }
 
@@ -127,7 +143,8 @@ fn put_holds(
     text: &str,
 ) -> Result<(), Fault> {
     let typed = typed(stage.alloc, env, text)?;
-    let holds = holds(stage.alloc, stage.program, &typed, stage.models, binding)?;
-    pen.put(bool_word(holds));
+    let holds = holds(stage.alloc, stage.program, &typed, stage.models, binding);
+    drop(typed);
+    pen.put(bool_word(holds?));
     Ok(())
 }

@@ -40,7 +40,9 @@ fn add_model<'m>(
             let made = edited(alloc, &mut editor, line.trim_start());
             put_if_refused(pen, line, &made);
         }
-        models.push(editor.model().duplicate(alloc)?)?;
+        let made = editor.model().duplicate(alloc);
+        drop(editor);
+        models.push(made?)?;
     }
     Ok(())
 }

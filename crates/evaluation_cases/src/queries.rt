@@ -93,7 +93,9 @@ fn body(
     written: Written<'_>,
 ) -> Result<Typed, Refused> {
     let mut env = reach(alloc, pen, metas, setting)?;
-    body_in(alloc, metas, &mut env, written)
+    let body = body_in(alloc, metas, &mut env, written);
+    drop(env);
+    body
 }
 
 /// The query as it is written, with this body.

@@ -42,12 +42,19 @@ impl From<TypeError> for Fault {
     }
 }
 
-/// The expression of a text, with its types.
-pub fn typed(alloc: Global, env: &Env<'_>, text: &str) -> Result<Typed, Fault> {
+/// The expression of a text.
+fn parsed(alloc: Global, text: &str) -> Result<Expr, Fault> {
     let bytes = expanded(alloc, text)?;
     let tokens = lex(alloc, bytes.as_slice())?;
-    let expr = read(alloc, &tokens)?;
-    Ok(type_expr(alloc, env, &expr)?)
+    read(alloc, &tokens)
+}
+
+/// The same with its types.
+pub fn typed(alloc: Global, env: &Env<'_>, text: &str) -> Result<Typed, Fault> {
+    let expr = parsed(alloc, text)?;
+    let typed = type_expr(alloc, env, &expr);
+    drop(expr);
+    Ok(typed?)
 }
 
 /// The expression that the tokens are, with nothing behind it.

@@ -72,8 +72,9 @@ fn datum(stage: &Stage<'_, '_>, env: &Env<'_>, text: &str) -> Result<Datum, Refu
     let none = Binding {
         values: Seq::new(stage.alloc),
     };
-    let out = eval(stage.alloc, stage.program, &typed, stage.models, &none)?;
-    single(out)
+    let out = eval(stage.alloc, stage.program, &typed, stage.models, &none);
+    drop(typed);
+    single(out?)
 }
 
 fn single(out: Out) -> Result<Datum, Refused> {

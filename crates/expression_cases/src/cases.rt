@@ -10,16 +10,25 @@ use mof_metamodel::{NoMemory, Text};
 use ocl_environments::{Env, Metas};
 use std::alloc::Global;
 
+/// Puts the answers to the cases of a setting over these metamodels.
+fn put_answers(alloc: Global, pen: &mut Pen, metas: &Metas, lines: &str) -> Result<(), NoMemory> {
+    let env = environment(alloc, pen, metas, lines)?;
+    for line in lines.lines() {
+        answer_line(alloc, pen, metas, &env, line);
+    }
+    drop(env);
+    Ok(())
+}
+
 /// The answers to the cases of a setting, whose name is its first line.
 pub fn answers(alloc: Global, setting: &str) -> Result<Text, NoMemory> {
     let mut pen = Pen::new(alloc)?;
     let (name, lines) = setting.split_once('\n').unwrap_or((setting, ""));
     put_heading(&mut pen, name);
     let metas = metamodels(alloc, &mut pen, setting)?;
-    let env = environment(alloc, &mut pen, &metas, lines)?;
-    for line in lines.lines() {
-        answer_line(alloc, &mut pen, &metas, &env, line);
-    }
+    let put = put_answers(alloc, &mut pen, &metas, lines);
+    drop(metas);
+    put?;
     pen.written()
 }
 

@@ -5,6 +5,7 @@ use case_texts::Pen;
 use expression_settings::{put_type_fault, put_typed_tree};
 use ocl_environments::{Env, Metas, type_text};
 use ocl_types::type_expr;
+use qv_syntax::Expr;
 use std::alloc::Global;
 
 /// The number of the token behind an expression, where there is one.
@@ -20,6 +21,7 @@ pub fn put_expr(alloc: Global, pen: &mut Pen, bytes: &[u8]) {
     if let Some(reading) = read(alloc, pen, bytes) {
         put_tree(alloc, pen, &reading.expr);
         put_rest(alloc, pen, &reading);
+        drop(reading);
     }
 }
 
@@ -27,28 +29,45 @@ pub fn put_expr(alloc: Global, pen: &mut Pen, bytes: &[u8]) {
 pub fn put_end(alloc: Global, pen: &mut Pen, bytes: &[u8]) {
     if let Some(reading) = read(alloc, pen, bytes) {
         let end = reading.end;
+        drop(reading);
         pen.put_string(&format!(in alloc; "{end}"));
+    }
+}
+
+fn put_type_of(alloc: Global, pen: &mut Pen, metas: &Metas, env: &Env<'_>, expr: &Expr) {
+    match type_expr(alloc, env, expr) {
+        Ok(typed) => {
+            pen.put_text(&type_text(alloc, metas, &typed.ty));
+            drop(typed);
+        }
+        Err(error) => put_type_fault(pen, &error),
     }
 }
 
 /// The type of the expression with which a text begins.
 pub fn put_type(alloc: Global, pen: &mut Pen, metas: &Metas, env: &Env<'_>, bytes: &[u8]) {
     if let Some(reading) = read(alloc, pen, bytes) {
-        match type_expr(alloc, env, &reading.expr) {
-            Ok(typed) => pen.put_text(&type_text(alloc, metas, &typed.ty)),
-            Err(error) => put_type_fault(pen, &error),
-        }
+        put_type_of(alloc, pen, metas, env, &reading.expr);
         put_rest(alloc, pen, &reading);
+        drop(reading);
+    }
+}
+
+fn put_tree_of(alloc: Global, pen: &mut Pen, metas: &Metas, env: &Env<'_>, expr: &Expr) {
+    match type_expr(alloc, env, expr) {
+        Ok(typed) => {
+            put_typed_tree(alloc, pen, metas, &typed);
+            drop(typed);
+        }
+        Err(error) => put_type_fault(pen, &error),
     }
 }
 
 /// The same expression with its types.
 pub fn put_typed(alloc: Global, pen: &mut Pen, metas: &Metas, env: &Env<'_>, bytes: &[u8]) {
     if let Some(reading) = read(alloc, pen, bytes) {
-        match type_expr(alloc, env, &reading.expr) {
-            Ok(typed) => put_typed_tree(alloc, pen, metas, &typed),
-            Err(error) => put_type_fault(pen, &error),
-        }
+        put_tree_of(alloc, pen, metas, env, &reading.expr);
         put_rest(alloc, pen, &reading);
+        drop(reading);
     }
 }

@@ -6,7 +6,10 @@ use std::alloc::{AllocError, Global};
 pub(crate) fn description_answer(alloc: Global, line: &str) -> Result<String, NoMemory> {
     let text = expanded(alloc, line)?;
     match MetaModel::new(alloc, described(alloc, text.as_str())?) {
-        Ok(_) => Ok(String::from_str(alloc, "accepted")?),
+        Ok(meta) => {
+            drop(meta);
+            Ok(String::from_str(alloc, "accepted")?)
+        }
         Err(MetaError::Fault(fault)) => {
             let kind = fault.kind.word();
             match fault.name.as_str() {

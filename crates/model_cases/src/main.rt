@@ -69,11 +69,24 @@ fn made(alloc: Global, description: &str) -> Result<Option<MetaModel>, NoMemory>
     Ok(MetaModel::new(alloc, described(alloc, text.as_str())?).ok())
 }
 
+/// Prints the commands to a model of the metamodel of a description, with their answers.
+fn print_known(
+    rt: &impl Print,
+    alloc: Global,
+    description: &str,
+    meta: &MetaModel,
+    lines: &str,
+) -> io::Result<()> {
+    println!(rt; "metamodel {description}")?;
+    print_commands(rt, alloc, &mut Session::new(alloc, meta), lines)
+}
+
 fn print_session(rt: &impl Print, alloc: Global, description: &str, lines: &str) -> io::Result<()> {
     match made(alloc, description) {
         Ok(Some(meta)) => {
-            println!(rt; "metamodel {description}")?;
-            print_commands(rt, alloc, &mut Session::new(alloc, &meta), lines)
+            let printed = print_known(rt, alloc, description, &meta, lines);
+            drop(meta);
+            printed
         }
         Ok(None) => println!(rt; "metamodel {description} => fault"),
         Err(_) => Err(io::Error::from(ErrorKind::OutOfMemory)),

@@ -1,5 +1,6 @@
 ghost use Rattle.std.specs.Prelude.{◌≡◌, ◌≤◌, ◌<◌, ◌+◌, ℕ, nat_lt, [], drop, length, slice_get, Ok, Err, IfOk};
 ghost use Rattle.qv_syntax.specs.declared.expr.Expr.{Expr as AnyExpr};
+ghost use Rattle.ocl_parser.specs.declared.state.Action.TheVariants.{Read};
 ghost use Rattle.ocl_parser.specs.Beginnings.{IsDeep, IsStuck, IsTree};
 ghost use Rattle.ocl_parser.specs.Moves.{move as next_move, open_levels, state_levels as levels_of};
 ghost use Rattle.ocl_parser.specs.Runs.{answer, ended_by, run};
@@ -63,6 +64,25 @@ fn next(
     move_on(alloc, &mut reading.stack, state, terminal)
 }
 
+/// Goes on behind a token that was read, if no more levels are open than may be.
+fn go_on(
+    _tokens: &Tokens<'_>,
+    at: usize,
+    reading: &mut Reading,
+    state: State,
+    levels: usize,
+) -> Option<Result<(Expr, usize), Halt>>
+    ensures { Passed _tokens.now levels (at + 1) reading.new.stack reading.new.state (step_answer levels (drop (at + 1) _tokens.now.lexemes) at (made reading.old.stack (Read state))) result }
+{
+    let deep = is_deep(&reading.stack, &state, levels);
+    drop(std::mem::replace(&mut reading.state, state));
+    if deep {
+        Some(Err(Halt::Stop(Stop::Deep { at })))
+    } else {
+        None
+    }
+}
+
 /// Goes on behind a token that was read, or answers.
 fn judge(
     _tokens: &Tokens<'_>,
@@ -74,13 +94,7 @@ fn judge(
     ensures { Passed _tokens.now levels (at + 1) reading.new.stack reading.new.state (step_answer levels (drop (at + 1) _tokens.now.lexemes) at (made reading.old.stack action)) result }
 {
     match action {
-        Action::Read(state) => {
-            if is_deep(&reading.stack, &state, levels) {
-                return Some(Err(Halt::Stop(Stop::Deep { at })));
-            }
-            reading.state = state;
-            None
-        }
+        Action::Read(state) => go_on(_tokens, at, reading, state, levels),
         Action::Whole(tree) => Some(Ok((tree, at))),
         Action::Refused => Some(Err(Halt::Stop(Stop::Stuck { at }))),
     }
@@ -109,7 +123,10 @@ fn judge_end(at: usize, action: Action) -> Result<(Expr, usize), Halt>
 {
     match action {
         Action::Whole(tree) => Ok((tree, at)),
-        _ => Err(Halt::Stop(Stop::Stuck { at })),
+        other => {
+            drop(other);
+            Err(Halt::Stop(Stop::Stuck { at }))
+        }
     }
 }
 

@@ -109,7 +109,10 @@ fn wrapped(alloc: Global, frame: Frame, subtree: Subtree) -> Result<Subtree, NoM
             ty,
             value,
         } => binding(alloc, start, name, ty, value, subtree),
-        _ => Ok(subtree),
+        other => {
+            drop(other);
+            Ok(subtree)
+        }
     }
 }
 

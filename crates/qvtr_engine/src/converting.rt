@@ -1,8 +1,8 @@
 //! The conversion of a model to a file of another form.
-ghost use Rattle.std.specs.Prelude.{◌≡◌, ◌≤◌, ◌∷◌, [], ℕ, length, IfOk, IfErr, IfSome};
+ghost use Rattle.std.specs.Prelude.{◌≡◌, ◌≤◌, ◌∷◌, [], ℕ, IfOk, IfErr, IfSome};
 ghost use Rattle.vault_io.specs.Counts.{Rose};
 ghost use Rattle.object_tables.specs.Containment.{IsDepth};
-ghost use Rattle.object_tables.specs.Models.{ModelData, IsLive};
+ghost use Rattle.object_tables.specs.Models.{IsLive};
 ghost use Rattle.object_tables.specs.Validity.{Valid};
 ghost use Rattle.mof_metamodel.specs.declared.limits.TheConstants.{MAX_DEPTH};
 ghost use Rattle.xmi_profile.specs.declared.fault.Externs.TheVariants as externs;
@@ -120,7 +120,11 @@ fn metamodel_in<'w>(alloc: Global, path: &'w str, bytes: &[u8]) -> Result<MetaMo
 {
     match read_metamodel(alloc, bytes) {
         Ok(meta) => Ok(meta),
-        Err(error) => Err(metamodel_unread(alloc, path, &error)),
+        Err(error) => {
+            let unread = metamodel_unread(alloc, path, &error);
+            drop(error);
+            Err(unread)
+        }
     }
 }
 
@@ -164,7 +168,11 @@ fn model_in<'w, 'm>(
 {
     match read_any(alloc, meta, bytes) {
         Ok(read) => Ok(read.model),
-        Err(error) => Err(model_unread(alloc, meta, path, &error)),
+        Err(error) => {
+            let unread = model_unread(alloc, meta, path, &error);
+            drop(error);
+            Err(unread)
+        }
     }
 }
 
@@ -249,7 +257,9 @@ fn prepare<'w, F: Vault>(
     ensures faults { F.faults vault.old ≤ F.faults vault.new }
 {
     let meta = metamodel_at(alloc, vault, request.metamodel)?;
-    let text = text_at(alloc, vault, &meta, request.model, request.form)?;
+    let text = text_at(alloc, vault, &meta, request.model, request.form);
+    drop(meta);
+    let text = text?;
     conversion_of(alloc, request.output, text)
 }
 

@@ -6,5 +6,5 @@ use Rattle.qvtr_engine.proofs.converting.metamodel_in.Goals as goal
 pub returns-in-Err : goal.returns-in-Err
 returns-in-Err c = record {
   ok = tt;
-  err = stop_unread c.metamodel_unread.result emof c.args.path.now c.in-Err.error (IsMetaFileError c.args.bytes.now) c.in-Err.ensures.fault c.metamodel_unread.ensures;
+  err = stop_unread c.metamodel_unread-unread.result emof c.args.path.now c.in-Err.error (IsMetaFileError c.args.bytes.now) c.in-Err.ensures.fault c.metamodel_unread-unread.ensures;
 }

@@ -6,5 +6,5 @@ use Rattle.qvtr_engine.proofs.converting.model_in.Goals as goal
 pub returns-in-Err : goal.returns-in-Err
 returns-in-Err c = record {
   ok = tt;
-  err = stop_unread c.model_unread.result c.args.meta.now c.args.path.now c.in-Err.error (IsFileError c.args.meta.now externs.None c.args.bytes.now) c.in-Err.ensures.fault c.model_unread.ensures;
+  err = stop_unread c.model_unread-unread.result c.args.meta.now c.args.path.now c.in-Err.error (IsFileError c.args.meta.now externs.None c.args.bytes.now) c.in-Err.ensures.fault c.model_unread-unread.ensures;
 }
