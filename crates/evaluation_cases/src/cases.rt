@@ -40,7 +40,7 @@ fn put_cases(pen: &mut Pen, stage: &Stage<'_, '_>, setting: &str) -> Result<(), 
     put
 }
 
-/// The same, with these names in reach.
+/// Puts the cases of a setting with its queries in reach.
 fn put_bound(
     pen: &mut Pen,
     stage: &Stage<'_, '_>,
