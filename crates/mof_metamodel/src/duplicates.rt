@@ -11,6 +11,7 @@ use crate::memory::NoMemory;
 use crate::name_table::NameTable;
 use crate::named::Named;
 use crate::names::{is_number, is_primitive, qualified};
+use crate::or_drop;
 use crate::ordered::Ordered;
 use crate::text::Text;
 use std::alloc::Global;
@@ -29,10 +30,12 @@ fn first_repeat(alloc: Global, names: &[&Text]) -> Result<Option<Text>, NoMemory
     let mut met = NameTable::new(alloc);
     for name in names {
         if is_met(&met, name) {
+            drop(met);
             return Ok(Some(name.duplicate(alloc)?));
         }
-        met.add(alloc, name, 0)?;
+        or_drop!(met.add(alloc, name, 0); met);
     }
+    drop(met);
     Ok(None)
 }
 
@@ -163,7 +166,9 @@ fn duplicate_in_enum(alloc: Global, named: &Named, e: u32) -> Result<Option<Text
         return Ok(Some(one.name.duplicate(alloc)?));
     }
     let names = literals_of(alloc, one.literals.as_slice())?;
-    let inner = first_repeat(alloc, names.as_slice())?;
+    let inner = first_repeat(alloc, names.as_slice());
+    drop(names);
+    let inner = inner?;
     in_outer(alloc, &one.name, inner)
 }
 

@@ -7,6 +7,7 @@ ghost use Rattle.mof_metamodel.specs.Tables.{class_numbers, AreSupers};
 use crate::desc::ClassId;
 use crate::memory::NoMemory;
 use crate::named::Named;
+use crate::or_drop;
 use crate::seq::Seq;
 use crate::text::Text;
 use std::alloc::Global;
@@ -38,7 +39,7 @@ impl Hierarchy {
     pub(crate) fn new(alloc: Global, named: Named) -> Result<Hierarchy, NoMemory>
         ensures { IfOk result (λ h. h ≡ named) }
     {
-        let supers = all_supers(alloc, &named)?;
+        let supers = or_drop!(all_supers(alloc, &named); named);
         Ok(Hierarchy { named, supers })
     }
 

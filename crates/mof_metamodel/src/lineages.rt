@@ -15,6 +15,7 @@ use crate::closure::{Rows, classes_in, closure};
 use crate::desc::ClassId;
 use crate::hierarchy::Hierarchy;
 use crate::memory::NoMemory;
+use crate::or_drop;
 use crate::seq::Seq;
 use indexmap::IndexSet;
 use std::alloc::Global;
@@ -70,13 +71,20 @@ fn join_all(alloc: Global, orders: &[Line], supers: &[ClassId]) -> Result<Line, 
 {
     let mut joint = IndexSet::new(alloc);
     let mut marks = Vec::new(alloc);
-    marks.resize(orders.len(), false)?;
+    or_drop!(marks.resize(orders.len(), false); joint, marks);
     for c in supers {
         match &orders[c.0 as usize] {
-            Some(order) => join_one(&mut joint, marks.as_mut_slice(), order, c.0)?,
-            None => return Ok(None),
+            Some(order) => {
+                or_drop!(join_one(&mut joint, marks.as_mut_slice(), order, c.0); joint, marks)
+            }
+            None => {
+                drop(joint);
+                drop(marks);
+                return Ok(None);
+            }
         }
     }
+    drop(marks);
     Ok(Some(joint))
 }
 

@@ -15,3 +15,20 @@ impl<T: Drop> From<AllocFailed<T>> for NoMemory {
         NoMemory
     }
 }
+
+/// The value of a result; where it is an error, the values kept so far are let go and the function answers the error.
+///
+/// It is `?` with the values named that `?` would let go by itself. Their drop is then a call in place of code written
+/// out at each way out of the function, which makes proofs over large values many times shorter.
+#[macro_export]
+macro_rules! or_drop {
+    ($result:expr; $($kept:expr),+) => {
+        match $result {
+            Ok(value) => value,
+            Err(error) => {
+                $(drop($kept);)+
+                return Err(From::from(error));
+            }
+        }
+    };
+}

@@ -11,6 +11,7 @@ use crate::fault::{MetaError, MetaFault, MetaKind};
 use crate::hierarchy::Hierarchy;
 use crate::memory::NoMemory;
 use crate::named::Named;
+use crate::or_drop;
 use crate::ordered::Ordered;
 use crate::resolved::{first_bad_opposite, first_two_containers, first_unknown, resolved_props};
 use crate::seq::Seq;
@@ -137,11 +138,11 @@ impl MetaModel {
         ensures ok { IfOk result (λ m. WellMeta desc × (m ≡ desc)) }
         ensures fault { IfErr result (IsRefusal desc) }
     {
-        check_names(alloc, &desc)?;
+        or_drop!(check_names(alloc, &desc); desc);
         let ordered = order(alloc, desc)?;
-        check_order(alloc, &ordered)?;
-        check_props(alloc, &ordered)?;
-        let props = resolved_props(alloc, ordered.named())?;
+        or_drop!(check_order(alloc, &ordered); ordered);
+        or_drop!(check_props(alloc, &ordered); ordered);
+        let props = or_drop!(resolved_props(alloc, ordered.named()); ordered);
         Ok(MetaModel { ordered, props })
     }
 

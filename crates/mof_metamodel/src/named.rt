@@ -7,6 +7,7 @@ use crate::names::is_named;
 use crate::numbering::{
     class_names, enum_names, first_numbers, literal_names, own_names, prop_places,
 };
+use crate::or_drop;
 use std::alloc::Global;
 use std::marker::Model;
 
@@ -50,12 +51,13 @@ impl Named {
         requires { IsTrue (is_within_limits desc) }
         ensures { IfOk result (λ m. m ≡ desc) }
     {
-        let classes = class_names(alloc, desc.classes.as_slice())?;
-        let enums = enum_names(alloc, desc.enums.as_slice())?;
-        let own = own_names(alloc, &desc)?;
-        let literals = literal_names(alloc, &desc)?;
-        let firsts = first_numbers(alloc, &desc)?;
-        let places = prop_places(alloc, &desc)?;
+        let classes = or_drop!(class_names(alloc, desc.classes.as_slice()); desc);
+        let enums = or_drop!(enum_names(alloc, desc.enums.as_slice()); desc, classes);
+        let own = or_drop!(own_names(alloc, &desc); desc, classes, enums);
+        let literals = or_drop!(literal_names(alloc, &desc); desc, classes, enums, own);
+        let firsts = or_drop!(first_numbers(alloc, &desc); desc, classes, enums, own, literals);
+        let places =
+            or_drop!(prop_places(alloc, &desc); desc, classes, enums, own, literals, firsts);
         Ok(Named {
             desc,
             classes,

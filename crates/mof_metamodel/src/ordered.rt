@@ -8,6 +8,7 @@ use crate::hierarchy::Hierarchy;
 use crate::lineages::{Line, all_found, all_lineages, all_lines};
 use crate::memory::NoMemory;
 use crate::named::Named;
+use crate::or_drop;
 use crate::seq::Seq;
 use indexmap::IndexSet;
 use std::alloc::Global;
@@ -41,11 +42,15 @@ impl Ordered {
     pub(crate) fn new(alloc: Global, hierarchy: Hierarchy) -> Result<Ordered, NoMemory>
         ensures { IfOk result (λ o. o ≡ hierarchy) }
     {
-        let lines = all_lines(alloc, &hierarchy)?;
-        let lineages = all_lineages(alloc, &hierarchy, lines.as_slice())?;
+        let lines = or_drop!(all_lines(alloc, &hierarchy); hierarchy);
+        let lineages =
+            or_drop!(all_lineages(alloc, &hierarchy, lines.as_slice()); lines, hierarchy);
         let named = hierarchy.named();
-        let orders = prop_orders(alloc, named, lineages.as_slice())?;
-        let starts = prop_starts(alloc, named, lineages.as_slice(), orders.as_slice())?;
+        let orders =
+            or_drop!(prop_orders(alloc, named, lineages.as_slice()); lineages, lines, hierarchy);
+        let starts = prop_starts(alloc, named, lineages.as_slice(), orders.as_slice());
+        drop(lineages);
+        let starts = or_drop!(starts; orders, lines, hierarchy);
         Ok(Ordered {
             hierarchy,
             lines,
