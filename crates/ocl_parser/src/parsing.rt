@@ -185,7 +185,9 @@ pub fn read_expr(
         stack: Stack::new(alloc),
         state: State::Operand,
     };
-    read(alloc, tokens, from, &mut reading, levels)
+    let found = read(alloc, tokens, from, &mut reading, levels);
+    drop(reading);
+    found
 }
 
 /// Where the token of this number begins, or the text ends.

@@ -12,7 +12,7 @@ ghost use Rattle.ocl_environments.specs.QueryCalls.{rows_of};
 
 use crate::typing::type_expr;
 use crate::typing_scopes::declared_type;
-use mof_metamodel::{NoMemory, Seq};
+use mof_metamodel::{NoMemory, Seq, or_drop};
 use ocl_environments::{Env, Signature, TypeError, duplicate_name, fits, refuse_cycle, wrong_type};
 use qv_syntax::{Expr, ParamTree, Query, QueryTree, Ty, TypeTree, Typed};
 use std::alloc::Global;
@@ -62,9 +62,9 @@ fn bind_params(alloc: Global, env: &mut Env<'_>, params: &[ParamTree]) -> Result
 {
     let mut types = Seq::new(alloc);
     for param in params {
-        let ty = param_type(alloc, env, param)?;
-        bind_param(alloc, env, param, &ty)?;
-        types.push(ty)?;
+        let ty = or_drop!(param_type(alloc, env, param); types);
+        or_drop!(bind_param(alloc, env, param, &ty); ty, types);
+        or_drop!(types.push(ty); types);
     }
     Ok(types)
 }
@@ -79,7 +79,7 @@ fn signature(alloc: Global, env: &mut Env<'_>, query: &QueryTree) -> Result<Sign
     ensures kept { without_variables env.new ≡ without_variables env.old }
 {
     let result = variable_type(alloc, env, &query.result)?;
-    let params = bind_params(alloc, env, query.params.as_slice())?;
+    let params = or_drop!(bind_params(alloc, env, query.params.as_slice()); result);
     env.forget_variables(alloc);
     Ok(Signature { params, result })
 }
@@ -95,7 +95,7 @@ fn bind_one(alloc: Global, env: &mut Env<'_>, query: &QueryTree) -> Result<(), T
         return Err(TypeError::Fault(duplicate_name(alloc, query.name.text.as_str())?));
     }
     let Signature { params, result } = signature(alloc, env, query)?;
-    let name = query.name.text.duplicate(alloc)?;
+    let name = or_drop!(query.name.text.duplicate(alloc); params, result);
     Ok(env.bind_query(name, params, result)?)
 }
 
@@ -118,16 +118,19 @@ fn with_body(
     alloc: Global,
     env: &Env<'_>,
     query: &QueryTree,
-    types: (Seq<Ty>, Ty),
+    types: Signature,
     body: Typed,
 ) -> Result<Query, TypeError>
-    ensures { Gives fault_in (λ x. x) result (asking (fits_by env.now.metas body.ty types.1) (wrong env.now.metas types.1 body.ty) (Ok (record { name = query.now.name.text; params = types.0; result = types.1; body = body }))) }
+    ensures { Gives fault_in (λ x. x) result (asking (fits_by env.now.metas body.ty types.result) (wrong env.now.metas types.result body.ty) (Ok (record { name = query.now.name.text; params = types.params; result = types.result; body = body }))) }
 {
-    let (params, result) = types;
-    if !fits(env.metas(), &body.ty, &result) {
-        return Err(TypeError::Fault(wrong_type(alloc, env.metas(), &result, &body.ty)?));
+    if !fits(env.metas(), &body.ty, &types.result) {
+        let fault = wrong_type(alloc, env.metas(), &types.result, &body.ty);
+        drop(types);
+        drop(body);
+        return Err(TypeError::Fault(fault?));
     }
-    let name = query.name.text.duplicate(alloc)?;
+    let name = or_drop!(query.name.text.duplicate(alloc); types, body);
+    let Signature { params, result } = types;
     Ok(Query {
         name,
         params,
@@ -151,10 +154,10 @@ fn type_query(alloc: Global, env: &mut Env<'_>, query: &QueryTree) -> Result<Que
     ensures kept { without_variables env.new ≡ without_variables env.old }
 {
     let result = variable_type(alloc, env, &query.result)?;
-    let params = bind_params(alloc, env, query.params.as_slice())?;
-    let body = body_tree(alloc, env, &query.body)?;
+    let params = or_drop!(bind_params(alloc, env, query.params.as_slice()); result);
+    let body = or_drop!(body_tree(alloc, env, &query.body); params, result);
     env.forget_variables(alloc);
-    with_body(alloc, env, query, (params, result), body)
+    with_body(alloc, env, query, Signature { params, result }, body)
 }
 
 /// All of these queries, which are in reach.

@@ -17,7 +17,7 @@ use crate::typing_scopes::{let_part, let_type, path_part};
 use crate::typing_steps::{
     class_operation_rule, extent_rule, operation_rule, property_rule, query_rule,
 };
-use mof_metamodel::{Boxed, NoMemory, Seq, Text};
+use mof_metamodel::{Boxed, NoMemory, Seq, Text, or_drop};
 use ocl_environments::{
     CallsSoFar, Chained, Env, Scope, TypeError, TypedPart, let_variable, unknown_name,
 };
@@ -52,11 +52,12 @@ fn type_let(alloc: Global, scope: &mut Scope<'_>, expr: &Expr) -> Result<TypedPa
         } => {
             let number = scope.size();
             let wanted = let_type(alloc, scope, &name.text, ty)?;
-            let value = type_part(alloc, scope, value.get())?;
-            let variable = let_variable(alloc, scope.env().metas(), wanted, &value)?;
-            let text = name.text.duplicate(alloc)?;
-            scope.enter(text, variable)?;
-            let body = type_part(alloc, scope, body.get())?;
+            let value = or_drop!(type_part(alloc, scope, value.get()); wanted);
+            let variable =
+                or_drop!(let_variable(alloc, scope.env().metas(), wanted, &value); value);
+            let text = or_drop!(name.text.duplicate(alloc); variable, value);
+            or_drop!(scope.enter(text, variable); value);
+            let body = or_drop!(type_part(alloc, scope, body.get()); value);
             scope.leave();
             Ok(let_part(alloc, number, value, body)?)
         }
@@ -105,8 +106,8 @@ fn type_if(alloc: Global, scope: &mut Scope<'_>, expr: &Expr) -> Result<TypedPar
             ..
         } => {
             let condition = type_part(alloc, scope, condition.get())?;
-            let one = type_part(alloc, scope, one.get())?;
-            let other = type_part(alloc, scope, other.get())?;
+            let one = or_drop!(type_part(alloc, scope, one.get()); condition);
+            let other = or_drop!(type_part(alloc, scope, other.get()); condition, one);
             if_rule(alloc, scope.env().metas(), condition, one, other)
         }
         _ => unreachable!(),
@@ -205,8 +206,8 @@ fn type_linked(
     ensures value { Gives fault_in (λ x. x) result (part_linked (in_reach scope.old) part (map operated_by links.now)) }
     ensures scope { OnOk result (scope.new ≡ scope.old) }
 {
-    let chain = unchained(alloc, &part)?;
-    let chain = type_links(alloc, scope, chain, links)?;
+    let chain = or_drop!(unchained(alloc, &part); part);
+    let chain = or_drop!(type_links(alloc, scope, chain, links); part);
     Ok(chain_part(alloc, part, chain)?)
 }
 
@@ -265,10 +266,13 @@ fn type_arrow(
 {
     match args {
         Args::Values { values } => {
-            let args = type_parts(alloc, scope, values.as_slice())?;
+            let args = or_drop!(type_parts(alloc, scope, values.as_slice()); called);
             collection_operation_rule(alloc, scope.env().metas(), &name.text, called, args)
         }
-        Args::Class { .. } => Err(TypeError::Fault(unknown_name(alloc, name.text.as_str())?)),
+        Args::Class { .. } => {
+            drop(called);
+            Err(TypeError::Fault(unknown_name(alloc, name.text.as_str())?))
+        }
     }
 }
 
@@ -293,10 +297,11 @@ fn type_iterator(
             ..
         } => {
             let number = scope.size();
-            let element = iterator_variable(alloc, scope, &variable.text, ty, &called)?;
-            let text = variable.text.duplicate(alloc)?;
-            scope.enter(text, element)?;
-            let body = type_part(alloc, scope, body.get())?;
+            let element =
+                or_drop!(iterator_variable(alloc, scope, &variable.text, ty, &called); called);
+            let text = or_drop!(variable.text.duplicate(alloc); element, called);
+            or_drop!(scope.enter(text, element); called);
+            let body = or_drop!(type_part(alloc, scope, body.get()); called);
             scope.leave();
             iterator_rule(alloc, scope.env().metas(), &name.text, number, called, body)
         }
@@ -385,8 +390,8 @@ fn type_called(
     if calls.is_empty() {
         return Ok(part);
     }
-    let called = uncalled(alloc, &part)?;
-    let called = type_postfixes(alloc, scope, called, calls)?;
+    let called = or_drop!(uncalled(alloc, &part); part);
+    let called = or_drop!(type_postfixes(alloc, scope, called, calls); part);
     Ok(calls_part(alloc, part, called)?)
 }
 

@@ -13,7 +13,7 @@ use crate::signatures::{
 };
 use crate::typing_scopes::declared_type;
 use crate::typing_steps::counted;
-use mof_metamodel::{Boxed, MetaModel, NoMemory, Seq, Text};
+use mof_metamodel::{Boxed, MetaModel, NoMemory, Seq, Text, or_drop};
 use ocl_environments::{
     CallsSoFar, Env, Scope, TypeError, TypedPart, Variable, collection_parts, exactly, fits,
     free_name, model_for, one_model, same_kind, same_type, trees_of, unknown_name, upper,
@@ -185,11 +185,13 @@ fn operated_on(
 ) -> Result<CallsSoFar, NoMemory>
     ensures { IfOk result (λ c. c ≡ operated called operation args (kind_meant called.ty) (element_meant called.ty) upper.now joined) }
 {
-    let of = element_of(alloc, &called.ty)?;
+    let of = or_drop!(element_of(alloc, &called.ty); called, args);
     let gives = collection_row(operation).result;
-    let ty = collection_result(alloc, gives, kind_of(&called.ty), &of, upper)?;
+    let given = collection_result(alloc, gives, kind_of(&called.ty), &of, upper);
+    drop(of);
+    let ty = or_drop!(given; called, args);
     let model = result_model(operation, called.model, joined);
-    let args = trees_of(alloc, args)?;
+    let args = or_drop!(trees_of(alloc, args); called, ty);
     let call = Call::Collection { operation, args };
     called_on(alloc, called, call, ty, model)
 }
@@ -208,18 +210,21 @@ fn operate(
     let row = collection_row(operation);
     let kind = kind_of(&called.ty);
     if !is_of_kind(row.kinds, kind) {
+        drop(called);
+        drop(args);
         return Err(TypeError::Fault(unknown_name(alloc, name.as_str())?));
     }
-    counted(alloc, name, argument_count(row.argument), args.as_slice())?;
-    let of = element_of(alloc, &called.ty)?;
-    summed(alloc, metas, operation, &of)?;
-    let upper = given_types(alloc, metas, row.argument, kind, &of, args.as_slice())?;
-    let joined = one_model(
-        alloc,
-        name.as_str(),
-        with_models(called.model, args.as_slice()),
-    )?;
-    Ok(operated_on(alloc, called, operation, args, &upper, joined)?)
+    or_drop!(counted(alloc, name, argument_count(row.argument), args.as_slice()); called, args);
+    let of = or_drop!(element_of(alloc, &called.ty); called, args);
+    or_drop!(summed(alloc, metas, operation, &of); of, called, args);
+    let upper =
+        or_drop!(given_types(alloc, metas, row.argument, kind, &of, args.as_slice()); of, called, args);
+    drop(of);
+    let models = with_models(called.model, args.as_slice());
+    let joined = or_drop!(one_model(alloc, name.as_str(), models); upper, called, args);
+    let done = operated_on(alloc, called, operation, args, &upper, joined);
+    drop(upper);
+    Ok(done?)
 }
 
 /// `->name(args)`: an operation on the collection.
@@ -333,11 +338,13 @@ fn iterated(
 ) -> Result<CallsSoFar, NoMemory>
     ensures { IfOk result (λ c. c ≡ iteration called iterator variable body) }
 {
-    let of = element_of(alloc, &called.ty)?;
+    let of = or_drop!(element_of(alloc, &called.ty); called, body);
     let gives = iterator_row(iterator).result;
-    let ty = iterated_type(alloc, gives, kind_of(&called.ty), &of, &body.ty)?;
+    let given = iterated_type(alloc, gives, kind_of(&called.ty), &of, &body.ty);
+    drop(of);
+    let ty = or_drop!(given; called, body);
     let model = iterated_model(gives, called.model, body.model);
-    let body = Boxed::new(alloc, body.into_tree())?;
+    let body = or_drop!(Boxed::new(alloc, body.into_tree()); called, ty);
     let call = Call::Iterator {
         iterator,
         variable,
@@ -375,9 +382,13 @@ pub(crate) fn iterator_rule(
 {
     match iterator_named(name.as_str()) {
         Some(iterator) => {
-            condition(alloc, metas, iterator_row(iterator).conditional, &body.ty)?;
+            or_drop!(condition(alloc, metas, iterator_row(iterator).conditional, &body.ty); called, body);
             Ok(iterated(alloc, called, iterator, variable, body)?)
         }
-        None => Err(TypeError::Fault(unknown_name(alloc, name.as_str())?)),
+        None => {
+            drop(called);
+            drop(body);
+            Err(TypeError::Fault(unknown_name(alloc, name.as_str())?))
+        }
     }
 }

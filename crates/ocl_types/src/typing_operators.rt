@@ -6,7 +6,7 @@ ghost use Rattle.mof_metamodel.specs.Giving.{Gives};
 ghost use Rattle.ocl_environments.specs.Written.{fault_in};
 
 use crate::trees::boxed_tree;
-use mof_metamodel::{MetaModel, NoMemory, Seq};
+use mof_metamodel::{MetaModel, NoMemory, Seq, or_drop};
 use ocl_environments::{
     Chained, TypeError, TypedPart, are_comparable, branches, exactly, joined_models, model_for,
     one_model, same_type, wrong_type,
@@ -105,8 +105,12 @@ fn and_linked(
 ) -> Result<Chained, NoMemory>
     ensures { IfOk result (λ c. c ≡ linked chain operator right ty) }
 {
-    let mut links = chain.links;
-    let reached = ty.duplicate(alloc)?;
+    let reached = or_drop!(ty.duplicate(alloc); chain, right, ty);
+    let Chained {
+        mut links,
+        ty: before,
+    } = chain;
+    drop(before);
     let TypedPart {
         ty: of_right,
         node,
@@ -132,7 +136,7 @@ pub(crate) fn link_rule(
 ) -> Result<Chained, TypeError>
     ensures { Gives fault_in (λ x. x) result (linked_by metas.now chain operator right) }
 {
-    let ty = operated(alloc, metas, operator, &chain.ty, &right.ty)?;
+    let ty = or_drop!(operated(alloc, metas, operator, &chain.ty, &right.ty); chain, right);
     Ok(and_linked(alloc, chain, operator, right, ty)?)
 }
 
@@ -164,7 +168,7 @@ pub(crate) fn not_rule(
 ) -> Result<TypedPart, TypeError>
     ensures { Gives fault_in (λ x. x) result (not_of metas.now operand) }
 {
-    exactly(alloc, metas, &Ty::Bool, &operand.ty)?;
+    or_drop!(exactly(alloc, metas, &Ty::Bool, &operand.ty); operand);
     let operand = boxed_tree(alloc, operand)?;
     Ok(TypedPart {
         ty: Ty::Bool,
@@ -182,7 +186,7 @@ pub(crate) fn negated_rule(
 ) -> Result<TypedPart, TypeError>
     ensures { Gives fault_in (λ x. x) result (negated_of metas.now operand) }
 {
-    exactly(alloc, metas, &Ty::Int, &operand.ty)?;
+    or_drop!(exactly(alloc, metas, &Ty::Int, &operand.ty); operand);
     let operand = boxed_tree(alloc, operand)?;
     Ok(TypedPart {
         ty: Ty::Int,
@@ -202,9 +206,9 @@ fn if_part(
 ) -> Result<TypedPart, NoMemory>
     ensures { IfOk result (λ p. p ≡ record { ty = ty; model = model; node = nodes.If (tree_of condition) (tree_of one) (tree_of other) }) }
 {
-    let condition = boxed_tree(alloc, condition)?;
-    let one = boxed_tree(alloc, one)?;
-    let other = boxed_tree(alloc, other)?;
+    let condition = or_drop!(boxed_tree(alloc, condition); one, other, ty);
+    let one = or_drop!(boxed_tree(alloc, one); condition, other, ty);
+    let other = or_drop!(boxed_tree(alloc, other); condition, one, ty);
     Ok(TypedPart {
         ty,
         model,
@@ -244,8 +248,7 @@ pub(crate) fn if_rule(
 ) -> Result<TypedPart, TypeError>
     ensures { Gives fault_in (λ x. x) result (if_of metas.now condition one other) }
 {
-    match if_branches(alloc, metas, &condition.ty, &one, &other) {
-        Ok((ty, model)) => Ok(if_part(alloc, condition, one, other, ty, model)?),
-        Err(error) => Err(error),
-    }
+    let (ty, model) =
+        or_drop!(if_branches(alloc, metas, &condition.ty, &one, &other); condition, one, other);
+    Ok(if_part(alloc, condition, one, other, ty, model)?)
 }

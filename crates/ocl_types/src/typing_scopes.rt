@@ -8,7 +8,7 @@ ghost use Rattle.mof_metamodel.specs.Giving.{Gives};
 ghost use Rattle.ocl_environments.specs.Written.{fault_in};
 
 use crate::trees::boxed_tree;
-use mof_metamodel::{MetaModel, NoMemory, Text};
+use mof_metamodel::{MetaModel, NoMemory, Text, or_drop};
 use ocl_environments::{
     Env, Scope, TypeError, TypedPart, Variable, collection_parts, free_name, unknown_name,
     unknown_path, written_type, wrong_type,
@@ -122,10 +122,10 @@ pub(crate) fn let_part(
 ) -> Result<TypedPart, NoMemory>
     ensures { IfOk result (λ p. p ≡ part_of_let number value body) }
 {
-    let ty = body.ty.duplicate(alloc)?;
+    let ty = or_drop!(body.ty.duplicate(alloc); value, body);
     let model = body.model;
-    let value = boxed_tree(alloc, value)?;
-    let body = boxed_tree(alloc, body)?;
+    let value = or_drop!(boxed_tree(alloc, value); ty, body);
+    let body = or_drop!(boxed_tree(alloc, body); ty, value);
     Ok(TypedPart {
         ty,
         model,

@@ -13,7 +13,7 @@ use crate::operations::{
 use crate::signatures::{
     collected_kind, is_receiver, parameter_count, parameter_type, result_type,
 };
-use mof_metamodel::{Boxed, ClassId, MetaModel, NoMemory, PropId, Seq, Text};
+use mof_metamodel::{Boxed, ClassId, MetaModel, NoMemory, PropId, Seq, Text, or_drop};
 use ocl_environments::{
     CallsSoFar, Env, Scope, Signature, TypeError, TypeFault, TypedPart, class_of, collection_parts,
     exactly, fits, model_for, navigated, path_text, prop_type, trees_of, unknown_name, values,
@@ -197,22 +197,17 @@ fn operate(
 {
     let row = operation_row(operation);
     if !is_receiver(row.receivers, &called.ty) {
+        drop(called);
+        drop(args);
         return Err(TypeError::Fault(unknown_name(alloc, name.as_str())?));
     }
-    counted(
-        alloc,
-        name,
-        parameter_count(row.parameters),
-        args.as_slice(),
-    )?;
-    each_exactly(
-        alloc,
-        metas,
-        &parameter_type(row.parameters),
-        args.as_slice(),
-    )?;
-    let ty = result_type(alloc, row.result, &called.ty)?;
-    let args = trees_of(alloc, args)?;
+    or_drop!(counted(alloc, name, parameter_count(row.parameters), args.as_slice()); called, args);
+    let asked = parameter_type(row.parameters);
+    let fits = each_exactly(alloc, metas, &asked, args.as_slice());
+    drop(asked);
+    or_drop!(fits; called, args);
+    let ty = or_drop!(result_type(alloc, row.result, &called.ty); called, args);
+    let args = or_drop!(trees_of(alloc, args); called, ty);
     let call = Call::Operation { operation, args };
     Ok(called_with(alloc, called, call, ty)?)
 }
@@ -230,7 +225,11 @@ pub(crate) fn operation_rule(
 {
     match operation_named(name.as_str()) {
         Some(operation) => operate(alloc, metas, name, called, args, operation),
-        None => Err(TypeError::Fault(unknown_name(alloc, name.as_str())?)),
+        None => {
+            drop(called);
+            drop(args);
+            Err(TypeError::Fault(unknown_name(alloc, name.as_str())?))
+        }
     }
 }
 
@@ -276,7 +275,10 @@ fn tested_with(
 {
     if !is_of_meta(class.0, &called.ty) {
         let wanted = Ty::Class(class.0, class.1);
-        return Err(TypeError::Fault(wrong_type(alloc, metas, &wanted, &called.ty)?));
+        let fault = wrong_type(alloc, metas, &wanted, &called.ty);
+        drop(wanted);
+        drop(called);
+        return Err(TypeError::Fault(fault?));
     }
     let ty = tested(class_row(operation).result, class);
     let call = Call::Class {
@@ -299,10 +301,13 @@ pub(crate) fn class_operation_rule(
 {
     match class_operation_named(name.as_str()) {
         Some(operation) => {
-            let class = class_at_path(alloc, scope.env(), path)?;
+            let class = or_drop!(class_at_path(alloc, scope.env(), path); called);
             tested_with(alloc, scope.env().metas(), called, operation, class)
         }
-        None => Err(TypeError::Fault(unknown_name(alloc, name.as_str())?)),
+        None => {
+            drop(called);
+            Err(TypeError::Fault(unknown_name(alloc, name.as_str())?))
+        }
     }
 }
 

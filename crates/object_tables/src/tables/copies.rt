@@ -2,7 +2,7 @@ ghost use Rattle.std.specs.Prelude.{◌≡◌, IfOk};
 
 use crate::tables::{Entry, Home, Named, Tables};
 use crate::value::Value;
-use mof_metamodel::{NoMemory, Seq};
+use mof_metamodel::{NoMemory, Seq, or_drop};
 use std::alloc::Global;
 
 impl Tables {
@@ -11,10 +11,11 @@ impl Tables {
         ensures { IfOk result (λ copy. copy ≡ self.now) }
     {
         let entries = copy_entries(alloc, &self.entries)?;
-        let homes = copy_homes(alloc, &self.homes)?;
-        let arena = self.arena.duplicate(alloc)?;
-        let marks = Vec::from_slice(alloc, self.marks.as_slice())?;
-        let order = Vec::with_capacity(alloc, self.entries.len())?;
+        let homes = or_drop!(copy_homes(alloc, &self.homes); entries);
+        let arena = or_drop!(self.arena.duplicate(alloc); homes, entries);
+        let marks = or_drop!(Vec::from_slice(alloc, self.marks.as_slice()); arena, homes, entries);
+        let order = Vec::with_capacity(alloc, self.entries.len());
+        let order = or_drop!(order; marks, arena, homes, entries);
         Ok(Tables {
             entries,
             homes,
