@@ -1,4 +1,4 @@
-use mof_metamodel::{NoMemory, Seq};
+use mof_metamodel::{NoMemory, Seq, or_drop};
 use std::alloc::Global;
 
 /// The bytes of a text of a case, in which `\n` is a line feed.
@@ -6,9 +6,9 @@ pub fn meant(alloc: Global, text: &str) -> Result<Seq<u8>, NoMemory> {
     let mut bytes = Vec::new(alloc);
     for (i, line) in text.split("\\n").enumerate() {
         if i > 0 {
-            bytes.push(b'\n')?;
+            or_drop!(bytes.push(b'\n'); bytes);
         }
-        bytes.extend_from_slice(line.as_bytes())?;
+        or_drop!(bytes.extend_from_slice(line.as_bytes()); bytes);
     }
     Ok(Seq::from_vec(bytes))
 }
@@ -18,8 +18,8 @@ pub fn shown(alloc: Global, bytes: &[u8]) -> Result<String, NoMemory> {
     let mut text = String::new(alloc);
     for byte in bytes {
         match *byte {
-            b'\n' => text.push_str("\\n")?,
-            byte => text.push(char::from(byte))?,
+            b'\n' => or_drop!(text.push_str("\\n"); text),
+            byte => or_drop!(text.push(char::from(byte)); text),
         }
     }
     Ok(text)

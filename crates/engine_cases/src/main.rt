@@ -25,24 +25,55 @@ mod paced;
 mod session;
 mod system;
 
+use mof_metamodel::NoMemory;
 use session::Session;
 use std::io;
+use std::rt::Files;
+
+/// What a line comes to: nothing, or an answer.
+fn answer<R: Files + AllocGlobal + Print>(
+    rt: &R,
+    session: &mut Session,
+    line: &str,
+) -> Result<Option<String>, NoMemory> {
+    match line.strip_prefix("system ") {
+        Some(rest) => system::answer(rt, rest),
+        None => session.answer(line),
+    }
+}
+
+/// Prints a line with its answer, if it asks for something.
+fn print_answer<R: Files + AllocGlobal + Print>(
+    rt: &R,
+    session: &mut Session,
+    line: &str,
+) -> io::Result<()> {
+    match answer(rt, session, line) {
+        Ok(Some(text)) => {
+            let printed = println!(rt; "{line} => {text}");
+            drop(text);
+            printed
+        }
+        Ok(None) => Ok(()),
+        Err(_) => println!(rt; "{line} => no memory"),
+    }
+}
+
+fn print_answers(rt: &HostRuntime, session: &mut Session) -> io::Result<()> {
+    for line in rt.lines(rt.alloc()) {
+        let line = line?;
+        let printed = print_answer(rt, session, line.as_str());
+        drop(line);
+        printed?;
+    }
+    Ok(())
+}
 
 fn main(rt: HostRuntime) -> io::Result<()> {
     let Ok(mut session) = Session::new(rt.alloc()) else {
         return println!(rt; "no memory");
     };
-    for line in rt.lines(rt.alloc()) {
-        let line = line?;
-        let answer = match line.as_str().strip_prefix("system ") {
-            Some(rest) => system::answer(&rt, rest),
-            None => session.answer(line.as_str()),
-        };
-        match answer {
-            Ok(Some(text)) => println!(rt; "{line} => {text}")?,
-            Ok(None) => {}
-            Err(_) => println!(rt; "{line} => no memory")?,
-        }
-    }
-    Ok(())
+    let printed = print_answers(&rt, &mut session);
+    drop(session);
+    printed
 }

@@ -1,8 +1,9 @@
 use crate::bytes::{meant, number, shown, split_word};
 use crate::paced::Paced;
-use mof_metamodel::{NoMemory, Seq, Text};
+use mof_metamodel::{NoMemory, Seq, Text, or_drop};
 use qvtr_engine::run;
 use std::alloc::Global;
+use std::mem;
 use vault_io::{Failed, LoadError, MemSink, MemVault, NamedFile, Vault, load, print_all};
 
 /// What stands before a case: the files and the failing calls of the next vaults and sinks, and those that are there.
@@ -37,20 +38,20 @@ impl Session {
     pub fn answer(&mut self, line: &str) -> Result<Option<String>, NoMemory> {
         let (verb, rest) = split_word(line);
         let answer = match verb {
-            "read" => self.read(rest)?,
-            "load" => loaded(self.alloc, &mut self.vault, rest)?,
-            "put" => put(self.alloc, &mut self.vault, rest)?,
-            "print" => self.print(rest)?,
-            "run" => self.run(rest)?,
-            "file?" => self.file(rest)?,
-            "vault?" => self.counts_of_vault()?,
-            "sink?" => self.counts_of_sink()?,
+            "read" => self.read(rest),
+            "load" => loaded(self.alloc, &mut self.vault, rest),
+            "put" => put(self.alloc, &mut self.vault, rest),
+            "print" => self.print(rest),
+            "run" => self.run(rest),
+            "file?" => self.file(rest),
+            "vault?" => self.counts_of_vault(),
+            "sink?" => self.counts_of_sink(),
             _ => {
                 self.prepare(verb, rest)?;
                 return Ok(None);
             }
         };
-        Ok(Some(answer))
+        Ok(Some(answer?))
     }
 
     /// Does what a line says that asks for nothing.
@@ -73,20 +74,18 @@ impl Session {
 
     fn add_file(&mut self, rest: &str) -> Result<(), NoMemory> {
         let (name, text) = split_word(rest);
-        let file = NamedFile {
-            name: Text::new(self.alloc, name)?,
-            bytes: meant(self.alloc, text)?,
-        };
-        self.files.push(file)?;
+        let name = Text::new(self.alloc, name)?;
+        let bytes = or_drop!(meant(self.alloc, text); name);
+        self.files.push(NamedFile { name, bytes })?;
         Ok(())
     }
 
     fn add_line(&mut self, line: &str) -> Result<(), NoMemory> {
         if let Some(file) = self.files.last_mut() {
             let mut bytes = Vec::from_slice(self.alloc, file.bytes.as_slice())?;
-            bytes.extend_from_slice(line.as_bytes())?;
-            bytes.push(b'\n')?;
-            file.bytes = Seq::from_vec(bytes);
+            or_drop!(bytes.extend_from_slice(line.as_bytes()); bytes);
+            or_drop!(bytes.push(b'\n'); bytes);
+            drop(mem::replace(&mut file.bytes, Seq::from_vec(bytes)));
         }
         Ok(())
     }
@@ -96,9 +95,9 @@ impl Session {
         if let Some(file) = self.files.last_mut() {
             let mut bytes = Vec::from_slice(self.alloc, file.bytes.as_slice())?;
             for _ in 0..number(count) {
-                bytes.extend_from_slice(text.as_bytes())?;
+                or_drop!(bytes.extend_from_slice(text.as_bytes()); bytes);
             }
-            file.bytes = Seq::from_vec(bytes);
+            drop(mem::replace(&mut file.bytes, Seq::from_vec(bytes)));
         }
         Ok(())
     }
@@ -117,20 +116,27 @@ impl Session {
         Seq::from_slice(self.alloc, self.failing.as_slice())
     }
 
-    fn begin_vault(&mut self) -> Result<(), NoMemory> {
+    fn copied_files(&self) -> Result<Seq<NamedFile>, NoMemory> {
         let mut files = Seq::new(self.alloc);
         for file in &self.files {
-            files.push(NamedFile {
-                name: Text::new(self.alloc, file.name.as_str())?,
-                bytes: Seq::from_slice(self.alloc, file.bytes.as_slice())?,
-            })?;
+            let name = or_drop!(Text::new(self.alloc, file.name.as_str()); files);
+            let bytes = or_drop!(Seq::from_slice(self.alloc, file.bytes.as_slice()); name, files);
+            or_drop!(files.push(NamedFile { name, bytes }); files);
         }
-        self.vault.inner = MemVault::new(self.alloc, files, self.failing_calls()?)?;
+        Ok(files)
+    }
+
+    fn begin_vault(&mut self) -> Result<(), NoMemory> {
+        let files = self.copied_files()?;
+        let failing = or_drop!(self.failing_calls(); files);
+        let vault = MemVault::new(self.alloc, files, failing)?;
+        drop(mem::replace(&mut self.vault.inner, vault));
         Ok(())
     }
 
     fn begin_sink(&mut self) -> Result<(), NoMemory> {
-        self.sink.inner = MemSink::new(self.alloc, self.failing_calls()?);
+        let sink = MemSink::new(self.alloc, self.failing_calls()?);
+        drop(mem::replace(&mut self.sink.inner, sink));
         Ok(())
     }
 
@@ -158,6 +164,7 @@ impl Session {
             Ok(()) => "printed",
             Err(Failed) => "failed",
         };
+        drop(bytes);
         Ok(String::from_str(self.alloc, word)?)
     }
 
@@ -171,34 +178,50 @@ impl Session {
         let failed = self.sink.inner.fault_count();
         let starved = self.sink.inner.starved_count();
         let held = shown(self.alloc, self.sink.inner.bytes())?;
-        Ok(format!(in self.alloc; "{failed} failed, {starved} starved, {held}")?)
+        let text = format!(in self.alloc; "{failed} failed, {starved} starved, {held}");
+        drop(held);
+        Ok(text?)
     }
 
     fn run(&mut self, rest: &str) -> Result<String, NoMemory> {
-        let mut words = Vec::new(self.alloc);
-        if !rest.is_empty() {
-            for word in rest.split(' ') {
-                words.push(String::from_str(self.alloc, word)?)?;
-            }
-        }
-        self.begin_sink()?;
+        let words = words_of(self.alloc, rest)?;
+        or_drop!(self.begin_sink(); words);
         let status = run(
             self.alloc,
             words.as_slice(),
             &mut self.vault,
             &mut self.sink,
         );
+        drop(words);
         let code = status.code();
         let held = shown(self.alloc, self.sink.inner.bytes())?;
-        Ok(format!(in self.alloc; "{code} {held}")?)
+        let text = format!(in self.alloc; "{code} {held}");
+        drop(held);
+        Ok(text?)
     }
+}
+
+/// The words of a run.
+fn words_of(alloc: Global, text: &str) -> Result<Vec<String>, NoMemory> {
+    let mut words = Vec::new(alloc);
+    if !text.is_empty() {
+        for word in text.split(' ') {
+            let word = or_drop!(String::from_str(alloc, word); words);
+            or_drop!(words.push(word); words);
+        }
+    }
+    Ok(words)
 }
 
 /// What a load from a vault comes to, of a case `NAME LIMIT`.
 pub fn loaded<F: Vault>(alloc: Global, vault: &mut F, rest: &str) -> Result<String, NoMemory> {
     let (name, limit) = split_word(rest);
     let word = match load(alloc, vault, name, number(limit) as usize) {
-        Ok(bytes) => return shown(alloc, bytes.as_slice()),
+        Ok(bytes) => {
+            let text = shown(alloc, bytes.as_slice());
+            drop(bytes);
+            return text;
+        }
         Err(LoadError::Failed) => "failed",
         Err(LoadError::TooLong) => "too long",
         Err(LoadError::NoMemory) => return Err(NoMemory),
@@ -214,5 +237,6 @@ pub fn put<F: Vault>(alloc: Global, vault: &mut F, rest: &str) -> Result<String,
         Ok(()) => "put",
         Err(Failed) => "failed",
     };
+    drop(bytes);
     Ok(String::from_str(alloc, word)?)
 }

@@ -11,12 +11,12 @@ pub fn answer<R: Files + AllocGlobal + Print>(
 ) -> Result<Option<String>, NoMemory> {
     let (verb, rest) = split_word(case);
     let answer = match verb {
-        "load" => loaded(rt.alloc(), &mut FileVault::new(rt), rest)?,
-        "put" => put(rt.alloc(), &mut FileVault::new(rt), rest)?,
-        "print" => print(rt, rest)?,
+        "load" => loaded(rt.alloc(), &mut FileVault::new(rt), rest),
+        "put" => put(rt.alloc(), &mut FileVault::new(rt), rest),
+        "print" => print(rt, rest),
         _ => return Ok(None),
     };
-    Ok(Some(answer))
+    Ok(Some(answer?))
 }
 
 fn print<R: AllocGlobal + Print>(rt: &R, text: &str) -> Result<String, NoMemory> {
@@ -25,5 +25,6 @@ fn print<R: AllocGlobal + Print>(rt: &R, text: &str) -> Result<String, NoMemory>
         Ok(()) => "printed",
         Err(Failed) => "failed",
     };
+    drop(bytes);
     Ok(String::from_str(rt.alloc(), word)?)
 }

@@ -5,7 +5,7 @@ use crate::reading::{Fault, typed};
 use crate::variables::{Stage, bound};
 use case_texts::Pen;
 use expression_settings::{bool_word, metamodels, slots};
-use mof_metamodel::{NoMemory, Seq, Text};
+use mof_metamodel::{NoMemory, Seq, Text, or_drop};
 use ocl_environments::{Env, Metas};
 use ocl_eval::{eval, holds};
 use qv_syntax::{ModelSlot, Program, Query};
@@ -16,21 +16,26 @@ use std::alloc::Global;
 pub fn answers(alloc: Global, setting: &str) -> Result<Text, NoMemory> {
     let mut pen = Pen::new(alloc)?;
     put_heading(&mut pen, setting);
-    let metas = metamodels(alloc, &mut pen, setting)?;
-    put_answers(alloc, &mut pen, &metas, setting)?;
+    let metas = or_drop!(metamodels(alloc, &mut pen, setting); pen);
+    let put = put_answers(alloc, &mut pen, &metas, setting);
+    drop(metas);
+    or_drop!(put; pen);
     pen.written()
 }
 
 fn put_answers(alloc: Global, pen: &mut Pen, metas: &Metas, setting: &str) -> Result<(), NoMemory> {
     let models = models(alloc, pen, metas, setting)?;
-    let program = program(alloc, metas, setting)?;
+    let program = or_drop!(program(alloc, metas, setting); models);
     let stage = Stage {
         alloc,
         metas,
         program: &program,
         models: &models,
     };
-    put_cases(pen, &stage, setting)
+    let put = put_cases(pen, &stage, setting);
+    drop(program);
+    drop(models);
+    put
 }
 
 fn put_cases(pen: &mut Pen, stage: &Stage<'_, '_>, setting: &str) -> Result<(), NoMemory> {
@@ -77,8 +82,9 @@ fn put_heading(pen: &mut Pen, setting: &str) {
 /// The program of a setting: its models and queries alone.
 fn program(alloc: Global, metas: &Metas, setting: &str) -> Result<Program, NoMemory> {
     let mut silent = Pen::new(alloc)?;
-    let queries = queries(alloc, &mut silent, metas, setting)?;
-    let models = slots(alloc, &mut silent, metas, setting)?;
+    let queries = or_drop!(queries(alloc, &mut silent, metas, setting); silent);
+    let models = or_drop!(slots(alloc, &mut silent, metas, setting); queries, silent);
+    drop(silent);
     with_queries(alloc, models, queries)
 }
 
@@ -87,7 +93,7 @@ fn with_queries(
     models: Seq<ModelSlot>,
     queries: Seq<Query>,
 ) -> Result<Program, NoMemory> {
-    let name = Text::new(alloc, "Cases")?;
+    let name = or_drop!(Text::new(alloc, "Cases"); models, queries);
     Ok(Program {
         name,
         models,

@@ -1,7 +1,7 @@
 //! Edits of a model.
 use expression_settings::Refused;
 use model_building::Editor;
-use mof_metamodel::{ClassId, MetaModel, PropId, Seq, Text};
+use mof_metamodel::{ClassId, MetaModel, PropId, Seq, Text, or_drop};
 use object_tables::{Model, ObjId, Value};
 use std::alloc::Global;
 
@@ -101,7 +101,8 @@ fn link(editor: &mut Editor<'_>, place: (&str, &str), other: &str) -> Result<(),
 fn values(alloc: Global, meta: &MetaModel, words: &str) -> Result<Seq<Value>, Refused> {
     let mut values = Seq::new(alloc);
     for word in words.split(',') {
-        values.push(value(alloc, meta, word)?)?;
+        let value = or_drop!(value(alloc, meta, word); values);
+        or_drop!(values.push(value); values);
     }
     Ok(values)
 }

@@ -29,15 +29,31 @@ mod reading;
 mod variables;
 
 use cases::answers;
+use std::alloc::Global;
 use std::io;
+
+/// Prints the answers to the cases of a setting.
+fn print_answers(rt: &impl Print, alloc: Global, setting: &str) -> io::Result<()> {
+    match answers(alloc, setting) {
+        Ok(text) => {
+            let printed = rt.print(text.as_str());
+            drop(text);
+            printed
+        }
+        Err(_) => println!(rt; "no memory"),
+    }
+}
+
+fn print_all(rt: &impl Print, alloc: Global, cases: &str) -> io::Result<()> {
+    for setting in cases.split("\nsetting ") {
+        print_answers(rt, alloc, setting)?;
+    }
+    Ok(())
+}
 
 fn main(rt: HostRuntime) -> io::Result<()> {
     let cases = io::read_to_string(rt.alloc(), rt.reader())?;
-    for setting in cases.split("\nsetting ") {
-        match answers(rt.alloc(), setting) {
-            Ok(text) => rt.print(text.as_str())?,
-            Err(_) => println!(rt; "no memory")?,
-        }
-    }
-    Ok(())
+    let printed = print_all(&rt, rt.alloc(), cases.as_str());
+    drop(cases);
+    printed
 }

@@ -3,7 +3,7 @@ use crate::editing::edited;
 use case_texts::Pen;
 use expression_settings::{meta_named, put_if_refused};
 use model_building::Editor;
-use mof_metamodel::NoMemory;
+use mof_metamodel::{NoMemory, or_drop};
 use ocl_environments::Metas;
 use ocl_eval::Models;
 use std::alloc::Global;
@@ -17,7 +17,7 @@ pub fn models<'m>(
 ) -> Result<Models<'m>, NoMemory> {
     let mut models = Models::new(alloc);
     for part in setting.split("\nmodel ").skip(1) {
-        add_model(alloc, pen, metas, &mut models, part)?;
+        or_drop!(add_model(alloc, pen, metas, &mut models, part); models);
     }
     Ok(models)
 }

@@ -4,7 +4,7 @@ use case_texts::Pen;
 use expression_settings::{
     Refused, bind_query, bind_variable, over_models, param_types, put_if_refused, slots, type_named,
 };
-use mof_metamodel::{NoMemory, Seq, Text};
+use mof_metamodel::{NoMemory, Seq, Text, or_drop};
 use ocl_environments::{Env, Metas};
 use qv_syntax::{Query, Typed};
 use std::alloc::Global;
@@ -53,7 +53,7 @@ pub fn queries(
     for line in setting.lines() {
         if let Some(text) = line.strip_prefix("query ") {
             match query(alloc, pen, metas, setting, text) {
-                Ok(query) => queries.push(query)?,
+                Ok(query) => or_drop!(queries.push(query); queries),
                 Err(refused) => put_if_refused(pen, line, &Err(refused)),
             }
         }
@@ -105,9 +105,9 @@ fn with_body(
     written: Written<'_>,
     body: Typed,
 ) -> Result<Query, Refused> {
-    let name = Text::new(alloc, written.name)?;
-    let params = param_types(alloc, metas, written.params)?;
-    let result = type_named(alloc, metas, written.result)?;
+    let name = or_drop!(Text::new(alloc, written.name); body);
+    let params = or_drop!(param_types(alloc, metas, written.params); name, body);
+    let result = or_drop!(type_named(alloc, metas, written.result); name, params, body);
     Ok(Query {
         name,
         params,

@@ -29,24 +29,39 @@ impl From<LexError> for Fault {
 
 impl From<ParseError> for Fault {
     fn from(error: ParseError) -> Fault {
-        Fault(error.word())
+        let word = error.word();
+        drop(error);
+        Fault(word)
     }
 }
 
 impl From<TypeError> for Fault {
     fn from(error: TypeError) -> Fault {
         match error {
-            TypeError::Fault(fault) => Fault(fault.word()),
+            TypeError::Fault(fault) => {
+                let word = fault.word();
+                drop(fault);
+                Fault(word)
+            }
             TypeError::NoMemory => Fault("no memory"),
         }
     }
 }
 
+/// The expression that bytes are.
+fn read_bytes(alloc: Global, bytes: &[u8]) -> Result<Expr, Fault> {
+    let tokens = lex(alloc, bytes)?;
+    let expr = read(alloc, &tokens);
+    drop(tokens);
+    expr
+}
+
 /// The expression of a text.
 fn parsed(alloc: Global, text: &str) -> Result<Expr, Fault> {
     let bytes = expanded(alloc, text)?;
-    let tokens = lex(alloc, bytes.as_slice())?;
-    read(alloc, &tokens)
+    let expr = read_bytes(alloc, bytes.as_slice());
+    drop(bytes);
+    expr
 }
 
 /// The same with its types.
@@ -63,6 +78,7 @@ fn read(alloc: Global, tokens: &Tokens<'_>) -> Result<Expr, Fault> {
     if end == tokens.len() {
         Ok(expr)
     } else {
+        drop(expr);
         Err(Fault("Parse"))
     }
 }

@@ -3,7 +3,7 @@ use crate::editing::object_named;
 use crate::reading::{Fault, typed};
 use case_texts::Pen;
 use expression_settings::{Refused, bind_variable, put_if_refused};
-use mof_metamodel::{NoMemory, Seq};
+use mof_metamodel::{NoMemory, Seq, or_drop};
 use ocl_environments::{Env, Metas};
 use ocl_eval::{Models, eval};
 use qv_syntax::Program;
@@ -36,7 +36,7 @@ pub fn bound(
     for line in setting.lines() {
         if let Some(text) = line.strip_prefix("variable ") {
             match variable(stage, env, text) {
-                Ok(value) => values.push(Some(value))?,
+                Ok(value) => or_drop!(values.push(Some(value)); values),
                 Err(refused) => put_if_refused(pen, line, &Err(refused)),
             }
         }
@@ -49,7 +49,7 @@ fn variable(stage: &Stage<'_, '_>, env: &mut Env<'_>, text: &str) -> Result<Datu
     let (name, rest) = text.split_once(" : ").ok_or(Refused)?;
     let (of, value) = rest.split_once(" = ").ok_or(Refused)?;
     let datum = value_of(stage, env, of, value)?;
-    bind_variable(stage.alloc, stage.metas, env, name, of)?;
+    or_drop!(bind_variable(stage.alloc, stage.metas, env, name, of); datum);
     Ok(datum)
 }
 
@@ -74,6 +74,7 @@ fn datum(stage: &Stage<'_, '_>, env: &Env<'_>, text: &str) -> Result<Datum, Refu
     };
     let out = eval(stage.alloc, stage.program, &typed, stage.models, &none);
     drop(typed);
+    drop(none);
     single(out?)
 }
 

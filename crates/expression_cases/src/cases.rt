@@ -6,7 +6,7 @@ use crate::type_answers::{
 };
 use case_texts::{Pen, expanded};
 use expression_settings::metamodels;
-use mof_metamodel::{NoMemory, Text};
+use mof_metamodel::{NoMemory, Text, or_drop};
 use ocl_environments::{Env, Metas};
 use std::alloc::Global;
 
@@ -25,10 +25,10 @@ pub fn answers(alloc: Global, setting: &str) -> Result<Text, NoMemory> {
     let mut pen = Pen::new(alloc)?;
     let (name, lines) = setting.split_once('\n').unwrap_or((setting, ""));
     put_heading(&mut pen, name);
-    let metas = metamodels(alloc, &mut pen, setting)?;
+    let metas = or_drop!(metamodels(alloc, &mut pen, setting); pen);
     let put = put_answers(alloc, &mut pen, &metas, lines);
     drop(metas);
-    put?;
+    or_drop!(put; pen);
     pen.written()
 }
 
@@ -57,6 +57,7 @@ fn answer_line(alloc: Global, pen: &mut Pen, metas: &Metas, env: &Env<'_>, line:
             Ok(answer) => put_answer(alloc, pen, answer),
             Err(_) => pen.put(" no memory"),
         }
+        drop(answer);
         pen.put("\n");
     }
 }
@@ -77,7 +78,7 @@ fn answer(
     text: &str,
 ) -> Result<Text, NoMemory> {
     let bytes = expanded(alloc, text)?;
-    let mut pen = Pen::new(alloc)?;
+    let mut pen = or_drop!(Pen::new(alloc); bytes);
     match word {
         "tokens" => put_tokens(alloc, &mut pen, bytes.as_slice()),
         "count" => put_count(alloc, &mut pen, bytes.as_slice()),
@@ -88,6 +89,7 @@ fn answer(
         "storable" => put_storable(alloc, &mut pen, bytes.as_slice()),
         _ => put_of_types(alloc, &mut pen, metas, env, word, text),
     }
+    drop(bytes);
     pen.written()
 }
 

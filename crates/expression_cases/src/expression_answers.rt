@@ -34,13 +34,19 @@ pub fn put_end(alloc: Global, pen: &mut Pen, bytes: &[u8]) {
     }
 }
 
+/// The type of an expression.
 fn put_type_of(alloc: Global, pen: &mut Pen, metas: &Metas, env: &Env<'_>, expr: &Expr) {
     match type_expr(alloc, env, expr) {
         Ok(typed) => {
-            pen.put_text(&type_text(alloc, metas, &typed.ty));
+            let text = type_text(alloc, metas, &typed.ty);
             drop(typed);
+            pen.put_text(&text);
+            drop(text);
         }
-        Err(error) => put_type_fault(pen, &error),
+        Err(error) => {
+            put_type_fault(pen, &error);
+            drop(error);
+        }
     }
 }
 
@@ -53,13 +59,17 @@ pub fn put_type(alloc: Global, pen: &mut Pen, metas: &Metas, env: &Env<'_>, byte
     }
 }
 
+/// An expression with its types.
 fn put_tree_of(alloc: Global, pen: &mut Pen, metas: &Metas, env: &Env<'_>, expr: &Expr) {
     match type_expr(alloc, env, expr) {
         Ok(typed) => {
             put_typed_tree(alloc, pen, metas, &typed);
             drop(typed);
         }
-        Err(error) => put_type_fault(pen, &error),
+        Err(error) => {
+            put_type_fault(pen, &error);
+            drop(error);
+        }
     }
 }
 

@@ -18,7 +18,11 @@ pub struct Reading {
 /// The expression with which a text begins. Where there is none, the fault is written.
 pub fn read(alloc: Global, pen: &mut Pen, bytes: &[u8]) -> Option<Reading> {
     match lex(alloc, bytes) {
-        Ok(tokens) => read_tokens(alloc, pen, &tokens),
+        Ok(tokens) => {
+            let reading = read_tokens(alloc, pen, &tokens);
+            drop(tokens);
+            reading
+        }
         Err(error) => {
             put_lex_fault(alloc, pen, &error);
             None

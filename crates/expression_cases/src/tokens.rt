@@ -10,6 +10,7 @@ pub fn put_tokens(alloc: Global, pen: &mut Pen, bytes: &[u8]) {
         Ok(tokens) => put_each(alloc, pen, tokens),
         Err(error) => put_lex_fault(alloc, pen, error),
     }
+    drop(tokens);
 }
 
 fn put_each(alloc: Global, pen: &mut Pen, tokens: &Tokens<'_>) {
@@ -36,4 +37,5 @@ pub fn put_count(alloc: Global, pen: &mut Pen, bytes: &[u8]) {
         }
         Err(error) => put_lex_fault(alloc, pen, error),
     }
+    drop(tokens);
 }

@@ -2,7 +2,7 @@
 use crate::words::yes_or_no;
 use case_texts::Pen;
 use expression_settings::{Refused, meta_named, put_type_fault, type_named};
-use mof_metamodel::{NoMemory, Seq, Span, Text};
+use mof_metamodel::{NoMemory, Seq, Span, Text, or_drop};
 use ocl_environments::{Env, Metas, type_text, written_type};
 use qv_syntax::{Literal, Name, Path, Ty, TypeTree, Values};
 use std::alloc::Global;
@@ -13,8 +13,8 @@ fn path(alloc: Global, text: &str) -> Result<Path, NoMemory> {
     let span = Span { start: 0, end: 0 };
     let mut names = Seq::new(alloc);
     for name in text.split("::") {
-        let text = Text::new(alloc, name)?;
-        names.push(Name { text, span })?;
+        let text = or_drop!(Text::new(alloc, name); names);
+        or_drop!(names.push(Name { text, span }); names);
     }
     Ok(Path { names, span })
 }
@@ -22,23 +22,36 @@ fn path(alloc: Global, text: &str) -> Result<Path, NoMemory> {
 /// The type that a path names as a written type.
 pub fn put_path(alloc: Global, pen: &mut Pen, metas: &Metas, env: &Env<'_>, text: &str) {
     match path(alloc, text) {
-        Ok(path) => put_written(alloc, pen, metas, env, &TypeTree::Named { path }),
+        Ok(path) => {
+            let tree = TypeTree::Named { path };
+            put_written(alloc, pen, metas, env, &tree);
+            drop(tree);
+        }
         Err(_) => pen.put("no memory"),
     }
 }
 
 fn put_written(alloc: Global, pen: &mut Pen, metas: &Metas, env: &Env<'_>, tree: &TypeTree) {
-    let ty = written_type(alloc, env, tree);
-    match &ty {
-        Ok(ty) => pen.put_text(&type_text(alloc, metas, ty)),
-        Err(error) => put_type_fault(pen, error),
+    match written_type(alloc, env, tree) {
+        Ok(ty) => put_named(alloc, pen, metas, ty),
+        Err(error) => {
+            put_type_fault(pen, &error);
+            drop(error);
+        }
     }
+}
+
+fn put_named(alloc: Global, pen: &mut Pen, metas: &Metas, ty: Ty) {
+    let text = type_text(alloc, metas, &ty);
+    drop(ty);
+    pen.put_text(&text);
+    drop(text);
 }
 
 /// A type as it is printed.
 pub fn put_type_text(alloc: Global, pen: &mut Pen, metas: &Metas, text: &str) {
     match type_named(alloc, metas, text) {
-        Ok(ty) => pen.put_text(&type_text(alloc, metas, &ty)),
+        Ok(ty) => put_named(alloc, pen, metas, ty),
         Err(_) => pen.put("refused"),
     }
 }
@@ -46,16 +59,19 @@ pub fn put_type_text(alloc: Global, pen: &mut Pen, metas: &Metas, text: &str) {
 /// The two types that a text names, with `, ` between them.
 fn two_types(alloc: Global, metas: &Metas, text: &str) -> Result<(Ty, Ty), Refused> {
     let (one, other) = text.split_once(", ").ok_or(Refused)?;
-    Ok((
-        type_named(alloc, metas, one)?,
-        type_named(alloc, metas, other)?,
-    ))
+    let one = type_named(alloc, metas, one)?;
+    let other = or_drop!(type_named(alloc, metas, other); one);
+    Ok((one, other))
 }
 
 /// Whether two types are one.
 pub fn put_same(alloc: Global, pen: &mut Pen, metas: &Metas, text: &str) {
     match two_types(alloc, metas, text) {
-        Ok((a, b)) => pen.put(yes_or_no(a.same(&b))),
+        Ok((a, b)) => {
+            pen.put(yes_or_no(a.same(&b)));
+            drop(a);
+            drop(b);
+        }
         Err(_) => pen.put("refused"),
     }
 }
@@ -63,7 +79,11 @@ pub fn put_same(alloc: Global, pen: &mut Pen, metas: &Metas, text: &str) {
 /// Whether a type conforms to another.
 pub fn put_conforms(alloc: Global, pen: &mut Pen, metas: &Metas, text: &str) {
     match two_types(alloc, metas, text) {
-        Ok((a, b)) => pen.put(yes_or_no(metas.conforms(&a, &b))),
+        Ok((a, b)) => {
+            pen.put(yes_or_no(metas.conforms(&a, &b)));
+            drop(a);
+            drop(b);
+        }
         Err(_) => pen.put("refused"),
     }
 }
@@ -71,14 +91,18 @@ pub fn put_conforms(alloc: Global, pen: &mut Pen, metas: &Metas, text: &str) {
 /// That of two types to which both conform.
 pub fn put_upper(alloc: Global, pen: &mut Pen, metas: &Metas, text: &str) {
     match two_types(alloc, metas, text) {
-        Ok((a, b)) => put_upper_of(alloc, pen, metas, &a, &b),
+        Ok((a, b)) => {
+            put_upper_of(alloc, pen, metas, &a, &b);
+            drop(a);
+            drop(b);
+        }
         Err(_) => pen.put("refused"),
     }
 }
 
 fn put_upper_of(alloc: Global, pen: &mut Pen, metas: &Metas, a: &Ty, b: &Ty) {
     match metas.upper_type(alloc, a, b) {
-        Ok(Some(ty)) => pen.put_text(&type_text(alloc, metas, &ty)),
+        Ok(Some(ty)) => put_named(alloc, pen, metas, ty),
         Ok(None) => pen.put("none"),
         Err(_) => pen.put("no memory"),
     }

@@ -41,8 +41,16 @@ fn printed_error(alloc: Global, error: &FileError) -> Result<String, NoMemory> {
 /// What a model describes.
 fn description(alloc: Global, model: &Model<'_>) -> Result<String, NoMemory> {
     match metamodel_of(alloc, model) {
-        Ok(meta) => Ok(printed(alloc, &meta)?),
-        Err(error) => printed_error(alloc, &error),
+        Ok(meta) => {
+            let text = printed(alloc, &meta);
+            drop(meta);
+            Ok(text?)
+        }
+        Err(error) => {
+            let text = printed_error(alloc, &error);
+            drop(error);
+            text
+        }
     }
 }
 

@@ -45,9 +45,9 @@ pub(crate) fn read_meta(
     let bytes = expanded(alloc, text)?;
     match read_metamodel(alloc, bytes.as_slice()) {
         Ok(meta) => {
-            let line = printed(alloc, &meta)?;
-            *current = meta;
-            Ok(line)
+            let line = printed(alloc, &meta);
+            drop(std::mem::replace(current, meta));
+            Ok(line?)
         }
         Err(error) => meta_fault(alloc, &error),
     }

@@ -1,7 +1,7 @@
 ghost use Rattle.std.specs.Prelude.{◌≡◌, ◌<◌, false, OnOk};
 
 use crate::printing::{Trace, shown_fault};
-use mof_metamodel::NoMemory;
+use mof_metamodel::{NoMemory, or_drop};
 use std::alloc::Global;
 use xmi_text::{Mark, Reader, Step, TextError, TextFault, TextKind};
 
@@ -41,17 +41,31 @@ fn feed(reader: &mut Reader, bytes: &[u8], size: usize, trace: &mut Trace) -> Re
     Ok(())
 }
 
-/// The marks of a text in pieces of a size, and its last answer, which is asked for twice.
-pub fn outcome(alloc: Global, bytes: &[u8], size: usize) -> Result<String, NoMemory> {
-    let mut reader = Reader::new(alloc);
+/// The marks that a reader gives of a text in pieces of a size, and its last answer, which is asked for twice.
+fn outcome_of(
+    alloc: Global,
+    reader: &mut Reader,
+    bytes: &[u8],
+    size: usize,
+) -> Result<String, NoMemory>
+    requires { reader.old.finished ≡ false }
+{
     let mut trace = Trace::new(alloc);
-    feed(&mut reader, bytes, size.max(1), &mut trace)?;
+    or_drop!(feed(reader, bytes, size.max(1), &mut trace); trace);
     reader.finish();
-    drain(&mut reader, &mut trace)?;
-    let stop = drain(&mut reader, &mut trace)?;
+    or_drop!(drain(reader, &mut trace); trace);
+    let stop = or_drop!(drain(reader, &mut trace); trace);
     let mut text = trace.into_text()?;
     text.push_str(shown_stop(alloc, stop)?.as_str())?;
     Ok(text)
+}
+
+/// The marks of a text in pieces of a size, and its last answer.
+pub fn outcome(alloc: Global, bytes: &[u8], size: usize) -> Result<String, NoMemory> {
+    let mut reader = Reader::new(alloc);
+    let text = outcome_of(alloc, &mut reader, bytes, size);
+    drop(reader);
+    text
 }
 
 fn shown_stop(alloc: Global, stop: Stop) -> Result<String, NoMemory> {
@@ -75,18 +89,32 @@ pub fn outcomes(alloc: Global, bytes: &[u8]) -> Result<String, NoMemory> {
     Ok(text)
 }
 
+/// What a reader gives at the end of a text.
+fn end_of(alloc: Global, reader: &mut Reader) -> Result<String, NoMemory> {
+    let mut trace = Trace::new(alloc);
+    let stop = or_drop!(drain(reader, &mut trace); trace);
+    let marks = trace.into_text()?;
+    let last = shown_stop(alloc, stop)?;
+    Ok(format!(in alloc; "end: {marks}{last}")?)
+}
+
+/// What a reader gives with each byte of a text, and at its end.
+fn times_of(alloc: Global, reader: &mut Reader, bytes: &[u8]) -> Result<String, NoMemory>
+    requires { reader.old.finished ≡ false }
+{
+    let mut text = String::new(alloc);
+    feed_bytes(alloc, reader, bytes, &mut text)?;
+    reader.finish();
+    text.push_str(end_of(alloc, reader)?.as_str())?;
+    Ok(text)
+}
+
 /// What comes with each byte of a text, and at its end.
 pub fn times(alloc: Global, bytes: &[u8]) -> Result<String, NoMemory> {
     let mut reader = Reader::new(alloc);
-    let mut text = String::new(alloc);
-    feed_bytes(alloc, &mut reader, bytes, &mut text)?;
-    reader.finish();
-    let mut trace = Trace::new(alloc);
-    let stop = drain(&mut reader, &mut trace)?;
-    let marks = trace.into_text()?;
-    let last = shown_stop(alloc, stop)?;
-    text.push_str(format!(in alloc; "end: {marks}{last}")?.as_str())?;
-    Ok(text)
+    let text = times_of(alloc, &mut reader, bytes);
+    drop(reader);
+    text
 }
 
 /// Feeds the bytes of a text, and adds what comes with each, up to a fault.
@@ -103,7 +131,7 @@ fn feed_bytes(
         count = count.saturating_add(1);
         reader.feed(piece)?;
         let mut trace = Trace::new(alloc);
-        let stop = drain(reader, &mut trace)?;
+        let stop = or_drop!(drain(reader, &mut trace); trace);
         if push_times(alloc, text, count, trace, stop)? {
             return Ok(());
         }
@@ -121,24 +149,39 @@ fn push_times(
 ) -> Result<bool, NoMemory> {
     let some = !trace.is_empty();
     let marks = trace.into_text()?;
-    if let Stop::Fault(fault) = stop {
-        let fault = shown_fault(alloc, fault)?;
-        text.push_str(format!(in alloc; "{count}: {marks}{fault} ")?.as_str())?;
-        return Ok(true);
+    match stop {
+        Stop::Fault(fault) => {
+            let fault = shown_fault(alloc, fault)?;
+            text.push_str(format!(in alloc; "{count}: {marks}{fault} ")?.as_str())?;
+            Ok(true)
+        }
+        _ => {
+            if some {
+                text.push_str(format!(in alloc; "{count}: {marks}")?.as_str())?;
+            }
+            Ok(false)
+        }
     }
-    if some {
-        text.push_str(format!(in alloc; "{count}: {marks}")?.as_str())?;
-    }
-    Ok(false)
+}
+
+/// Where a reader stops that is fed a whole text at once.
+fn stop_of(alloc: Global, reader: &mut Reader, bytes: &[u8]) -> Result<Stop, NoMemory>
+    requires { reader.old.finished ≡ false }
+{
+    let mut trace = Trace::new(alloc);
+    or_drop!(reader.feed(bytes); trace);
+    reader.finish();
+    let stop = drain(reader, &mut trace);
+    drop(trace);
+    stop
 }
 
 /// Whether bytes end before a text is whole, and have no other fault.
 fn is_open(alloc: Global, bytes: &[u8]) -> Result<bool, NoMemory> {
     let mut reader = Reader::new(alloc);
-    let mut trace = Trace::new(alloc);
-    reader.feed(bytes)?;
-    reader.finish();
-    match drain(&mut reader, &mut trace)? {
+    let stop = stop_of(alloc, &mut reader, bytes);
+    drop(reader);
+    match stop? {
         Stop::Fault(fault) => {
             Ok(matches!(fault.kind, TextKind::OpenTag) && fault.at == bytes.len() as u64)
         }

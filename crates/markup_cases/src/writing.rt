@@ -1,7 +1,7 @@
 use crate::printing::{shown, shown_up_to};
 use crate::reading::outcomes;
 use case_texts::expanded;
-use mof_metamodel::{NoMemory, is_storable};
+use mof_metamodel::{NoMemory, is_storable, or_drop};
 use std::alloc::Global;
 use std::str;
 use xmi_text::{Writer, is_name};
@@ -18,21 +18,38 @@ pub fn written(alloc: Global, script: &str) -> Result<String, NoMemory> {
     }
 }
 
-fn carried_out(alloc: Global, script: &str) -> Result<String, NoMemory> {
-    let mut writer = Writer::new(alloc);
+/// Carries the calls of a script out, up to the first that may not come.
+fn carry_all_out<'a>(writer: &mut Writer, script: &'a str) -> Result<Option<&'a str>, NoMemory> {
     for call in script.split("; ") {
-        if !carry_out(&mut writer, call)? {
-            let call = shown(alloc, call)?;
-            return Ok(format!(in alloc; "may not come: {call}")?);
+        if !carry_out(writer, call)? {
+            return Ok(Some(call));
         }
     }
+    Ok(None)
+}
+
+/// What a writer wrote, if it may end there, and what is read of it.
+fn read_again(alloc: Global, writer: Writer) -> Result<String, NoMemory> {
     if !writer.is_whole() {
+        drop(writer);
         return shown(alloc, "not whole");
     }
     let bytes = writer.into_bytes();
     let text = shown_bytes(alloc, bytes.as_slice())?;
     let marks = outcomes(alloc, bytes.as_slice())?;
     Ok(format!(in alloc; "{text} | {marks}")?)
+}
+
+fn carried_out(alloc: Global, script: &str) -> Result<String, NoMemory> {
+    let mut writer = Writer::new(alloc);
+    match or_drop!(carry_all_out(&mut writer, script); writer) {
+        Some(call) => {
+            drop(writer);
+            let call = shown(alloc, call)?;
+            Ok(format!(in alloc; "may not come: {call}")?)
+        }
+        None => read_again(alloc, writer),
+    }
 }
 
 fn shown_bytes(alloc: Global, bytes: &[u8]) -> Result<String, NoMemory> {

@@ -10,7 +10,9 @@ ghost use Rattle.model_files.specs.Described.{text_of, is_marked, name_of, bound
 use crate::bounds::{Bounds, bounds_from};
 use crate::names::{empty_text, is_primitive};
 use crate::reflection::{is_of_class, partner_named, partners_named, values_named};
-use mof_metamodel::{ClassDesc, EnumDesc, MetaDesc, NoMemory, OppDesc, PropDesc, Seq, Text};
+use mof_metamodel::{
+    ClassDesc, EnumDesc, MetaDesc, NoMemory, OppDesc, PropDesc, Seq, Text, or_drop,
+};
 use object_tables::{Model, ObjId, Value};
 use std::alloc::Global;
 
@@ -144,14 +146,17 @@ fn prop_of(alloc: Global, model: &Model<'_>, root: ObjId, p: ObjId) -> Result<Pr
     ensures { IfOk result (λ d. d ≡ prop_of model.now root.0 p.0) }
 {
     let bounds = bounds_of(model, p);
+    let name = copied_name(alloc, model, p)?;
+    let type_name = or_drop!(Text::new(alloc, type_name(model, root, p)); name);
+    let opposite = or_drop!(written_opposite(alloc, model, root, p); name, type_name);
     Ok(PropDesc {
-        name: copied_name(alloc, model, p)?,
-        type_name: Text::new(alloc, type_name(model, root, p))?,
+        name,
+        type_name,
         lower: bounds.lower,
         upper: bounds.upper,
         composite: is_marked(values_named(model, p, "isComposite")),
         ordered: is_marked(values_named(model, p, "isOrdered")),
-        opposite: written_opposite(alloc, model, root, p)?,
+        opposite,
     })
 }
 

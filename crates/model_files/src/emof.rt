@@ -4,7 +4,7 @@ ghost use Rattle.model_files.specs.Emof.{optional, required, sequence, parts, op
 
 use crate::names::ascii;
 use mof_metamodel::{
-    ClassDesc, MetaDesc, MetaError, MetaModel, NoMemory, OppDesc, PropDesc, Seq, Text,
+    ClassDesc, MetaDesc, MetaError, MetaModel, NoMemory, OppDesc, PropDesc, Seq, Text, or_drop,
 };
 use std::alloc::Global;
 
@@ -79,11 +79,11 @@ fn opposed(alloc: Global, prop: PropDesc, class: &str, name: &str) -> Result<Pro
     requires name { IsTrue (is_ascii name.now) }
     ensures { IfOk result (λ p. p ≡ opposed prop class.now name.now) }
 {
+    let class = or_drop!(ascii(alloc, class); prop);
+    let name = or_drop!(ascii(alloc, name); prop, class);
+    let opposite = Some(OppDesc { class, prop: name });
     let mut prop = prop;
-    prop.opposite = Some(OppDesc {
-        class: ascii(alloc, class)?,
-        prop: ascii(alloc, name)?,
-    });
+    drop(std::mem::replace(&mut prop.opposite, opposite));
     Ok(prop)
 }
 
@@ -100,9 +100,11 @@ fn class_under(
     ensures { IfOk result (λ c. c ≡ class_under name.now is_abstract above.now props) }
 {
     let mut supers = Seq::new(alloc);
-    supers.push(ascii(alloc, above)?)?;
+    let above = or_drop!(ascii(alloc, above); supers, props);
+    or_drop!(supers.push(above); supers, props);
+    let name = or_drop!(ascii(alloc, name); supers, props);
     Ok(ClassDesc {
-        name: ascii(alloc, name)?,
+        name,
         is_abstract,
         supers,
         props,
@@ -113,9 +115,11 @@ fn named_class(alloc: Global) -> Result<ClassDesc, NoMemory>
     ensures { IfOk result (λ c. c ≡ named_class) }
 {
     let mut props = Seq::new(alloc);
-    props.push(required(alloc, "name", "String")?)?;
+    let prop = or_drop!(required(alloc, "name", "String"); props);
+    or_drop!(props.push(prop); props);
+    let name = or_drop!(ascii(alloc, "Named"); props);
     Ok(ClassDesc {
-        name: ascii(alloc, "Named")?,
+        name,
         is_abstract: true,
         supers: Seq::new(alloc),
         props,
@@ -127,7 +131,8 @@ fn type_class(alloc: Global) -> Result<ClassDesc, NoMemory>
 {
     let package = optional(alloc, "package", "Package")?;
     let mut props = Seq::new(alloc);
-    props.push(opposed(alloc, package, "Package", "ownedType")?)?;
+    let package = or_drop!(opposed(alloc, package, "Package", "ownedType"); props);
+    or_drop!(props.push(package); props);
     let class = class_under(alloc, "Type", true, "Named", props)?;
     Ok(class)
 }
@@ -137,8 +142,10 @@ fn package_class(alloc: Global) -> Result<ClassDesc, NoMemory>
 {
     let owned = parts(alloc, "ownedType", "Type")?;
     let mut props = Seq::new(alloc);
-    props.push(optional(alloc, "uri", "String")?)?;
-    props.push(opposed(alloc, owned, "Type", "package")?)?;
+    let uri = or_drop!(optional(alloc, "uri", "String"); owned, props);
+    or_drop!(props.push(uri); owned, props);
+    let owned = or_drop!(opposed(alloc, owned, "Type", "package"); props);
+    or_drop!(props.push(owned); props);
     let class = class_under(alloc, "Package", false, "Named", props)?;
     Ok(class)
 }
@@ -148,9 +155,12 @@ fn class_class(alloc: Global) -> Result<ClassDesc, NoMemory>
 {
     let owned = parts(alloc, "ownedAttribute", "Property")?;
     let mut props = Seq::new(alloc);
-    props.push(optional(alloc, "isAbstract", "Boolean")?)?;
-    props.push(sequence(alloc, "superClass", "Class")?)?;
-    props.push(opposed(alloc, owned, "Property", "class")?)?;
+    let is_abstract = or_drop!(optional(alloc, "isAbstract", "Boolean"); owned, props);
+    or_drop!(props.push(is_abstract); owned, props);
+    let supers = or_drop!(sequence(alloc, "superClass", "Class"); owned, props);
+    or_drop!(props.push(supers); owned, props);
+    let owned = or_drop!(opposed(alloc, owned, "Property", "class"); props);
+    or_drop!(props.push(owned); props);
     let class = class_under(alloc, "Class", false, "Type", props)?;
     Ok(class)
 }
@@ -166,7 +176,8 @@ fn enumeration_class(alloc: Global) -> Result<ClassDesc, NoMemory>
     ensures { IfOk result (λ c. c ≡ enumeration_class) }
 {
     let mut props = Seq::new(alloc);
-    props.push(parts(alloc, "ownedLiteral", "EnumerationLiteral")?)?;
+    let owned = or_drop!(parts(alloc, "ownedLiteral", "EnumerationLiteral"); props);
+    or_drop!(props.push(owned); props);
     let class = class_under(alloc, "Enumeration", false, "Type", props)?;
     Ok(class)
 }
@@ -184,8 +195,9 @@ fn ends(alloc: Global) -> Result<Seq<PropDesc>, NoMemory>
 {
     let class = optional(alloc, "class", "Class")?;
     let mut props = Seq::new(alloc);
-    props.push(opposed(alloc, class, "Class", "ownedAttribute")?)?;
-    push_optional(alloc, &mut props, "type", "Type")?;
+    let class = or_drop!(opposed(alloc, class, "Class", "ownedAttribute"); props);
+    or_drop!(props.push(class); props);
+    or_drop!(push_optional(alloc, &mut props, "type", "Type"); props);
     Ok(props)
 }
 
@@ -224,9 +236,9 @@ fn property_class(alloc: Global) -> Result<ClassDesc, NoMemory>
     ensures { IfOk result (λ c. c ≡ property_class) }
 {
     let mut props = ends(alloc)?;
-    push_bounds(alloc, &mut props)?;
-    push_marks(alloc, &mut props)?;
-    push_others(alloc, &mut props)?;
+    or_drop!(push_bounds(alloc, &mut props); props);
+    or_drop!(push_marks(alloc, &mut props); props);
+    or_drop!(push_others(alloc, &mut props); props);
     let class = class_under(alloc, "Property", false, "Named", props)?;
     Ok(class)
 }

@@ -50,7 +50,9 @@ fn read_json<'m>(alloc: Global, meta: &'m MetaModel, bytes: &[u8]) -> Result<Mod
     // What every metamodel keeps is known here.
     let _ = meta.class_count();
     let value = read_objects(alloc, meta, bytes)?;
-    let filed = filed_of(alloc, meta, &value)?;
+    let filed = filed_of(alloc, meta, &value);
+    drop(value);
+    let filed = filed?;
     assembled(alloc, meta, filed)
 }
 
@@ -114,7 +116,15 @@ pub fn read_metamodel(alloc: Global, bytes: &[u8]) -> Result<MetaModel, FileErro
     let emof = emof_metamodel(alloc)?;
     let form = form_of(bytes);
     match read_in(alloc, &emof, Externs::Primitives, bytes, form) {
-        Ok(model) => metamodel_of(alloc, &model),
-        Err(error) => Err(error),
+        Ok(model) => {
+            let meta = metamodel_of(alloc, &model);
+            drop(model);
+            drop(emof);
+            meta
+        }
+        Err(error) => {
+            drop(emof);
+            Err(error)
+        }
     }
 }

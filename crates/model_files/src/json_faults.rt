@@ -13,6 +13,7 @@ ghost use Rattle.model_files.specs.JsonSteps.{printed, met_ids, is_text_with, wr
 use crate::names::empty_text;
 use mof_metamodel::{
     ClassId, EnumId, MetaModel, NameTable, NoMemory, PropType, Text, is_identifier, is_storable,
+    or_drop,
 };
 use serde_json::{Map, Value};
 use std::alloc::Global;
@@ -327,10 +328,12 @@ pub(crate) fn first_wrong(
     let mut ids = NameTable::new(alloc);
     for number in 0..values.len() {
         let value = &values[number];
-        if let Some(fault) = wrong_object(alloc, meta, &ids, number as u64, value)? {
+        if let Some(fault) = or_drop!(wrong_object(alloc, meta, &ids, number as u64, value); ids) {
+            drop(ids);
             return Ok(Some(fault));
         }
-        add_id(alloc, &mut ids, value)?;
+        or_drop!(add_id(alloc, &mut ids, value); ids);
     }
+    drop(ids);
     Ok(None)
 }

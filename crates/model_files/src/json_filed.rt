@@ -17,6 +17,7 @@ use crate::json_reading::{in_list, objects_of};
 use crate::names::empty_text;
 use mof_metamodel::{
     ClassId, EnumId, MetaModel, NameTable, NoMemory, PropId, PropType, Seq, Text, is_storable,
+    or_drop,
 };
 use object_tables::Value as Datum;
 use serde_json::{Map, Value};
@@ -394,13 +395,16 @@ pub(crate) fn filed_of(alloc: Global, meta: &MetaModel, value: &Value) -> Result
     let _ = meta.class_count();
     let values = objects_of(value);
     let ids = table_of(alloc, values)?;
+    let texts = or_drop!(ids_of(alloc, values); ids);
+    let classes = or_drop!(classes_of(alloc, meta, values); ids, texts);
     let mut filed = Filed {
-        ids: ids_of(alloc, values)?,
-        classes: classes_of(alloc, meta, values)?,
+        ids: texts,
+        classes,
         values: Seq::new(alloc),
         references: Seq::new(alloc),
         mentions: Seq::new(alloc),
     };
-    add_objects(alloc, meta, &ids, values, &mut filed)?;
+    or_drop!(add_objects(alloc, meta, &ids, values, &mut filed); ids, filed);
+    drop(ids);
     Ok(filed)
 }

@@ -9,7 +9,7 @@ ghost use Rattle.model_files.specs.JsonFaults.{HasShape, HasObjects, IsUnshaped,
 use crate::fault::{FileError, JsonFault};
 use crate::json_faults::first_wrong;
 use crate::shape::first_amiss;
-use mof_metamodel::{MAX_OBJECTS, MetaModel, NoMemory};
+use mof_metamodel::{MAX_OBJECTS, MetaModel, NoMemory, or_drop};
 use object_tables::LimitKind;
 use serde_json::Value;
 use std::alloc::Global;
@@ -61,8 +61,11 @@ fn shaped_value(alloc: Global, bytes: &[u8]) -> Result<Value, FileError>
     ensures fault { IfErr result (IsUnshaped bytes.now) }
 {
     let value = value_in(alloc, bytes)?;
-    match first_amiss(alloc, &value)? {
-        Some(path) => Err(FileError::Json(JsonFault::Shape(path))),
+    match or_drop!(first_amiss(alloc, &value); value) {
+        Some(path) => {
+            drop(value);
+            Err(FileError::Json(JsonFault::Shape(path)))
+        }
         None => Ok(value),
     }
 }
@@ -112,8 +115,11 @@ pub(crate) fn read_objects(
     ensures fault { IfErr result (IsJsonError meta.now bytes.now) }
 {
     let value = shaped_value(alloc, bytes)?;
-    match first_fault(alloc, meta, objects_of(&value))? {
-        Some(fault) => Err(FileError::Json(JsonFault::Content(fault))),
+    match or_drop!(first_fault(alloc, meta, objects_of(&value)); value) {
+        Some(fault) => {
+            drop(value);
+            Err(FileError::Json(JsonFault::Content(fault)))
+        }
         None => Ok(value),
     }
 }

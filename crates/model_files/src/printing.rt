@@ -322,5 +322,7 @@ pub fn metamodel_fault_text(
     ensures { IfOk result (λ text. text ≡ texts.error_text emof path.now error.now) }
 {
     let emof = emof_metamodel(alloc)?;
-    fault_text(alloc, &emof, path, error)
+    let text = fault_text(alloc, &emof, path, error);
+    drop(emof);
+    text
 }

@@ -1,5 +1,5 @@
 ghost use Rattle.std.specs.Prelude.{◌≡◌, ◌≢◌, ℕ, List, IfOk};
-ghost use Rattle.qv_syntax.specs.declared.operation.Operation.TheVariants.{Concatenate};
+ghost use Rattle.qv_syntax.specs.declared.operation.Operation.TheVariants.{Concatenate, AsSingletonSet};
 ghost use Rattle.std.specs.Option.{option_map};
 ghost use Rattle.qvtr_semantics.specs.Outs.{integer_of, string_of, boolean_of, given};
 ghost use Rattle.qvtr_semantics.specs.Integers as integers;
@@ -187,25 +187,41 @@ fn singleton(alloc: Global, x: Out) -> Result<Out, NoMemory>
     }
 }
 
-/// An operation other than `concat` on a single value (OCL 2.4, sections 11.3.1 and 11.5).
+/// An operation other than `concat` and `->` on a single value (OCL 2.4, sections 11.3.1 and 11.5).
+fn of_value(alloc: Global, named: Operation, x: &Out, args: &[Out]) -> Result<Out, NoMemory>
+    requires counted { named ≢ Concatenate }
+    requires single { named ≢ AsSingletonSet }
+    ensures { IfOk result (λ out. out ≡ operation named x.now args.now) }
+{
+    match named {
+        Operation::Absolute => Ok(magnitude(x)),
+        Operation::Divide => Ok(divided(x, args)),
+        Operation::Modulo => Ok(modulo(x, args)),
+        Operation::Maximum => Ok(greater(x, args)),
+        Operation::Minimum => Ok(lesser(x, args)),
+        Operation::ToString => to_string(alloc, x),
+        Operation::Length => Ok(length(x)),
+        Operation::Concatenate => unreachable!(),
+        Operation::ToInteger => Ok(integer_in(x)),
+        Operation::Substring => substring(alloc, x, args),
+        Operation::IsUndefined => Ok(is_undefined(x)),
+        Operation::IsInvalid => Ok(is_invalid(x)),
+        Operation::AsSingletonSet => unreachable!(),
+    }
+}
+
+/// An operation other than `concat` on a single value.
 fn uncounted(alloc: Global, named: Operation, x: Out, args: &[Out]) -> Result<Out, NoMemory>
     requires { named ≢ Concatenate }
     ensures { IfOk result (λ out. out ≡ operation named x args.now) }
 {
     match named {
-        Operation::Absolute => Ok(magnitude(&x)),
-        Operation::Divide => Ok(divided(&x, args)),
-        Operation::Modulo => Ok(modulo(&x, args)),
-        Operation::Maximum => Ok(greater(&x, args)),
-        Operation::Minimum => Ok(lesser(&x, args)),
-        Operation::ToString => to_string(alloc, &x),
-        Operation::Length => Ok(length(&x)),
-        Operation::Concatenate => unreachable!(),
-        Operation::ToInteger => Ok(integer_in(&x)),
-        Operation::Substring => substring(alloc, &x, args),
-        Operation::IsUndefined => Ok(is_undefined(&x)),
-        Operation::IsInvalid => Ok(is_invalid(&x)),
         Operation::AsSingletonSet => singleton(alloc, x),
+        other => {
+            let out = of_value(alloc, other, &x, args);
+            drop(x);
+            out
+        }
     }
 }
 

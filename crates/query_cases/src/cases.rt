@@ -41,7 +41,11 @@ fn put_answer(alloc: Global, pen: &mut Pen, line: &str) -> Result<(), NoMemory> 
 
 fn put_parsed(alloc: Global, pen: &mut Pen, tokens: &Tokens<'_>) -> Result<(), NoMemory> {
     match parse_script(alloc, tokens) {
-        Ok(script) => put_typed(alloc, pen, &script),
+        Ok(script) => {
+            let put = put_typed(alloc, pen, &script);
+            drop(script);
+            put
+        }
         Err(_) => {
             pen.put(" no script");
             Ok(())
@@ -70,11 +74,16 @@ fn put_typed(alloc: Global, pen: &mut Pen, script: &Script) -> Result<(), NoMemo
 fn put_types(alloc: Global, pen: &mut Pen, queries: &[&QueryTree]) {
     let mut env = Env::new(alloc);
     let typed = type_queries(alloc, &mut env, queries);
-    match &typed {
-        Ok(typed) => put_queries(alloc, pen, typed.as_slice()),
+    drop(env);
+    match typed {
+        Ok(typed) => {
+            put_queries(alloc, pen, typed.as_slice());
+            drop(typed);
+        }
         Err(error) => {
             pen.put(" ");
-            put_type_fault(pen, error);
+            put_type_fault(pen, &error);
+            drop(error);
         }
     }
 }

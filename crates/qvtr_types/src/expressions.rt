@@ -62,7 +62,8 @@ pub fn type_equation(
     ensures fault { IfFault result (StandsInCondition env.now conjunct.now) }
 {
     one_type_is_had(env);
-    let _condition = type_condition(alloc, env, conjunct)?;
+    let condition = type_condition(alloc, env, conjunct)?;
+    drop(condition);
     let part = type_whole(alloc, env, e)?;
     Ok(part.into_tree())
 }

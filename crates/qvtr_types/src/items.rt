@@ -49,7 +49,8 @@ pub(crate) fn item_value(
 {
     let env = scope.env();
     if is_null(e) {
-        let _typed = type_whole(alloc, env, e)?;
+        let typed = type_whole(alloc, env, e)?;
+        drop(typed);
         return Ok(ItemValue::Null);
     }
     let wanted = WantedValue {

@@ -20,7 +20,7 @@ use crate::relations::{ScriptScope, TypedRelation, resolve_relation};
 use crate::roots::all_roots;
 use crate::script_queries::resolve_queries;
 use crate::well_formed_laws::resolutions_are_well_formed;
-use mof_metamodel::{NoMemory, Seq};
+use mof_metamodel::{NoMemory, Seq, or_drop};
 use ocl_environments::{Env, Metas, TypeError};
 use ocl_types::query_typing_is_told;
 use qv_syntax::{Key, Program, Query, Rel, RelationTree, Script, Var};
@@ -154,15 +154,16 @@ fn with_parts(
     ensures is { IfOk result (λ program. program ≡ program_of script.now (chars target.now) parts.keys parts.rels parts.queries) }
     ensures few { IfOk result (λ program. length program.rels ≤ most) }
 {
+    or_drop!(numbered(parts.rels.len()); parts);
+    let name = or_drop!(script.name.text.duplicate(alloc); parts);
+    let models = or_drop!(slots_of(alloc, script); parts, name);
+    let place = model_place(script, target).unwrap_or(0);
+    let target = or_drop!(numbered(place); parts, name, models);
     let ScriptParts {
         keys,
         rels,
         queries,
     } = parts;
-    let _count = numbered(rels.len())?;
-    let name = script.name.text.duplicate(alloc)?;
-    let models = slots_of(alloc, script)?;
-    let target = numbered(model_place(script, target).unwrap_or(0))?;
     Ok(Program {
         name,
         models,
@@ -193,7 +194,9 @@ pub fn resolve(
     ensures few { IfOk result (λ program. length program.rels ≤ most) }
 {
     let mut env = script_reach(alloc, script, metas)?;
-    let parts = resolve_parts(alloc, &mut env, script, target)?;
+    let parts = resolve_parts(alloc, &mut env, script, target);
+    drop(env);
+    let parts = parts?;
     let program = with_parts(alloc, script, target, parts)?;
     Ok(program)
 }

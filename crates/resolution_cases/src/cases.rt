@@ -4,7 +4,7 @@ use crate::reading::script_of;
 use crate::resolving::put_resolved;
 use crate::texts::script_text;
 use case_texts::Pen;
-use mof_metamodel::{NoMemory, Text};
+use mof_metamodel::{NoMemory, Text, or_drop};
 use std::alloc::Global;
 
 /// The answers to the cases of a setting, whose name is its first line.
@@ -12,18 +12,27 @@ pub fn answers(alloc: Global, setting: &str) -> Result<Text, NoMemory> {
     let mut pen = Pen::new(alloc)?;
     let (name, lines) = setting.split_once('\n').unwrap_or((setting, ""));
     put_heading(&mut pen, name);
+    or_drop!(answer_lines(alloc, &mut pen, setting, lines); pen);
+    pen.written()
+}
+
+/// Prints the cases among lines, each with its answer.
+fn answer_lines(alloc: Global, pen: &mut Pen, setting: &str, lines: &str) -> Result<(), NoMemory> {
     let mut item = Text::new(alloc, "")?;
     for line in lines.lines() {
         if line.starts_with(' ') {
-            item.push_str("\n")?;
+            or_drop!(item.push_str("\n"); item);
         } else {
-            answer_item(alloc, &mut pen, setting, item.as_str())?;
+            let answered = answer_item(alloc, pen, setting, item.as_str());
+            drop(item);
+            answered?;
             item = Text::new(alloc, "")?;
         }
-        item.push_str(line)?;
+        or_drop!(item.push_str(line); item);
     }
-    answer_item(alloc, &mut pen, setting, item.as_str())?;
-    pen.written()
+    let answered = answer_item(alloc, pen, setting, item.as_str());
+    drop(item);
+    answered
 }
 
 /// Names the setting, but not where a comment stands above the first one.
@@ -69,8 +78,14 @@ fn put_of_script(
     case: &Case<'_>,
 ) -> Result<(), NoMemory> {
     let bytes = script_text(alloc, setting, case.text)?;
-    if let Some(script) = script_of(alloc, pen, bytes.as_slice()) {
-        put_resolved(alloc, pen, setting, case, &script)?;
+    let script = script_of(alloc, pen, bytes.as_slice());
+    drop(bytes);
+    match script {
+        Some(script) => {
+            let put = put_resolved(alloc, pen, setting, case, &script);
+            drop(script);
+            put
+        }
+        None => Ok(()),
     }
-    Ok(())
 }

@@ -35,15 +35,22 @@ mod templates;
 mod texts;
 
 use cases::answers;
+use mof_metamodel::or_drop;
 use std::io;
 
 fn main(rt: HostRuntime) -> io::Result<()> {
     let cases = io::read_to_string(rt.alloc(), rt.reader())?;
     for setting in cases.split("\nsetting ") {
-        match answers(rt.alloc(), setting) {
-            Ok(text) => rt.print(text.as_str())?,
-            Err(_) => println!(rt; "no memory")?,
-        }
+        let printed = match answers(rt.alloc(), setting) {
+            Ok(text) => {
+                let printed = rt.print(text.as_str());
+                drop(text);
+                printed
+            }
+            Err(_) => println!(rt; "no memory"),
+        };
+        or_drop!(printed; cases);
     }
+    drop(cases);
     Ok(())
 }

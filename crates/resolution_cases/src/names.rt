@@ -2,7 +2,7 @@
 use crate::asked::Case;
 use crate::reading::script_of;
 use case_texts::{Pen, expanded};
-use mof_metamodel::{NoMemory, Seq, Text};
+use mof_metamodel::{NoMemory, Seq, Text, or_drop};
 use qv_syntax::Script;
 use script_scopes::{NameFault, names_match};
 use std::alloc::Global;
@@ -20,10 +20,14 @@ fn names_of(alloc: Global, text: &str) -> Result<Seq<Text>, NoMemory> {
 pub fn put_names(alloc: Global, pen: &mut Pen, case: &Case<'_>) -> Result<(), NoMemory> {
     let (given, text) = case.text.split_once(": ").unwrap_or(("", case.text));
     let names = names_of(alloc, given)?;
-    let bytes = expanded(alloc, text)?;
-    if let Some(script) = script_of(alloc, pen, bytes.as_slice()) {
+    let bytes = or_drop!(expanded(alloc, text); names);
+    let script = script_of(alloc, pen, bytes.as_slice());
+    drop(bytes);
+    if let Some(script) = script {
         put_match(alloc, pen, &script, case.target, names.as_slice());
+        drop(script);
     }
+    drop(names);
     Ok(())
 }
 

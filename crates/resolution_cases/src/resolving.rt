@@ -38,14 +38,21 @@ fn put_over(
     script: &Script,
 ) -> Result<(), NoMemory> {
     let names = metamodel_names(alloc, script)?;
-    if metas.len() as usize != names.len() {
+    let count = names.len();
+    drop(names);
+    if metas.len() as usize != count {
         pen.put(" no metamodel");
         return Ok(());
     }
-    let resolved = resolve(alloc, script, metas, case.target);
-    match &resolved {
-        Ok(program) => put_asked(alloc, pen, metas, case.asked, program),
-        Err(error) => put_fault(alloc, pen, error),
+    match resolve(alloc, script, metas, case.target) {
+        Ok(program) => {
+            put_asked(alloc, pen, metas, case.asked, &program);
+            drop(program);
+        }
+        Err(error) => {
+            put_fault(alloc, pen, &error);
+            drop(error);
+        }
     }
     Ok(())
 }

@@ -10,7 +10,7 @@ use crate::judging::class_by;
 use crate::numbering::primitive_class;
 use crate::objects::{Objects, read_objects};
 use crate::roles::Profile;
-use mof_metamodel::{ClassId, NoMemory, Seq, Text};
+use mof_metamodel::{ClassId, NoMemory, Seq, Text, or_drop};
 use std::alloc::Global;
 
 /// The classes of objects, and what they write.
@@ -89,7 +89,7 @@ fn lists_of(profile: &Profile<'_>, objects: &Objects) -> Result<Lists, NoMemory>
         numbers: &objects.numbers,
     };
     let mut lists = Lists::new(profile.alloc);
-    lists.fill(&filer, objects.listing.elements())?;
+    or_drop!(lists.fill(&filer, objects.listing.elements()); lists);
     Ok(lists)
 }
 
@@ -97,8 +97,10 @@ fn lists_of(profile: &Profile<'_>, objects: &Objects) -> Result<Lists, NoMemory>
 fn filed_with(objects: Objects, lists: Lists) -> Filed
     ensures { result ≡ filing.filed_with objects.numbers.ids lists }
 {
+    let Objects { listing, numbers } = objects;
+    drop(listing);
     Filed {
-        ids: objects.numbers.into_ids(),
+        ids: numbers.into_ids(),
         classes: lists.classes,
         values: lists.writings.values,
         references: lists.writings.references,
@@ -111,7 +113,7 @@ fn filed_of(profile: &Profile<'_>, objects: Objects) -> Result<Filed, NoMemory>
     requires { filing.AreFileable profile.now.meta.now objects.numbers objects.listing.elements }
     ensures { IfOk result (λ filed. filed ≡ filing.filed_of profile.now.meta.now objects.numbers objects.listing.elements) }
 {
-    let lists = lists_of(profile, &objects)?;
+    let lists = or_drop!(lists_of(profile, &objects); objects);
     Ok(filed_with(objects, lists))
 }
 

@@ -16,7 +16,7 @@ use crate::lexical::value_of;
 use crate::names::{Own, is_kept_name, is_own, is_passed_name};
 use crate::numbering::{given_id, printed_id};
 use crate::role::{ObjectRole, Role};
-use mof_metamodel::{ClassId, MetaModel, NoMemory, PropId, PropType, Text, is_identifier};
+use mof_metamodel::{ClassId, MetaModel, NoMemory, PropId, PropType, Text, is_identifier, or_drop};
 use std::alloc::Global;
 use xmi_text::Attr;
 
@@ -55,10 +55,20 @@ fn is_first(a: &Found, b: &Found) -> bool
 pub(crate) fn first_of(a: Option<Found>, b: Option<Found>) -> Option<Found>
     ensures { result ≡ judging.first_of a b }
 {
-    match (a, b) {
-        (Some(a), Some(b)) => { if is_first(&a, &b) { Some(a) } else { Some(b) } }
-        (Some(a), None) => Some(a),
-        (None, b) => b,
+    match a {
+        Some(a) => match b {
+            Some(b) => {
+                if is_first(&a, &b) {
+                    drop(b);
+                    Some(a)
+                } else {
+                    drop(a);
+                    Some(b)
+                }
+            }
+            None => Some(a),
+        },
+        None => b,
     }
 }
 
@@ -384,7 +394,8 @@ impl<'m> Judge<'m> {
         match object.class {
             Some(class) => {
                 let of_text = self.text_fault(element, object.number)?;
-                let of_part = self.part_fault(element, ClassId(class), object.within)?;
+                let of_part =
+                    or_drop!(self.part_fault(element, ClassId(class), object.within); of_text);
                 Ok(first_of(of_text, of_part))
             }
             None => self.class_fault(element, &object.named),
@@ -403,7 +414,7 @@ impl<'m> Judge<'m> {
         ensures { IfOk result (λ f. f ≡ judging.object_fault self.now.meta.now self.now.ids.now element.now object.now) }
     {
         let of_id = self.id_fault(element, object.number)?;
-        let of_class = self.fault_by_class(element, object)?;
+        let of_class = or_drop!(self.fault_by_class(element, object); of_id);
         Ok(first_of(of_id, of_class))
     }
 
@@ -454,7 +465,7 @@ impl<'m> Judge<'m> {
         ensures { IfOk result (λ f. f ≡ judging.element_fault self.now.meta.now self.now.ids.now element.now) }
     {
         let of_attrs = self.attrs_fault(element, element.attrs.as_slice())?;
-        let of_role = self.role_fault(element, &element.role)?;
+        let of_role = or_drop!(self.role_fault(element, &element.role); of_attrs);
         Ok(first_of(of_attrs, of_role))
     }
 
@@ -470,7 +481,8 @@ impl<'m> Judge<'m> {
     {
         let mut found = found;
         for element in elements {
-            found = first_of(found, self.element_fault(element)?);
+            let other = or_drop!(self.element_fault(element); found);
+            found = first_of(found, other);
         }
         Ok(found)
     }

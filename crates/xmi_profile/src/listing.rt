@@ -11,7 +11,7 @@ use crate::element::Element;
 use crate::names::{empty_text, is_all_blank};
 use crate::role::Role;
 use crate::roles::Profile;
-use mof_metamodel::{NoMemory, Seq, Text};
+use mof_metamodel::{NoMemory, Seq, Text, or_drop};
 use std::alloc::Global;
 use std::marker::Model;
 use xmi_text::Attr;
@@ -177,7 +177,7 @@ impl Listing {
         let n = self.elements.len();
         let number = number_in(&role, self.number);
         let place = self.place + attrs.len() as u128 + 1;
-        self.ancestors.push(n)?;
+        or_drop!(self.ancestors.push(n); role, name, attrs);
         self.elements
             .push(begun(alloc, self.place, role, name, attrs))?;
         self.place = place;
@@ -199,7 +199,7 @@ impl Listing {
         ensures room { OnOk result (self.new.place ≤ self.old.place + 2 ^ 63) }
     {
         let attrs = Attributes::new(attrs);
-        let role = self.next_role(profile, name.as_str(), &attrs)?;
+        let role = or_drop!(self.next_role(profile, name.as_str(), &attrs); name, attrs);
         self.add(profile.alloc, role, name, attrs)
     }
 

@@ -14,7 +14,7 @@ use crate::names::{Own, is_named};
 use crate::role::Role;
 use crate::roles::{Profile, concrete_class};
 use crate::target::Target;
-use mof_metamodel::{MetaModel, NameTable, NoMemory, Seq, Text, is_identifier};
+use mof_metamodel::{MetaModel, NameTable, NoMemory, Seq, Text, is_identifier, or_drop};
 use std::alloc::Global;
 use std::marker::Model;
 
@@ -159,9 +159,11 @@ impl Numbers {
         requires { element.now.place + 2 ^ 64 < 2 ^ 128 }
         ensures { OnOk result (self.new ≡ numbers.with_repeated self.old element.now id) }
     {
-        let repeated = repeated_at(element, id.duplicate(alloc)?);
-        self.ids.push(id)?;
-        self.repeated = first_of(self.repeated.take(), repeated);
+        let copy = or_drop!(id.duplicate(alloc); id);
+        let repeated = repeated_at(element, copy);
+        or_drop!(self.ids.push(id); repeated);
+        let first = first_of(self.repeated.take(), repeated);
+        drop(std::mem::replace(&mut self.repeated, first));
         Ok(())
     }
 
@@ -291,6 +293,6 @@ pub(crate) fn numbered(alloc: Global, elements: &[Element]) -> Result<Numbers, N
     ensures { IfOk result (λ n. n ≡ numbers.numbered numbers.no_numbers elements.now) }
 {
     let mut numbers = Numbers::new(alloc);
-    numbers.add_all(alloc, elements)?;
+    or_drop!(numbers.add_all(alloc, elements); numbers);
     Ok(numbers)
 }

@@ -12,7 +12,7 @@ use crate::listing::Listing;
 use crate::numbering::{Numbers, numbered};
 use crate::reading::read_listing;
 use crate::roles::Profile;
-use mof_metamodel::{MAX_OBJECTS, NoMemory, Text};
+use mof_metamodel::{MAX_OBJECTS, NoMemory, Text, or_drop};
 use object_tables::LimitKind;
 
 /// The elements of a file, and its objects, none of which has a fault by itself.
@@ -37,6 +37,7 @@ fn told(numbers: &Numbers, found: Option<Found>) -> Option<ModelFault>
     ensures { result ≡ known.told numbers.now found }
 {
     if numbers.ids().len() > MAX_OBJECTS as usize {
+        drop(found);
         Some(ModelFault::Limit(LimitKind::Objects))
     } else {
         fault_in(found)
@@ -65,7 +66,10 @@ fn unless_fault(numbers: Numbers, fault: Option<ModelFault>) -> Result<Numbers, 
     ensures { result ≡ known.unless_fault numbers fault }
 {
     match fault {
-        Some(fault) => Err(XmiError::Content(fault)),
+        Some(fault) => {
+            drop(numbers);
+            Err(XmiError::Content(fault))
+        }
         None => Ok(numbers),
     }
 }
@@ -82,7 +86,7 @@ fn fault_of(
     ensures numbers { OnOk result (numbers.new ≡ record (all_numbered profile.now.meta.now elements.now) { repeated = None }) }
 {
     let found = found_in(profile, elements, numbers.ids())?;
-    numbers.add_externs(profile, elements)?;
+    or_drop!(numbers.add_externs(profile, elements); found);
     let repeated = numbers.take_repeated();
     Ok(told(numbers, first_of(repeated, found)))
 }
@@ -93,7 +97,7 @@ fn judged(profile: &Profile<'_>, elements: &[Element]) -> Result<Numbers, XmiErr
     ensures { Answers result (known.judged profile.now.meta.now elements.now) }
 {
     let mut numbers = numbered(profile.alloc, elements)?;
-    let fault = fault_of(profile, elements, &mut numbers)?;
+    let fault = or_drop!(fault_of(profile, elements, &mut numbers); numbers);
     unless_fault(numbers, fault)
 }
 
@@ -104,7 +108,10 @@ fn with_numbers(profile: &Profile<'_>, listing: Listing) -> Result<Objects, XmiE
 {
     match judged(profile, listing.elements()) {
         Ok(numbers) => Ok(Objects { listing, numbers }),
-        Err(error) => Err(error),
+        Err(error) => {
+            drop(listing);
+            Err(error)
+        }
     }
 }
 

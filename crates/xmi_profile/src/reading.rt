@@ -7,7 +7,7 @@ ghost use Rattle.xmi_profile.specs.Listing.{IsSound, AreKnown};
 
 use crate::listing::Listing;
 use crate::roles::Profile;
-use mof_metamodel::NoMemory;
+use mof_metamodel::{NoMemory, or_drop};
 use xmi_text::{Mark, Reader, Step, TextError};
 
 /// What an answer on a whole text says of the next mark.
@@ -95,7 +95,9 @@ pub(crate) fn read_listing(profile: &Profile<'_>, bytes: &[u8]) -> Result<Listin
     ensures known { IfOk result (λ listing. AreKnown profile.now.meta.now listing.elements) }
 {
     let mut reader = Reader::new(profile.alloc);
-    reader.feed(bytes)?;
+    or_drop!(reader.feed(bytes); reader);
     reader.finish();
-    list_marks(profile, &mut reader, bytes)
+    let listing = list_marks(profile, &mut reader, bytes);
+    drop(reader);
+    listing
 }

@@ -10,7 +10,7 @@ use super::objects::bare_model;
 use super::orders::order_all;
 use super::values::put_values;
 use crate::filed::{Filed, WrittenValue};
-use mof_metamodel::{ClassId, MetaModel, NoMemory, Seq, Text};
+use mof_metamodel::{ClassId, MetaModel, NoMemory, Seq, Text, or_drop};
 use object_tables::Model;
 use std::alloc::Global;
 
@@ -26,8 +26,8 @@ fn valued_model<'m>(
     requires values { AreValuesOf (bare_model meta.now classes.now ids.now) values }
     ensures { IfOk result (HasValues (bare_model meta.now classes.now ids.now) values) }
 {
-    let mut model = bare_model(alloc, meta, classes, ids)?;
-    put_values(alloc, &mut model, values)?;
+    let mut model = or_drop!(bare_model(alloc, meta, classes, ids); values);
+    or_drop!(put_values(alloc, &mut model, values); model);
     Ok(model)
 }
 
@@ -47,12 +47,18 @@ fn linked_model<'m>(
         ids,
         classes,
         values,
-        ..
+        references,
+        mentions,
     } = filed;
-    let mut model = valued_model(alloc, meta, classes.as_slice(), ids.as_slice(), values)?;
+    drop(references);
+    drop(mentions);
+    let valued = valued_model(alloc, meta, classes.as_slice(), ids.as_slice(), values);
+    drop(ids);
+    drop(classes);
+    let mut model = valued?;
     // What every model keeps is known here.
     let _ = model.end();
-    link_all(alloc, &mut model, namings)?;
+    or_drop!(link_all(alloc, &mut model, namings); model);
     Ok(model)
 }
 
@@ -69,6 +75,6 @@ pub(super) fn ordered_model<'m>(
     ensures { IfOk result (λ m. IsOrderedModel meta.now filed namings.now m × StandsAsWritten meta.now filed m) }
 {
     let mut model = linked_model(alloc, meta, filed, namings)?;
-    order_all(alloc, &mut model, namings)?;
+    or_drop!(order_all(alloc, &mut model, namings); model);
     Ok(model)
 }

@@ -5,7 +5,7 @@ ghost use Rattle.xmi_profile.specs.Values.{same_value, without_repeats};
 
 use super::met::Met;
 use crate::filed::WrittenValue;
-use mof_metamodel::{NoMemory, PropId, Seq};
+use mof_metamodel::{NoMemory, PropId, Seq, or_drop};
 use object_tables::{Model, ObjId, Value};
 use std::alloc::{AllocError, Global};
 use std::hash::{Hash, Hasher};
@@ -94,14 +94,18 @@ fn distinct_run(
     let mut slot = Seq::new(alloc);
     for value in values {
         if !is_at(value, object, property) {
+            drop(met);
             return Ok(slot);
         }
-        if met.meet(Known {
+        let known = Known {
             value: &value.value,
-        })? {
-            slot.push(value.value.duplicate(alloc)?)?;
+        };
+        if or_drop!(met.meet(known); met, slot) {
+            let copy = or_drop!(value.value.duplicate(alloc); met, slot);
+            or_drop!(slot.push(copy); met, slot);
         }
     }
+    drop(met);
     Ok(slot)
 }
 

@@ -29,22 +29,22 @@ add_objects-requires-clause-known c =
     all_classed c.args.meta.now (view c.args.value.now) c.objects_of-values.result.now
     (sound_from c.args.meta.now c.class_count.ensures.well bytes (view c.args.value.now) h) c.objects_of-values.ensures
 
-pub returns-clause-filed : goal.returns-clause-filed
-returns-clause-filed c =
+pub returns-4-clause-filed : goal.returns-4-clause-filed
+returns-4-clause-filed c =
     let (bytes, h) = c.requires in
     filed_from c.args.meta.now (view c.args.value.now) c.objects_of-values.result.now c.in_ok-ids.ids
-    (record { ids = c.in_ok-ids_of.field-0; classes = c.in_ok-classes_of.field-0; values = c.new.result; references = c.new-2.result; mentions = c.new-3.result })
+    (record { ids = c.in-Ok-or_drop.field-0; classes = c.in-Ok-or_drop-classes.field-0; values = c.new.result; references = c.new-2.result; mentions = c.new-3.result })
     c.add_objects.new.filed (sound_from c.args.meta.now c.class_count.ensures.well bytes (view c.args.value.now) h) c.objects_of-values.ensures c.in_ok-ids.ensures
-    c.in_ok-ids_of.ensures c.in_ok-classes_of.ensures c.new.ensures c.new-2.ensures c.new-3.ensures c.in_ok-add_objects.ensures.filed c.in_ok-add_objects.ensures.apart
+    c.in-Ok-or_drop.ensures c.in-Ok-or_drop-classes.ensures c.new.ensures c.new-2.ensures c.new-3.ensures c.in-Ok-or_drop-2.ensures.filed c.in-Ok-or_drop-2.ensures.apart
 
-pub returns-clause-sound : goal.returns-clause-sound
-returns-clause-sound c =
+pub returns-4-clause-sound : goal.returns-4-clause-sound
+returns-4-clause-sound c =
     let (bytes, h) = c.requires in
     sound_filed c.args.meta.now (view c.args.value.now) _ (sound_from c.args.meta.now c.class_count.ensures.well bytes (view c.args.value.now) h)
     (filed_from c.args.meta.now (view c.args.value.now) c.objects_of-values.result.now c.in_ok-ids.ids
-    (record { ids = c.in_ok-ids_of.field-0; classes = c.in_ok-classes_of.field-0; values = c.new.result; references = c.new-2.result; mentions = c.new-3.result })
+    (record { ids = c.in-Ok-or_drop.field-0; classes = c.in-Ok-or_drop-classes.field-0; values = c.new.result; references = c.new-2.result; mentions = c.new-3.result })
     c.add_objects.new.filed (sound_from c.args.meta.now c.class_count.ensures.well bytes (view c.args.value.now) h) c.objects_of-values.ensures c.in_ok-ids.ensures
-    c.in_ok-ids_of.ensures c.in_ok-classes_of.ensures c.new.ensures c.new-2.ensures c.new-3.ensures c.in_ok-add_objects.ensures.filed c.in_ok-add_objects.ensures.apart)
+    c.in-Ok-or_drop.ensures c.in-Ok-or_drop-classes.ensures c.new.ensures c.new-2.ensures c.new-3.ensures c.in-Ok-or_drop-2.ensures.filed c.in-Ok-or_drop-2.ensures.apart)
     (all_typed c.args.meta.now (met_ids c.in_ok-ids.ids) (map (λ v. written_of (view v)) c.objects_of-values.result.now)
-    (record { ids = c.in_ok-ids_of.field-0; classes = c.in_ok-classes_of.field-0; values = c.new.result; references = c.new-2.result; mentions = c.new-3.result })
-    c.add_objects.new.filed c.new.ensures c.in_ok-add_objects.ensures.filed)
+    (record { ids = c.in-Ok-or_drop.field-0; classes = c.in-Ok-or_drop-classes.field-0; values = c.new.result; references = c.new-2.result; mentions = c.new-3.result })
+    c.add_objects.new.filed c.new.ensures c.in-Ok-or_drop-2.ensures.filed)

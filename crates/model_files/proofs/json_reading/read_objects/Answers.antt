@@ -15,5 +15,5 @@ pub returns-in-Some-clause-fault : goal.returns-in-Some-clause-fault
 returns-in-Some-clause-fault c =
     let d = view c.in_ok-value.value in
     let e : first_fault c.args.meta.now (objects_of d) ≡ Some c.in-Some.fault =
-    ap (first_fault c.args.meta.now) (sym c.objects_of.ensures) ∙ sym c.in_ok-fault.ensures ∙ c.in-Some.is in
+    ap (first_fault c.args.meta.now) (sym c.objects_of.ensures) ∙ sym c.in-Ok-or_drop.ensures ∙ c.in-Some.is in
     (d, c.in_ok-value.ensures.ok.value, content_fault c.args.meta.now d c.in-Some.fault c.in_ok-value.ensures.ok.shape e)

@@ -15,7 +15,7 @@ returns-in_err-part-clause-fault c =
 
 pub returns-clause-equated : goal.returns-clause-equated
 returns-clause-equated c = λ v is.
-    let condition = c.in_ok-_condition.ensures.is in
+    let condition = c.in_ok-condition.ensures.is in
     equated c.args.env.now c.args.conjunct.now v c.args.e.now condition.has.part c.in_ok-part.part c.into_tree.result (λ q r. c.one_type_is_had.ensures c.args.e.now q r) is condition.has.has
     (typing_had c.args.env.now c.args.e.now c.in_ok-part.part c.into_tree.result c.into_tree.ensures c.in_ok-part.ensures.typed c.in_ok-part.ensures.tree)
     c.in_ok-part.ensures.typed

@@ -12,22 +12,22 @@ use Rattle.qvtr_types.specs.TemplatePieces.{IsValueOf, HasValue, StandsInValue}
 use Rattle.qvtr_types.proofs.ExpressionLaws.{typing_had}
 use Rattle.qvtr_types.proofs.items.item_value.Goals as goal
 
-pub returns-in_err-_typed-clause-fault : goal.returns-in_err-_typed-clause-fault
-returns-in_err-_typed-clause-fault c =
+pub returns-in_err-typed-clause-fault : goal.returns-in_err-typed-clause-fault
+returns-in_err-typed-clause-fault c =
     let p = err_from_is_err_and c.from_residual.result c.from_residual.ensures.1 in
     err_told c.from_residual.result p.0 _ (StandsInValue c.args.scope.now c.args.of.now c.args.name.now c.args.e.now) (λ f. Stands c.env-env.result.now c.args.e.now f) p.1 p.2
     (λ f h. StandsInValue.typing (subst (λ (env : Environment). Stands env c.args.e.now f) c.env-env.ensures h))
-    c.in_err-_typed.ensures.fault
+    c.in_err-typed.ensures.fault
 
 pub returns-then-is_null-clause-is : goal.returns-then-is_null-clause-is
 returns-then-is_null-clause-is c = HasValue.empty (sym c.is_null.ensures ∙ c.if-is_null.true) refl
 
 pub returns-then-is_null-clause-meant : goal.returns-then-is_null-clause-meant
 returns-then-is_null-clause-meant c =
-    let part = c.in_ok-_typed._typed in
+    let part = c.in_ok-typed.typed in
     IsValueOf.empty (tree_of part) (typing_of part) (sym c.is_null.ensures ∙ c.if-is_null.true)
     (subst (λ (env : Environment). HasTyping env c.args.e.now (tree_of part) (typing_of part)) c.env-env.ensures
-    (typing_had c.env-env.result.now c.args.e.now part (tree_of part) refl c.in_ok-_typed.ensures.typed c.in_ok-_typed.ensures.tree))
+    (typing_had c.env-env.result.now c.args.e.now part (tree_of part) refl c.in_ok-typed.ensures.typed c.in_ok-typed.ensures.tree))
 
 pub type_given-requires : goal.type_given-requires
 type_given-requires c = subst (λ (env : Environment). IsTrue (is_over env.metas c.args.of.now)) (sym c.env-env.ensures) c.requires

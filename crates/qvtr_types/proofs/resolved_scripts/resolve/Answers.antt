@@ -11,8 +11,8 @@ use Rattle.script_scopes.specs.Resolutions.{IsResolution}
 use Rattle.qvtr_types.specs.ResolvedScripts.{setting_of, IsFaultOf, program_of}
 use Rattle.qvtr_types.proofs.resolved_scripts.resolve.Goals as goal
 
-pub resolve_parts-requires : goal.resolve_parts-requires
-resolve_parts-requires c =
+pub resolve_parts-parts-requires : goal.resolve_parts-parts-requires
+resolve_parts-parts-requires c =
     let metas : List MetaDesc = c.args.metas.now in
     c.in_ok-env.ensures ∙ ap (λ (ms : List MetaDesc). in_script (setting_of ms c.args.script.now (chars c.args.target.now) [])) (sym (ap (λ (e : Environment). e.metas) c.in_ok-env.ensures))
 

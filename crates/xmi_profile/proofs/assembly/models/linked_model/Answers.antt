@@ -32,8 +32,8 @@ link_all-requires-clause-may c =
     subst (λ cs. HasValues (bare_model c.args.meta.now cs f.ids) f.values m) c.as_slice.ensures (subst (λ is. HasValues (bare_model c.args.meta.now c.as_slice.result.now is) f.values m) c.as_slice-2.ensures c.in_ok-model.ensures) in
     (ready c.args.meta.now f c.args.namings.now m c.requires.sound c.requires.answered v c.end.ensures.kept).may
 
-pub returns : goal.returns
-returns c =
+pub returns-2 : goal.returns-2
+returns-2 c =
     let f = c.args.filed in
     let m = c.in_ok-model.model in
     let xs = c.args.namings.now in
@@ -43,7 +43,7 @@ returns c =
     record {
       start = m;
       values = v;
-      links = subst (IsLinkedTo m xs (length xs)) (sym c.in_ok-link_all.ensures) done.linked;
-      by_number = subst (StandByNumber xs) (sym c.in_ok-link_all.ensures) done.by_number;
-      same = subst (IsSameButLinks m) (sym c.in_ok-link_all.ensures) (same_linked_all m xs);
+      links = subst (IsLinkedTo m xs (length xs)) (sym c.in-Ok-or_drop.ensures) done.linked;
+      by_number = subst (StandByNumber xs) (sym c.in-Ok-or_drop.ensures) done.by_number;
+      same = subst (IsSameButLinks m) (sym c.in-Ok-or_drop.ensures) (same_linked_all m xs);
     }
