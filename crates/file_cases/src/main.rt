@@ -19,7 +19,7 @@ use crate::printing::printed;
 use crate::reading::{read, read_meta};
 use model_building::Refusal;
 use model_files::{FileError, emof_metamodel, metamodel_of};
-use mof_metamodel::{MetaModel, NoMemory};
+use mof_metamodel::{MetaModel, NoMemory, or_drop};
 use object_tables::Model;
 use std::alloc::Global;
 use std::io::{self, ErrorKind};
@@ -89,20 +89,26 @@ fn given<T: Drop>(answer: Result<T, NoMemory>) -> io::Result<T> {
     }
 }
 
-fn main(rt: HostRuntime) -> io::Result<()> {
-    let alloc = rt.alloc();
-    let text = io::read_to_string(alloc, rt.reader())?;
-    let mut metas = Metas {
-        emof: given(emof_metamodel(alloc))?,
-        current: given(emof_metamodel(alloc))?,
-    };
-    for line in text.as_str().lines() {
+/// Prints each line with its answer.
+fn print_answers(rt: &impl Print, alloc: Global, metas: &mut Metas, text: &str) -> io::Result<()> {
+    for line in text.lines() {
         if line.is_empty() || line.starts_with('#') {
             println!(rt; "{line}")?;
         } else {
-            let answer = given(answer(alloc, &mut metas, line))?;
+            let answer = given(answer(alloc, metas, line))?;
             println!(rt; "{line} => {answer}")?;
         }
     }
     Ok(())
+}
+
+fn main(rt: HostRuntime) -> io::Result<()> {
+    let alloc = rt.alloc();
+    let text = io::read_to_string(alloc, rt.reader())?;
+    let emof = given(emof_metamodel(alloc))?;
+    let current = or_drop!(given(emof_metamodel(alloc)); emof);
+    let mut metas = Metas { emof, current };
+    let printed = print_answers(&rt, alloc, &mut metas, text.as_str());
+    drop(metas);
+    printed
 }
