@@ -1,6 +1,7 @@
 use Rattle.std.proofs.Common.{◌≡◌, ap, ◌∙◌, sym, subst, arith, length}
 use Rattle.std.specs.Option.{option_or, is_some}
 use Rattle.std.specs.List.{list_any}
+use Rattle.std.proofs.lemmas.Grind.{common_steps}
 use Rattle.mof_metamodel.specs.Metamodels.{class_count}
 use Rattle.mof_metamodel.specs.Tables.{line_at, later_line, table, AreClosed}
 use Rattle.mof_metamodel.proofs.RoundLemmas.{lines_count, round_more, round_last, put_back}
@@ -37,3 +38,6 @@ loop-round-preserved c =
           ∙ ap (λ xs. option_or (line_at c.loop-round.orders.items k) (line_at xs k)) c.as_mut_slice-in-loop-round-2.ensures.value)),
       ap length (put_back c.next_lines.new.known c.loop-round.known.items c.loop-round.known.len kept (omega arith)) ∙ kept ∙ c.loop-round.invariant.1,
     )
+
+pub put_lines-requires : goal.put_lines-requires
+put_lines-requires c = grind (arith, common_steps)

@@ -1,5 +1,6 @@
 use Rattle.std.proofs.Common.{◌≡◌, ◌<◌, List, Bool, ap, ◌∙◌, sym, subst, arith, length, get_or, drop, map, ◌+◌}
 use Rattle.std.specs.Prelude.{Some, OnOk}
+use Rattle.std.proofs.lemmas.Grind.{common_steps}
 use Rattle.mof_metamodel.specs.declared.desc.ClassId.{ClassId}
 use Rattle.mof_metamodel.specs.Metamodels.{united, all_united}
 use Rattle.mof_metamodel.specs.Tables.{class_numbers, line, line_at, AreMarks, HasOrders}
@@ -26,3 +27,15 @@ loop-c-preserved c =
       marked.1,
       subst (HasOrders c.args.orders.now) (sym keys) (has_more c.args.orders.now c.requires.orders c.loop-c.joint.keys x.0 c.in-Some.order.keys there c.loop-c.invariant.3),
     )
+
+pub join_one-requires-clause-within : goal.join_one-requires-clause-within
+join_one-requires-clause-within c = grind (arith, common_steps)
+
+pub join_one-requires-clause-there : goal.join_one-requires-clause-there
+join_one-requires-clause-there c = grind (arith, common_steps)
+
+pub returns-in-None : goal.returns-in-None
+returns-in-None c = grind (arith, common_steps)
+
+pub returns : goal.returns
+returns c = grind (arith, common_steps)

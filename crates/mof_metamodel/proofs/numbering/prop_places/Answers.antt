@@ -3,6 +3,7 @@ use Rattle.std.proofs.lemmas.List.{map-append}
 use Rattle.std.specs.Prelude.{All}
 use Rattle.std.specs.List.{range_with_len}
 use Rattle.std.proofs.lemmas.List.Elements.{All-append}
+use Rattle.std.proofs.lemmas.Grind.{common_steps}
 use Rattle.mof_metamodel.specs.declared.named.Place.{Place}
 use Rattle.mof_metamodel.specs.Metamodels.{class_count, class_at, declared_from}
 use Rattle.mof_metamodel.specs.Tables.{IsPlace, placed, place_in}
@@ -23,3 +24,9 @@ loop-c-preserved c =
       let P : List Place → Type 0 = λ xs. All (IsPlace c.args.desc.now) xs in
           subst P (sym added) (All-append (IsPlace c.args.desc.now) c.loop-c.places.items _ c.loop-c.invariant.1 (places_own c.args.desc.now c.loop-c.c _ short (ap (λ x. length x.props) is))),
     )
+
+pub overflow_cast-len : goal.overflow_cast-len
+overflow_cast-len c = grind (arith, common_steps)
+
+pub returns-clause-placed : goal.returns-clause-placed
+returns-clause-placed c = grind (arith, common_steps)
