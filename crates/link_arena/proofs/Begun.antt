@@ -1,5 +1,5 @@
 -- An arena whose table of heads has one.
-use Rattle.std.proofs.Common.{◌≡◌, ◌<◌, ◌+◌, ℕ, List, [], ◌∷◌, length, refl, arith, zero, suc}
+use Rattle.std.proofs.Common.{◌≡◌, ◌<◌, ◌+◌, ℕ, List, [], ◌∷◌, length, refl, arith, zero, suc, subst, sym}
 use Rattle.std.specs.Prelude.{Vec}
 use Rattle.std.specs.Vec.{with_items}
 use Rattle.std.proofs.Common.{ap, ◌∙◌}
@@ -56,3 +56,15 @@ pub view_written : {Y Z : Type 0} (v : Vec Head Y) (w : Vec Slot Z) (hs : List H
     → links (with_items v hs).items (with_items w ss).items ≡ links hs ss
 view_written v w hs ss one two =
     ap (λ (l : List Head). links l (with_items w ss).items) (with_items_is v hs one) ∙ ap (links hs) (with_items_is w ss two)
+
+pub arena_written : {Y Z : Type 0} (v : Vec Head Y) (w : Vec Slot Z) (hs : List Head) (ss : List Slot) → length hs ≡ v.len → length ss ≡ w.len
+    → IsArena hs ss → IsArena (with_items v hs).items (with_items w ss).items
+arena_written v w hs ss one two ok =
+    subst (λ (l : List Head). IsArena l (with_items w ss).items) (sym (with_items_is v hs one)) (subst (IsArena hs) (sym (with_items_is w ss two)) ok)
+
+-- tables that hold what an arena's do are an arena
+pub arena_same : (hs hs' : List Head) (ss ss' : List Slot) → hs' ≡ hs → ss' ≡ ss → IsArena hs ss → IsArena hs' ss'
+arena_same hs hs' ss ss' one two ok = subst (λ (l : List Head). IsArena l ss') (sym one) (subst (IsArena hs) (sym two) ok)
+
+pub links_same : (hs hs' : List Head) (ss ss' : List Slot) → hs' ≡ hs → ss' ≡ ss → links hs' ss' ≡ links hs ss
+links_same hs hs' ss ss' one two = ap (λ (l : List Head). links l ss') one ∙ ap (links hs) two

@@ -26,3 +26,9 @@ mark-requires-clause-single c =
 pub put_in_order-requires-clause-marked : goal.put_in_order-requires-clause-marked
 put_in_order-requires-clause-marked c =
     subst (IsMarkedFor c.args.slots.now c.mark.new.marks) (sym (list_at-is c.args.heads.now c.args.slots.now (c.args.end + 1) c.requires.within)) c.mark.ensures
+
+pub put_in_order-requires-clause-same : goal.put_in_order-requires-clause-same
+put_in_order-requires-clause-same c = c.requires.same
+
+pub returns-clause-view : goal.returns-clause-view
+returns-clause-view c = c.put_in_order.ensures.view

@@ -1,5 +1,7 @@
 use Rattle.link_arena.specs.Lists.{list_at}
-use Rattle.std.proofs.Common.{take, refl, arith, ◌+◌}
+use Rattle.std.proofs.Common.{take, refl, arith, ◌≡◌, ◌+◌, ◌<◌, ◌∙◌, ℕ, ap, length, subst, sym}
+use Rattle.std.proofs.lemmas.List.{length-append}
+use Rattle.link_arena.specs.Twins.{free_row}
 use Rattle.link_arena.proofs.Grown.{grown_arena, grown_threaded, grown_out, grown_out_next}
 use Rattle.link_arena.proofs.Members.{in_from}
 use Rattle.link_arena.proofs.room.thread_row.Goals as goal
@@ -31,3 +33,22 @@ pub link-requires-2-clause-out : goal.link-requires-2-clause-out
 link-requires-2-clause-out c = λ j h.
     grown_out_next c.args.heads.now (take c.args.at c.args.slots.now) c.args.slots.now c.args.at (c.args.at + 1) c.link.new.heads c.link.new.slots
     c.requires (omega arith) c.link.ensures.after j (in_from (list_at c.link.new.heads c.link.new.slots j) (c.args.at + 1) h)
+
+pub link-requires-clause-within : goal.link-requires-clause-within
+link-requires-clause-within c = c.requires.within
+
+pub link-requires-clause-slot_within : goal.link-requires-clause-slot_within
+link-requires-clause-slot_within c =
+    let len : length c.args.slots.now ≡ length (take c.args.at c.args.slots.now) + 2 = ap length c.requires.is ∙ length-append (take c.args.at c.args.slots.now) free_row in
+    omega (arith, c.requires.len)
+
+pub link-requires-2-clause-threaded : goal.link-requires-2-clause-threaded
+link-requires-2-clause-threaded c = c.link.ensures.after.threaded
+
+pub link-requires-2-clause-within : goal.link-requires-2-clause-within
+link-requires-2-clause-within c = subst (λ (n : ℕ). 0 < n) (sym c.link.auto.heads) c.requires.within
+
+pub link-requires-2-clause-slot_within : goal.link-requires-2-clause-slot_within
+link-requires-2-clause-slot_within c =
+    let len : length c.args.slots.now ≡ length (take c.args.at c.args.slots.now) + 2 = ap length c.requires.is ∙ length-append (take c.args.at c.args.slots.now) free_row in
+    omega (arith, c.requires.len, c.link.auto.slots)
