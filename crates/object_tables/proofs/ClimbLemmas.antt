@@ -1,8 +1,9 @@
 -- Walks up the containers that mark what they pass: what they keep, and that they find the least object on a cycle.
-use Rattle.std.proofs.Common.{◌≡◌, ◌≢◌, ℕ, ◌+◌, ◌-◌, ◌<◌, ◌≤◌, List, [], ◌∷◌, ◌++◌, length, get_or, refl, sym, ◌∙◌, subst, ap, arith, inl, inr, Option, Some, None}
-use Rattle.std.specs.Prelude.{◌⊎◌, IfSome, IfNone, set}
+use Rattle.std.proofs.Common.{◌≡◌, ◌≢◌, ℕ, ◌+◌, ◌-◌, ◌<◌, ◌≤◌, List, [], ◌∷◌, ◌++◌, length, get_or, replicate, refl, sym, ◌∙◌, subst, ap, arith, inl, inr, Option, Some, None}
+use Rattle.std.specs.Prelude.{◌⊎◌, IfSome, IfNone, set, sum_by}
 use Rattle.std.proofs.lemmas.Bool.{cases_eq, cases_lt}
-use Rattle.std.proofs.lemmas.List.{get_or-set_same, get_or-set_other, length-set}
+use Rattle.std.proofs.lemmas.List.{get_or-set_same, get_or-set_other, length-set, length-replicate}
+use Rattle.std.proofs.lemmas.List.Sums.{sum_by-set}
 use Rattle.object_tables.specs.declared.value.ObjId.{ObjId}
 use Rattle.object_tables.specs.Kept.{Kept}
 use Rattle.object_tables.specs.Models.{ModelData, IsLive, IsTop}
@@ -10,6 +11,7 @@ use Rattle.object_tables.specs.Containment.{IsContainer, IsContainerPath, IsOnCy
 use Rattle.object_tables.specs.Climbs.{LeadsTo, IsMarked, IsPassedNow, IsAtMost, IsSearched}
 use Rattle.object_tables.specs.Validity.{IsLeastOnCycle}
 use Rattle.object_tables.proofs.ContainmentLemmas.{path-push, path-append, path-cycle, container-same, live-below, cycle-live}
+use Rattle.object_tables.proofs.DepthLemmas.{get_or-zeros}
 
 -- ---- paths
 
@@ -60,6 +62,41 @@ set_more marks i j v l p h = elim (cases_eq j i) [
   | inl e ↦ (let s : get_or (set marks i v) j 0 ≡ v = ap (λ k. get_or (set marks i v) k 0) e ∙ set_here marks i v l in omega arith)
   | inr ne ↦ (let s = set_there marks i j v ne in omega arith)
 ]
+
+-- a live object has a mark, or room for one
+pub marked-within : (m : ModelData) (marks : List ℕ) (highest o : ℕ) → IsMarked m marks highest → IsLive m o → o < length marks
+marked-within m marks highest o k live = let below = live-below m o live in let e = k.count in omega arith
+
+pub way-within : (m : ModelData) (old marks : List ℕ) (o at c : ℕ) → IsWay m old marks o at → IsLive m c → c < length marks
+way-within m old marks o at c w live = let below = live-below m c live in let e = w.count in omega arith
+
+-- the walk begins at an object that has no mark
+pub way-begin : (m : ModelData) (old : List ℕ) (o : ℕ) → IsMarked m old o → IsLive m o → get_or old o 0 ≡ 0 → IsWay m old (set old o (o + 1)) o o
+way-begin m old o k live fresh =
+    let inside : o < length old = marked-within m old o o k live in
+    let here : get_or (set old o (o + 1)) o 0 ≡ o + 1 = set_here old o (o + 1) inside in
+    record {
+      live = live;
+      count = length-set old o (o + 1) ∙ k.count;
+      kept = λ x h. set_there old o x (o + 1) (λ e. let z : get_or old x 0 ≡ 0 = ap (λ y. get_or old y 0) e ∙ fresh in omega arith);
+      new = λ x z p. elim (cases_eq x o) [
+        | inl e ↦ (ap (λ y. get_or (set old o (o + 1)) y 0) e ∙ here, ([], e))
+        | inr ne ↦ absurd (let s = set_there old o x (o + 1) ne in omega arith)
+      ];
+      start = omega arith;
+      closed = λ x a z p up. elim (cases_eq x o) [
+        | inl e ↦ inr e
+        | inr ne ↦ absurd (let s = set_there old o x (o + 1) ne in omega arith)
+      ];
+    }
+
+-- an object with a mark has it still
+pub way-more : (m : ModelData) (old marks : List ℕ) (o at : ℕ) → IsWay m old marks o at → (x : ℕ) → 0 < get_or old x 0 → 0 < get_or marks x 0
+way-more m old marks o at w x h = let e = w.kept x h in omega arith
+
+-- the marks that are not used yet are fewer
+pub way-smaller : (marks : List ℕ) (o c : ℕ) → c < length marks → get_or marks c 0 ≡ 0 → sum_by (λ x. (o + 1) - x) (set marks c (o + 1)) < sum_by (λ x. (o + 1) - x) marks
+way-smaller marks o c l fresh = let s = sum_by-set (λ x. (o + 1) - x) marks c (o + 1) 0 l in omega arith
 
 pub way-step : (m : ModelData) (old marks : List ℕ) (o at c : ℕ) → Kept m → IsWay m old marks o at → IsContainer m at c → IsLive m c → get_or marks c 0 ≡ 0 → IsWay m old (set marks c (o + 1)) o c
 way-step m old marks o at c kept w up live fresh =
@@ -205,6 +242,21 @@ lesser_one a b n (inl e) = inr (ap (λ x. x.0) e)
 lesser_one a b n (inr e) = inl (let w : n ≡ a = cc in ap (λ x. x.0) w)
 
 -- ---- the search
+
+-- no walk has passed an object yet
+pub search-begin : (m : ModelData) (marks : List ℕ) (n : ℕ) → marks ≡ replicate n 0 → n ≡ length m.objects → IsSearched m marks None 0
+search-begin m marks n e count =
+    let none : (o : ℕ) → get_or marks o 0 ≡ 0 = λ o. ap (λ xs. get_or xs o 0) e ∙ get_or-zeros n o in
+    record {
+      marked = record {
+        count = ap length e ∙ length-replicate n 0 ∙ count;
+        most = λ o. (let z = none o in omega arith);
+        closed = λ o a p up. absurd (let z = none o in omega arith);
+      };
+      passed = λ a l live. absurd (omega arith);
+      cycle = tt;
+      least = λ a p on. absurd (let z = none a in omega arith);
+    }
 
 passed-next : (m : ModelData) (marks : List ℕ) (o : ℕ) → ((a : ℕ) → a < o → IsLive m a → 0 < get_or marks a 0) → (IsLive m o → 0 < get_or marks o 0) → (a : ℕ) → a < o + 1 → IsLive m a → 0 < get_or marks a 0
 passed-next m marks o before here a l live = elim (cases_lt a o) [

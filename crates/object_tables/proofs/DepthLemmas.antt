@@ -1,8 +1,8 @@
 -- The depths of objects: there is one, and those that are found on the way up give the others.
-use Rattle.std.proofs.Common.{◌≡◌, ℕ, ◌+◌, ◌-◌, ◌<◌, ◌≤◌, suc, List, [], ◌∷◌, ◌++◌, length, get_or, refl, sym, ◌∙◌, subst, ap, arith, inl, inr}
+use Rattle.std.proofs.Common.{◌≡◌, ℕ, ◌+◌, ◌-◌, ◌<◌, ◌≤◌, zero, suc, List, [], ◌∷◌, ◌++◌, length, get_or, replicate, refl, sym, ◌∙◌, subst, ap, arith, inl, inr}
 use Rattle.std.specs.Prelude.{◌⊎◌, set}
 use Rattle.std.proofs.lemmas.Bool.{cases_eq, cases_lt}
-use Rattle.std.proofs.lemmas.List.{get_or-set_same, get_or-set_other, length-set, length-append}
+use Rattle.std.proofs.lemmas.List.{get_or-set_same, get_or-set_other, length-set, length-append, length-replicate}
 use Rattle.object_tables.specs.Kept.{Kept}
 use Rattle.object_tables.specs.Models.{ModelData, IsLive, IsTop}
 use Rattle.object_tables.specs.Containment.{IsContainer, IsContainerPath, IsAcyclic, IsDepth, IsGreatestDepth}
@@ -63,6 +63,22 @@ depths-set m depths o n d live is =
             let same : get_or (set depths o n) x 0 ≡ get_or depths x 0 = get_or-set_other depths o x n 0 ne in
             subst (λ y. IsDepth m x y) (sym same) (d.each x (omega arith)))
       ];
+    }
+
+-- a list of zeros
+pub get_or-zeros : (n i : ℕ) → ◌≡◌ {A = ℕ} (get_or (replicate n 0) i 0) 0
+get_or-zeros zero i = refl
+get_or-zeros (suc n) zero = refl
+get_or-zeros (suc n) (suc i) = get_or-zeros n i
+
+-- no depth is found yet
+pub greatest-begin : (m : ModelData) (depths : List ℕ) (n : ℕ) → depths ≡ replicate n 0 → n ≡ length m.objects → IsGreatestBefore m depths 0 0
+greatest-begin m depths n e count =
+    let none : (o : ℕ) → get_or depths o 0 ≡ 0 = λ o. ap (λ ds. get_or ds o 0) e ∙ get_or-zeros n o in
+    record {
+      depths_are = record { count = ap length e ∙ length-replicate n 0 ∙ count; each = λ o p. absurd (let z = none o in omega arith) };
+      most = λ a d l live h. absurd (omega arith);
+      reached = inl refl;
     }
 
 pub greatest-skip : (m : ModelData) (depths : List ℕ) (n o : ℕ) → IsGreatestBefore m depths n o → (IsLive m o → ⊥) → IsGreatestBefore m depths n (o + 1)

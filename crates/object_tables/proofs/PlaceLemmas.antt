@@ -1,5 +1,5 @@
 -- The first place of a number in a list, found or not.
-use Rattle.std.proofs.Common.{◌≡◌, ◌≢◌, ℕ, ◌+◌, ◌<◌, ◌≤◌, suc, List, [], ◌∷◌, Bool, true, false, cond, refl, sym, ◌∙◌, ap, arith, length, inl, inr, eq-eqb}
+use Rattle.std.proofs.Common.{◌≡◌, ℕ, ◌+◌, ◌<◌, ◌≤◌, suc, List, [], ◌∷◌, Bool, true, false, cond, refl, sym, ◌∙◌, ap, arith, length, inl, inr, eq-eqb}
 use Rattle.std.specs.Prelude.{nat_eq, nat_lt, not, Option, Some, None}
 use Rattle.std.specs.List.{position, position_or_len}
 use Rattle.std.proofs.lemmas.Bool.{ne_eqb, cases_eq, cases_lt}

@@ -1,4 +1,4 @@
-use Rattle.std.proofs.Common.{◌≡◌, ap, ◌∙◌, sym, length}
+use Rattle.std.proofs.Common.{ap, ◌∙◌, sym, length}
 use Rattle.std.proofs.lemmas.List.{length-map}
 use Rattle.mof_metamodel.specs.Metamodels.{props_of}
 use Rattle.object_tables.proofs.PlaceLemmas.{index_looked_up}

@@ -9,6 +9,9 @@ near_place-place-requires-clause-class c = (placed_seen _ _ _ _ _ _ _ c.self.inv
 pub near_place-place-requires-clause-small : goal.near_place-place-requires-clause-small
 near_place-place-requires-clause-small c = (placed_seen _ _ _ _ _ _ _ c.self.invariant.tied c.self.view_is c.class_of.ensures.class).small
 
+pub values-requires-clause-object : goal.values-requires-clause-object
+values-requires-clause-object c = (placed_seen _ _ _ _ _ _ _ c.self.invariant.tied c.self.view_is c.class_of.ensures.class).object
+
 pub values-requires-clause-place : goal.values-requires-clause-place
 values-requires-clause-place c =
     rw c.near_place-place.ensures

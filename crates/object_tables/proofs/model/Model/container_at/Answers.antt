@@ -1,5 +1,6 @@
 use Rattle.std.proofs.Common.{◌∙◌, ap, sym, map}
 use Rattle.mof_metamodel.specs.Metamodels.{opposite_of, prop_at}
+use Rattle.object_tables.proofs.ModelLemmas.{placed_seen}
 use Rattle.object_tables.proofs.ContainerLemmas.{place_known, place_within, place_partners, not_opposite, not_whole, no_partner, contained_by}
 use Rattle.object_tables.proofs.WholeLemmas.{kept_seen}
 use Rattle.object_tables.proofs.model.Model.container_at.Goals as goal
@@ -36,3 +37,15 @@ returns-clause-contained c =
     (place_partners _ _ _ _ _ _ c.self.view_is c.requires ∙ ap (map (λ x. x.0)) (sym c.joined.ensures ∙ c.in_ok-object.ensures.steps))
     (ap (λ m. opposite_of m.meta c.args.q.0) (sym c.self.view_is) ∙ sym c.in_ok-p.ensures.number)
     (ap (λ m. (prop_at m.meta c.in_ok-p.p.0).composite) (sym c.self.view_is) ∙ sym c.prop.ensures.composite ∙ c.if-not-prop.false)
+
+pub joined-requires-clause-object : goal.joined-requires-clause-object
+joined-requires-clause-object c = (placed_seen _ _ _ _ _ _ _ c.self.invariant.tied c.self.view_is c.requires.class_is).object
+
+pub returns-clause-none : goal.returns-clause-none
+returns-clause-none c = tt
+
+pub returns-in_err-p-clause-contained : goal.returns-in_err-p-clause-contained
+returns-in_err-p-clause-contained c = rw c.from_residual.ensures tt
+
+pub returns-in_err-object-clause-contained : goal.returns-in_err-object-clause-contained
+returns-in_err-object-clause-contained c = rw c.from_residual-in_err-object.ensures tt

@@ -1,4 +1,4 @@
-use Rattle.std.proofs.Common.{◌+◌, ◌++◌, [], ◌∷◌, refl, arith}
+use Rattle.std.proofs.Common.{◌++◌, [], ◌∷◌, refl, arith}
 use Rattle.std.proofs.lemmas.List.{length-append}
 use Rattle.object_tables.proofs.ContainmentLemmas.{path-room, path-push}
 use Rattle.object_tables.proofs.DepthLemmas.{depth-join, depth-top, depth-few}

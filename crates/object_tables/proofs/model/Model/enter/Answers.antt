@@ -1,7 +1,9 @@
-use Rattle.std.proofs.Common.{◌∙◌, ap, refl, Some, None}
+use Rattle.std.proofs.Common.{◌∙◌, ap, refl, Some, None, arith}
 use Rattle.std.proofs.lemmas.Map.Text.{hash_map_updates_text}
+use Rattle.std.proofs.lemmas.List.Sums.{count_by-le-length}
 use Rattle.std.specs.String.{string_bytes}
-use Rattle.std.specs.Prelude.{encode_utf8_all}
+use Rattle.std.specs.Prelude.{encode_utf8_all, is_some}
+use Rattle.object_tables.proofs.ModelLemmas.{seen}
 use Rattle.object_tables.proofs.AddLemmas.{tied-enter, seen-enter, tied-given_up}
 use Rattle.object_tables.proofs.KeptObjects.{kept_added}
 use Rattle.object_tables.proofs.WholeLemmas.{kept_after, kept_unchanged}
@@ -29,3 +31,30 @@ invariant_of-self-in-Err c =
 
 pub returns-in-Ok-add-clause-ok : goal.returns-in-Ok-add-clause-ok
 returns-in-Ok-add-clause-ok c = seen-enter _ _ _ _ _ _ _ _ c.self.view_is c.requires.count c.in-Ok-add.ensures.ok c.len-number.ensures
+
+pub invariant_of-self : goal.invariant_of-self
+invariant_of-self c = rw c.in_default-insert.ensures.err c.self.invariant
+
+pub returns-in_default-insert-clause-err : goal.returns-in_default-insert-clause-err
+returns-in_default-insert-clause-err c = c.self.view_is
+
+pub returns-in_default-clause-err : goal.returns-in_default-clause-err
+returns-in_default-clause-err c = refl
+
+pub returns-in-Err-clause-err : goal.returns-in-Err-clause-err
+returns-in-Err-clause-err c = ap (seen c.self.inside.meta.now) c.in-Err.ensures.err.0 ∙ c.self.view_is
+
+pub returns-in-Ok-add-clause-err : goal.returns-in-Ok-add-clause-err
+returns-in-Ok-add-clause-err c = tt
+
+pub add-requires : goal.add-requires
+add-requires c = omega (arith, c.self.invariant.tied.few)
+
+pub overflow_add-self : goal.overflow_add-self
+overflow_add-self c = omega (arith, c.self.invariant.tied.few, c.self.invariant.tied.count, count_by-le-length (λ r. is_some r.named) c.self.inside.tables)
+
+pub overflow_cast-number : goal.overflow_cast-number
+overflow_cast-number c = omega (arith, c.self.invariant.tied.few, c.len-number.ensures)
+
+pub returns-in-Ok-add-clause-memory : goal.returns-in-Ok-add-clause-memory
+returns-in-Ok-add-clause-memory c = tt

@@ -11,6 +11,9 @@ near_place-place-requires-clause-class c = (placed_seen _ _ _ _ _ _ _ c.self.inv
 pub near_place-place-requires-clause-small : goal.near_place-place-requires-clause-small
 near_place-place-requires-clause-small c = (placed_seen _ _ _ _ _ _ _ c.self.invariant.tied c.self.view_is c.class_of.ensures.class).small
 
+pub joined-requires-clause-object : goal.joined-requires-clause-object
+joined-requires-clause-object c = (placed_seen _ _ _ _ _ _ _ c.self.invariant.tied c.self.view_is c.class_of.ensures.class).object
+
 pub joined-requires-clause-place : goal.joined-requires-clause-place
 joined-requires-clause-place c =
     rw c.near_place-place.ensures

@@ -34,3 +34,6 @@ invariant_of-self c = record {
 pub returns : goal.returns
 returns c =
     seen-order _ _ _ _ _ _ _ _ _ c.self.view_is (class_of_rows _ _ _ _ _ c.self.view_is c.class_of.ensures.class) c.near_place-place.ensures c.set_order.ensures
+
+pub set_order-requires-clause-object : goal.set_order-requires-clause-object
+set_order-requires-clause-object c = (placed_seen _ _ _ _ _ _ _ c.self.invariant.tied c.self.view_is c.class_of.ensures.class).object

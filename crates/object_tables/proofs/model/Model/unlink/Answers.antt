@@ -1,7 +1,11 @@
-use Rattle.object_tables.proofs.EditLemmas.{pair_of, pair-far, pair-joined, pair-tied_unlink, pair-seen_unlink}
+use Rattle.object_tables.proofs.EditLemmas.{pair_of, pair-near, pair-far, pair-joined, pair-tied_unlink, pair-seen_unlink}
 use Rattle.object_tables.proofs.KeptEdits.{kept_unlinked}
 use Rattle.object_tables.proofs.WholeLemmas.{kept_after}
 use Rattle.object_tables.proofs.model.Model.unlink.Goals as goal
+
+pub part-requires-clause-first_place : goal.part-requires-clause-first_place
+part-requires-clause-first_place c =
+    pair-near _ _ _ _ _ _ _ (pair_of _ _ _ _ _ _ _ _ _ _ c.self.invariant.tied c.self.view_is c.requires.reference c.requires.live c.ends-near.ensures.near c.ends-near.ensures.far)
 
 pub part-requires-clause-second_place : goal.part-requires-clause-second_place
 part-requires-clause-second_place c =
@@ -25,3 +29,9 @@ pub returns : goal.returns
 returns c =
     pair-seen_unlink _ _ _ _ _ _ _ _ _ _ _ c.self.invariant.tied c.self.view_is
     (pair_of _ _ _ _ _ _ _ _ _ _ c.self.invariant.tied c.self.view_is c.requires.reference c.requires.live c.ends-near.ensures.near c.ends-near.ensures.far) c.part.ensures
+
+pub part-requires-clause-first_object : goal.part-requires-clause-first_object
+part-requires-clause-first_object c = (pair_of _ _ _ _ _ _ _ _ _ _ c.self.invariant.tied c.self.view_is c.requires.reference c.requires.live c.ends-near.ensures.near c.ends-near.ensures.far).a_placed.object
+
+pub part-requires-clause-second_object : goal.part-requires-clause-second_object
+part-requires-clause-second_object c = (pair_of _ _ _ _ _ _ _ _ _ _ c.self.invariant.tied c.self.view_is c.requires.reference c.requires.live c.ends-near.ensures.near c.ends-near.ensures.far).b_placed.object
