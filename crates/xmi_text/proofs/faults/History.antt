@@ -184,11 +184,17 @@ fills_whole p b c z e =
     let o = or_parts (nat_lt b p.low) (nat_lt p.high b) r.0 in
     whole_added p p.rest b c z (ltb-false b p.low o.0) (ltb-false p.high b o.1) r.1
 
+none_part : (p : Partial) → None ≡ Some p → ⊥
+none_part p e = cc
+
+some_part : (q p : Partial) → Some q ≡ Some p → q ≡ p
+some_part q p e = cc
+
 -- the bits of a character that is cut
 pub bits_for : (m : Mode) (c : Option Partial) (p : Partial) → Cut c m → Goes m → c ≡ Some p → Takes m × Bits p.rest p.low p.high
 bits_for (modes.Failed f) c p z g e = absurd g
-bits_for m None p z g e = cc
-bits_for m (Some q) p z g e = let same : q ≡ p = cc in (z.0, subst (λ (k : Partial). Bits k.rest k.low k.high) same z.1)
+bits_for m None p z g e = absurd (none_part p e)
+bits_for m (Some q) p z g e = (z.0, subst (λ (k : Partial). Bits k.rest k.low k.high) (some_part q p e) z.1)
 
 first_more : (part : List ℕ) (b x : ℕ) (d : List ℕ) → (part ≡ [] → ⊥) → ((y : ℕ) (e : List ℕ) → part ≡ y ∷ e → 128 ≤ y) → part ++ b ∷ [] ≡ x ∷ d → 128 ≤ x
 first_more [] b x d n f e = absurd (n refl)
@@ -337,20 +343,25 @@ module _ (xs : List ℕ) (b : ℕ) where
 
 -- ---- behind the marks
 
+-- a mark is complete
+abbrev Marks : Ready → Type 0
+Marks ready.Nothing = ⊥
+Marks _ = Unit {0}
+
 cleared_held : (ys : List ℕ) (t : State) (r : Ready) (n : Mode) (c : Option Partial) → (Goes n → (q : Partial) → c ≡ Some q → r ≡ ready.Nothing) → Held ys t n c → Held ys (cleared_by t r) n c
 cleared_held ys t ready.Nothing n c k h = h
 cleared_held ys t ready.Data (modes.Failed f) c k h = tt
 cleared_held ys t ready.Data n None k h = h
-cleared_held ys t ready.Data n (Some q) k h = let e : ready.Data ≡ ready.Nothing = k tt q refl in cc
+cleared_held ys t ready.Data n (Some q) k h = absurd (subst Marks (k tt q refl) tt)
 cleared_held ys t ready.Open (modes.Failed f) c k h = tt
 cleared_held ys t ready.Open n None k h = h
-cleared_held ys t ready.Open n (Some q) k h = let e : ready.Open ≡ ready.Nothing = k tt q refl in cc
+cleared_held ys t ready.Open n (Some q) k h = absurd (subst Marks (k tt q refl) tt)
 cleared_held ys t ready.Empty (modes.Failed f) c k h = tt
 cleared_held ys t ready.Empty n None k h = h
-cleared_held ys t ready.Empty n (Some q) k h = let e : ready.Empty ≡ ready.Nothing = k tt q refl in cc
+cleared_held ys t ready.Empty n (Some q) k h = absurd (subst Marks (k tt q refl) tt)
 cleared_held ys t (ready.Close at) (modes.Failed f) c k h = tt
 cleared_held ys t (ready.Close at) n None k h = h
-cleared_held ys t (ready.Close at) n (Some q) k h = let e : ready.Close at ≡ ready.Nothing = k tt q refl in cc
+cleared_held ys t (ready.Close at) n (Some q) k h = absurd (subst Marks (k tt q refl) tt)
 
 pub cleared_mode : (t : State) (r : Ready) → (cleared_by t r).mode ≡ t.mode
 cleared_mode t ready.Nothing = refl
@@ -378,17 +389,17 @@ goes_or_failed _ = inl tt
 past_of : (xs : List ℕ) (s : State) (m : Mode) (c : Option Partial) → Held xs s m c → Goes m → c ≡ None → Since xs s.elements s.rooted m
 past_of xs s (modes.Failed f) c h g e = absurd g
 past_of xs s m None h g e = h
-past_of xs s m (Some p) h g e = cc
+past_of xs s m (Some p) h g e = absurd (none_part p (sym e))
 
 pub cut_of : (xs : List ℕ) (s : State) (m : Mode) (c : Option Partial) (p : Partial) → Held xs s m c → Goes m → c ≡ Some p → Cutting xs s p
 cut_of xs s (modes.Failed f) c p h g e = absurd g
-cut_of xs s m None p h g e = cc
-cut_of xs s m (Some q) p h g e = let same : q ≡ p = cc in subst (Cutting xs s) same h
+cut_of xs s m None p h g e = absurd (none_part p e)
+cut_of xs s m (Some q) p h g e = subst (Cutting xs s) (some_part q p e) h
 
 grew_of : (s : State) (at b : ℕ) (m : Mode) (t : State) (c : Option Partial) (n : Mode) (q : Partial) → Came s at b m t c n → Goes n → c ≡ Some q → Grew s at b t q
 grew_of s at b m t c (modes.Failed f) q h g e = absurd g
-grew_of s at b m t None n q h g e = cc
-grew_of s at b m t (Some p) n q h g e = let same : p ≡ q = cc in subst (Grew s at b t) same h
+grew_of s at b m t None n q h g e = absurd (none_part q e)
+grew_of s at b m t (Some p) n q h g e = subst (Grew s at b t) (some_part p q e) h
 
 one_more : (xs : List ℕ) (b : ℕ) → Goes (state_of xs).mode → IsHeld xs (state_of xs) → IsHeld (xs ++ b ∷ []) (state_of (xs ++ b ∷ []))
 one_more xs b g h =
@@ -446,8 +457,8 @@ none_failed f e = cc
 
 reason_of : (s : State) (at b : ℕ) (m : Mode) (t : State) (c : Option Partial) (n : Mode) (f : TextFault) → Came s at b m t c n → n ≡ modes.Failed f → Reason s at b m f.kind f.at
 reason_of s at b m t c (modes.Failed g) f h e = let same : g ≡ f = cc in subst (λ (k : TextFault). Reason s at b m k.kind k.at) same h
-reason_of s at b m t None n f h e = cc
-reason_of s at b m t (Some q) n f h e = cc
+reason_of s at b m t None n f h e = absurd (subst Goes e tt)
+reason_of s at b m t (Some q) n f h e = absurd (subst Goes e tt)
 
 first_here : (bytes : List ℕ) (f : TextFault) (n : ℕ) → n < length bytes → Goes (state_of (take n bytes)).mode → fault_of (take (n + 1) bytes) ≡ Some f → Failing bytes f
 unfolding fault_of
