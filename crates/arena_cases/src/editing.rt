@@ -59,23 +59,21 @@ pub fn reverse(alloc: Global, arena: &mut Arena, end: u32) -> Result<(), AllocEr
     Ok(())
 }
 
-/// An arena whose ends stand in a ring, each joined to the next one and to the seventh.
-pub fn ring(alloc: Global, count: u32) -> Result<Arena, AllocError> {
-    let mut arena = with_ends(alloc, count)?;
+/// Joins the ends of an arena that has so many in a ring: each to the next one and to the seventh.
+pub fn join_ring(arena: &mut Arena, count: u32) -> Result<(), AllocError> {
     for end in 0..count {
         let next = (u64::from(end) + 1) % u64::from(count);
         let seventh = (u64::from(end) + 7) % u64::from(count);
-        join(&mut arena, end, next as u32)?;
-        join(&mut arena, end, seventh as u32)?;
+        join(arena, end, next as u32)?;
+        join(arena, end, seventh as u32)?;
     }
-    Ok(arena)
+    Ok(())
 }
 
-/// An arena whose end 0 is joined to each other one.
-pub fn star(alloc: Global, count: u32) -> Result<Arena, AllocError> {
-    let mut arena = with_ends(alloc, count)?;
+/// Joins end 0 of an arena that has so many ends to each other one.
+pub fn join_star(arena: &mut Arena, count: u32) -> Result<(), AllocError> {
     for end in 1..count {
-        join(&mut arena, 0, end)?;
+        join(arena, 0, end)?;
     }
-    Ok(arena)
+    Ok(())
 }

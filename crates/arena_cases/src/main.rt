@@ -22,15 +22,32 @@ mod editing;
 mod session;
 
 use session::Session;
-use std::io;
+use std::io::{self, ErrorKind};
 
-fn main(rt: HostRuntime) -> io::Result<()> {
-    let mut session = Session::new(rt.alloc());
-    for line in rt.lines(rt.alloc()) {
-        let line = line?;
-        if let Some(text) = session.answer(line.as_str())? {
-            println!(rt; "{line} => {text}")?;
-        }
+/// Gives a line to a session, and prints it again with its answer, if it has one.
+fn print_line(rt: &impl Print, session: &mut Session, line: &str) -> io::Result<()> {
+    let mut answer = session.no_answer();
+    let printed = match session.answer(&mut answer, line) {
+        Ok(true) => println!(rt; "{line} => {answer}"),
+        Ok(false) => Ok(()),
+        Err(_) => Err(io::Error::from(ErrorKind::OutOfMemory)),
+    };
+    drop(answer);
+    printed
+}
+
+fn print_lines(rt: &impl Print, session: &mut Session, lines: &str) -> io::Result<()> {
+    for line in lines.lines() {
+        print_line(rt, session, line)?;
     }
     Ok(())
+}
+
+fn main(rt: HostRuntime) -> io::Result<()> {
+    let cases = io::read_to_string(rt.alloc(), rt.reader())?;
+    let mut session = Session::new(rt.alloc());
+    let printed = print_lines(&rt, &mut session, cases.as_str());
+    drop(session);
+    drop(cases);
+    printed
 }

@@ -1,4 +1,4 @@
-use crate::editing::{join, part, part_all, reverse, ring, star, with_ends};
+use crate::editing::{join, join_ring, join_star, part, part_all, reverse, with_ends};
 use link_arena::Arena;
 use std::alloc::{AllocError, Global};
 
@@ -23,18 +23,22 @@ fn number(word: &str) -> u32 {
     word.parse::<u32>().unwrap_or(0)
 }
 
-/// How many ends an end is joined to, and which.
-fn others_text(alloc: Global, arena: &Arena, end: u32) -> Result<String, AllocError> {
+/// Writes how many ends an end is joined to, and which.
+fn put_others(text: &mut String, arena: &Arena, end: u32) -> Result<(), AllocError> {
     if end >= arena.end_count() {
-        return String::from_str(alloc, "no such end");
+        return text.push_str("no such end");
     }
     let degree = arena.degree(end);
-    let mut text = format!(in alloc; "{degree}:")?;
+    write!(text, "{degree}:")?;
     for other in arena.others(end) {
-        let word = format!(in alloc; " {other}")?;
-        text.push_str(word.as_str())?;
+        write!(text, " {other}")?;
     }
-    Ok(text)
+    Ok(())
+}
+
+/// Puts another arena in place of one, which is let go here alone.
+fn put(place: &mut Arena, arena: Arena) {
+    *place = arena;
 }
 
 impl Session {
@@ -46,40 +50,75 @@ impl Session {
         }
     }
 
-    /// What a line comes to: nothing, or an answer.
-    pub fn answer(&mut self, line: &str) -> Result<Option<String>, AllocError> {
+    /// An answer with nothing written.
+    pub fn no_answer(&self) -> String {
+        String::new(self.alloc)
+    }
+
+    /// Does what a line says, writes its answer, and says whether it has one.
+    pub fn answer(&mut self, text: &mut String, line: &str) -> Result<bool, AllocError> {
         let (verb, rest) = split_word(line);
         let (first, second) = split_word(rest);
         match verb {
             "ends?" => {
                 let count = self.arena.end_count();
-                Ok(Some(format!(in self.alloc; "{count}")?))
+                write!(text, "{count}")?;
             }
-            "others" => Ok(Some(others_text(self.alloc, &self.arena, number(first))?)),
-            "others_in_copy" => Ok(Some(others_text(self.alloc, &self.copy, number(first))?)),
+            "others" => put_others(text, &self.arena, number(first))?,
+            "others_in_copy" => put_others(text, &self.copy, number(first))?,
             _ => {
                 self.edit(verb, number(first), number(second))?;
-                Ok(None)
+                return Ok(false);
             }
         }
+        Ok(true)
+    }
+
+    /// Begins an arena with so many ends.
+    fn begin(&mut self, count: u32) -> Result<(), AllocError> {
+        put(&mut self.arena, with_ends(self.alloc, count)?);
+        Ok(())
+    }
+
+    fn begin_ring(&mut self, count: u32) -> Result<(), AllocError> {
+        self.begin(count)?;
+        join_ring(&mut self.arena, count)
+    }
+
+    fn begin_star(&mut self, count: u32) -> Result<(), AllocError> {
+        self.begin(count)?;
+        join_star(&mut self.arena, count)
+    }
+
+    fn keep_copy(&mut self) -> Result<(), AllocError> {
+        put(&mut self.copy, self.arena.duplicate(self.alloc)?);
+        Ok(())
     }
 
     /// Does what a line says that asks for nothing.
     fn edit(&mut self, verb: &str, first: u32, second: u32) -> Result<(), AllocError> {
         match verb {
-            "ends" => self.arena = with_ends(self.alloc, first)?,
-            "ring" => self.arena = ring(self.alloc, first)?,
-            "star" => self.arena = star(self.alloc, first)?,
-            "join" => join(&mut self.arena, first, second)?,
+            "ends" => self.begin(first),
+            "ring" => self.begin_ring(first),
+            "star" => self.begin_star(first),
+            "join" => join(&mut self.arena, first, second),
+            "reverse" => reverse(self.alloc, &mut self.arena, first),
+            "copy" => self.keep_copy(),
+            _ => {
+                self.take_apart(verb, first, second);
+                Ok(())
+            }
+        }
+    }
+
+    fn take_apart(&mut self, verb: &str, first: u32, second: u32) {
+        match verb {
             "part" => part(&mut self.arena, first, second),
             "part_all" => part_all(&mut self.arena, first),
             "part_evens" => self.part_evens(),
             "part_from" => self.part_from(first, second),
-            "reverse" => reverse(self.alloc, &mut self.arena, first)?,
-            "copy" => self.copy = self.arena.duplicate(self.alloc)?,
             _ => {}
         }
-        Ok(())
     }
 
     fn part_evens(&mut self) {

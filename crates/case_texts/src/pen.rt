@@ -25,14 +25,21 @@ impl Pen {
         }
     }
 
+    /// Writes a character.
+    pub fn put_char(&mut self, c: char) {
+        if self.text.push(c).is_err() {
+            self.is_whole = false;
+        }
+    }
+
     /// Writes a piece on one line: a control character and `%` as `%` and two hexadecimal digits.
     pub fn put_on_line(&mut self, alloc: Global, piece: &str) {
         for c in piece.chars() {
             if c < ' ' || c == '%' || c == '\u{7f}' {
                 let code = u32::from(c);
                 self.put_string(&format!(in alloc; "%{code:02x}"));
-            } else if self.text.push(c).is_err() {
-                self.is_whole = false;
+            } else {
+                self.put_char(c);
             }
         }
     }

@@ -1,65 +1,76 @@
+use case_texts::Pen;
 use model_building::described;
-use mof_metamodel::{MetaError, MetaModel, NoMemory};
-use std::alloc::{AllocError, Global};
+use mof_metamodel::{MetaError, MetaFault, MetaModel, NoMemory, Text};
+use std::alloc::Global;
 
 /// What becomes of a description.
-pub(crate) fn description_answer(alloc: Global, line: &str) -> Result<String, NoMemory> {
-    let text = expanded(alloc, line)?;
-    match MetaModel::new(alloc, described(alloc, text.as_str())?) {
+pub(crate) fn description_answer(alloc: Global, line: &str) -> Result<Text, NoMemory> {
+    match made(alloc, line)? {
         Ok(meta) => {
             drop(meta);
-            Ok(String::from_str(alloc, "accepted")?)
+            Text::new(alloc, "accepted")
         }
-        Err(MetaError::Fault(fault)) => {
-            let kind = fault.kind.word();
-            match fault.name.as_str() {
-                "" => Ok(format!(in alloc; "{kind}")?),
-                name => Ok(format!(in alloc; "{kind} {name}")?),
-            }
-        }
+        Err(fault) => fault_text(alloc, &fault),
+    }
+}
+
+fn fault_text(alloc: Global, fault: &MetaFault) -> Result<Text, NoMemory> {
+    let mut pen = Pen::new(alloc)?;
+    pen.put(fault.kind.word());
+    if !fault.name.as_str().is_empty() {
+        pen.put(" ");
+        pen.put(fault.name.as_str());
+    }
+    pen.written()
+}
+
+/// The metamodel of a description, or its first fault.
+pub(crate) fn made(alloc: Global, line: &str) -> Result<Result<MetaModel, MetaFault>, NoMemory> {
+    let text = expanded(alloc, line)?;
+    match MetaModel::new(alloc, described(alloc, text.as_str())?) {
+        Ok(meta) => Ok(Ok(meta)),
+        Err(MetaError::Fault(fault)) => Ok(Err(fault)),
         Err(MetaError::NoMemory) => Err(NoMemory),
     }
 }
 
 /// The description with what it repeats written out.
-pub(crate) fn expanded(alloc: Global, text: &str) -> Result<String, AllocError> {
-    let mut out = String::new(alloc);
+fn expanded(alloc: Global, text: &str) -> Result<Text, NoMemory> {
+    let mut pen = Pen::new(alloc)?;
     let mut pieces = text.split('[');
     if let Some(first) = pieces.next() {
-        out.push_str(first)?;
+        pen.put(first);
     }
     for piece in pieces {
-        push_repeated(&mut out, piece)?;
+        put_repeated(alloc, &mut pen, piece);
     }
-    Ok(out)
+    pen.written()
 }
 
 /// Writes out `4096 times PIECE]`, and what stands behind it.
-fn push_repeated(out: &mut String, text: &str) -> Result<(), AllocError> {
+fn put_repeated(alloc: Global, pen: &mut Pen, text: &str) {
     let (repeated, rest) = text.split_once(']').unwrap_or((text, ""));
     let (count, piece) = repeated.split_once(" times ").unwrap_or(("0", ""));
     for number in 0..count.parse().unwrap_or(0) {
-        push_piece(out, piece, number)?;
+        put_piece(alloc, pen, piece, number);
     }
-    out.push_str(rest)
+    pen.put(rest);
 }
 
-fn push_piece(out: &mut String, piece: &str, number: u32) -> Result<(), AllocError> {
+fn put_piece(alloc: Global, pen: &mut Pen, piece: &str, number: u32) {
     for c in piece.chars() {
         match c {
-            '%' => write!(out, "{number:08}")?,
-            '^' => write!(out, "{:08}", u64::from(number) + 1)?,
-            '~' => push_earlier(out, number)?,
-            _ => out.push(c)?,
+            '%' => pen.put_string(&format!(in alloc; "{number:08}")),
+            '^' => pen.put_string(&format!(in alloc; "{:08}", u64::from(number) + 1)),
+            '~' => put_earlier(alloc, pen, number),
+            _ => pen.put_char(c),
         }
     }
-    Ok(())
 }
 
 /// The names of all classes before.
-fn push_earlier(out: &mut String, number: u32) -> Result<(), AllocError> {
+fn put_earlier(alloc: Global, pen: &mut Pen, number: u32) {
     for earlier in 0..number {
-        write!(out, " C{earlier:08}")?;
+        pen.put_string(&format!(in alloc; " C{earlier:08}"));
     }
-    Ok(())
 }

@@ -18,17 +18,21 @@ mod printing;
 mod script;
 mod session;
 
-use crate::descriptions::{description_answer, expanded};
+use crate::descriptions::{description_answer, made};
 use crate::session::Session;
-use model_building::described;
-use mof_metamodel::{MetaModel, NoMemory};
+use mof_metamodel::{MetaModel, NoMemory, Text};
 use std::alloc::Global;
 use std::io::{self, ErrorKind};
 
-/// An answer, or that memory ran out as an error of the program.
-fn given(answer: Result<String, NoMemory>) -> io::Result<String> {
+/// Prints a case and its answer. Want of memory ends the program.
+fn print_answer(rt: &impl Print, line: &str, answer: Result<Text, NoMemory>) -> io::Result<()> {
     match answer {
-        Ok(text) => Ok(text),
+        Ok(text) => {
+            let answer = text.as_str();
+            let printed = println!(rt; "{line} => {answer}");
+            drop(text);
+            printed
+        }
         Err(_) => Err(io::Error::from(ErrorKind::OutOfMemory)),
     }
 }
@@ -38,8 +42,7 @@ fn print_descriptions(rt: &impl Print, alloc: Global, lines: &str) -> io::Result
         if line.starts_with('#') {
             println!(rt; "{line}")?;
         } else {
-            let answer = given(description_answer(alloc, line))?;
-            println!(rt; "{line} => {answer}")?;
+            print_answer(rt, line, description_answer(alloc, line))?;
         }
     }
     Ok(())
@@ -56,17 +59,10 @@ fn print_commands(
         if line.starts_with('#') {
             println!(rt; "{line}")?;
         } else {
-            let answer = given(session.answer(alloc, line))?;
-            println!(rt; "{line} => {answer}")?;
+            print_answer(rt, line, session.answer(alloc, line))?;
         }
     }
     Ok(())
-}
-
-/// The metamodel of a description, or nothing where it has a fault.
-fn made(alloc: Global, description: &str) -> Result<Option<MetaModel>, NoMemory> {
-    let text = expanded(alloc, description)?;
-    Ok(MetaModel::new(alloc, described(alloc, text.as_str())?).ok())
 }
 
 /// Prints the commands to a model of the metamodel of a description, with their answers.
@@ -78,17 +74,20 @@ fn print_known(
     lines: &str,
 ) -> io::Result<()> {
     println!(rt; "metamodel {description}")?;
-    print_commands(rt, alloc, &mut Session::new(alloc, meta), lines)
+    let mut session = Session::new(alloc, meta);
+    let printed = print_commands(rt, alloc, &mut session, lines);
+    drop(session);
+    printed
 }
 
 fn print_session(rt: &impl Print, alloc: Global, description: &str, lines: &str) -> io::Result<()> {
     match made(alloc, description) {
-        Ok(Some(meta)) => {
+        Ok(Ok(meta)) => {
             let printed = print_known(rt, alloc, description, &meta, lines);
             drop(meta);
             printed
         }
-        Ok(None) => println!(rt; "metamodel {description} => fault"),
+        Ok(Err(_)) => println!(rt; "metamodel {description} => fault"),
         Err(_) => Err(io::Error::from(ErrorKind::OutOfMemory)),
     }
 }
@@ -104,12 +103,17 @@ fn print_block(rt: &impl Print, alloc: Global, block: &str) -> io::Result<()> {
     }
 }
 
-fn main(rt: HostRuntime) -> io::Result<()> {
-    let alloc = rt.alloc();
-    let text = io::read_to_string(alloc, rt.reader())?;
-    for block in text.as_str().trim_end().split("\n\n") {
-        print_block(&rt, alloc, block)?;
+fn print_blocks(rt: &impl Print, alloc: Global, text: &str) -> io::Result<()> {
+    for block in text.trim_end().split("\n\n") {
+        print_block(rt, alloc, block)?;
         println!(rt; "")?;
     }
     Ok(())
+}
+
+fn main(rt: HostRuntime) -> io::Result<()> {
+    let text = io::read_to_string(rt.alloc(), rt.reader())?;
+    let printed = print_blocks(&rt, rt.alloc(), text.as_str());
+    drop(text);
+    printed
 }

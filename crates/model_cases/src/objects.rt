@@ -1,121 +1,97 @@
 ghost use Rattle.object_tables.specs.Models.{IsLive, IsReferenceOf, IsAttributeOf};
 
+use case_texts::Pen;
 use mof_metamodel::{EnumId, MetaModel, PropId};
 use object_tables::{Model, ObjId, Value};
-use std::alloc::{AllocError, Global};
+use std::alloc::Global;
 
 /// What the reading calls say of the objects of a model, a line for each in the order of their numbers: identifier, class, container
 /// with the property, and what stands at each property at which something stands, in class order.
-pub(crate) fn printed_objects(alloc: Global, model: &Model<'_>) -> Result<String, AllocError> {
-    let mut out = String::new(alloc);
+pub(crate) fn print_objects(alloc: Global, pen: &mut Pen, model: &Model<'_>) {
     for o in 0..model.end() {
         if model.is_live(ObjId(o)) {
-            out.push_str("\n  ")?;
-            print_object(&mut out, model, ObjId(o))?;
+            pen.put("\n  ");
+            print_object(alloc, pen, model, ObjId(o));
         }
     }
-    Ok(out)
 }
 
 /// The same of one object.
-pub(crate) fn print_object(out: &mut String, model: &Model<'_>, o: ObjId) -> Result<(), AllocError>
+pub(crate) fn print_object(alloc: Global, pen: &mut Pen, model: &Model<'_>, o: ObjId)
     requires { IsLive model.now o.0 }
 {
-    out.push_str(model.id_of(o))?;
-    out.push(' ')?;
+    pen.put(model.id_of(o));
+    pen.put(" ");
     let class = model.class_of(o);
-    out.push_str(model.meta().class_name(class))?;
-    print_container(out, model, o)?;
+    pen.put(model.meta().class_name(class));
+    print_container(pen, model, o);
     for p in model.meta().props(class) {
         let name = model.meta().prop(*p).name.as_str();
-        print_slot(out, model, o, *p, name)?;
+        print_slot(alloc, pen, model, o, *p, name);
     }
-    Ok(())
 }
 
-fn print_container(out: &mut String, model: &Model<'_>, o: ObjId) -> Result<(), AllocError>
+fn print_container(pen: &mut Pen, model: &Model<'_>, o: ObjId)
     requires { IsLive model.now o.0 }
 {
     if let Some((a, p)) = model.container(o) {
-        out.push_str(" in ")?;
-        out.push_str(id_of(model, a))?;
-        out.push('.')?;
-        out.push_str(prop_name(model, a, p))?;
+        pen.put(" in ");
+        pen.put(id_of(model, a));
+        pen.put(".");
+        pen.put(prop_name(model, a, p));
     }
-    Ok(())
 }
 
-fn print_slot(
-    out: &mut String,
-    model: &Model<'_>,
-    o: ObjId,
-    p: PropId,
-    name: &str,
-) -> Result<(), AllocError> {
+fn print_slot(alloc: Global, pen: &mut Pen, model: &Model<'_>, o: ObjId, p: PropId, name: &str) {
     if model.has_reference(o, p) {
-        return print_partners(out, model, o, p, name);
+        print_partners(pen, model, o, p, name);
+    } else if model.has_attribute(o, p) {
+        print_values(alloc, pen, model, o, p, name);
     }
-    if model.has_attribute(o, p) {
-        return print_values(out, model, o, p, name);
-    }
-    Ok(())
 }
 
 /// Puts a name in front of the first of several words, and a comma in front of each other one.
-fn print_head(out: &mut String, name: &str, is_first: bool) -> Result<(), AllocError> {
-    if !is_first {
-        return out.push(',');
+fn print_head(pen: &mut Pen, name: &str, is_first: bool) {
+    if is_first {
+        pen.put(" ");
+        pen.put(name);
+        pen.put("=");
+    } else {
+        pen.put(",");
     }
-    out.push(' ')?;
-    out.push_str(name)?;
-    out.push('=')
 }
 
-fn print_partners(
-    out: &mut String,
-    model: &Model<'_>,
-    o: ObjId,
-    p: PropId,
-    name: &str,
-) -> Result<(), AllocError>
+fn print_partners(pen: &mut Pen, model: &Model<'_>, o: ObjId, p: PropId, name: &str)
     requires { IsReferenceOf model.now o.0 p.0 }
 {
     let mut is_first = true;
     for b in model.partners(o, p) {
-        print_head(out, name, is_first)?;
-        out.push_str(id_of(model, b))?;
+        print_head(pen, name, is_first);
+        pen.put(id_of(model, b));
         is_first = false;
     }
-    Ok(())
 }
 
-fn print_values(
-    out: &mut String,
-    model: &Model<'_>,
-    o: ObjId,
-    p: PropId,
-    name: &str,
-) -> Result<(), AllocError>
+fn print_values(alloc: Global, pen: &mut Pen, model: &Model<'_>, o: ObjId, p: PropId, name: &str)
     requires { IsAttributeOf model.now o.0 p.0 }
 {
     let mut is_first = true;
     for value in model.attr(o, p) {
-        print_head(out, name, is_first)?;
-        print_value(out, model.meta(), value)?;
+        print_head(pen, name, is_first);
+        print_value(alloc, pen, model.meta(), value);
         is_first = false;
     }
-    Ok(())
 }
 
-fn print_value(out: &mut String, meta: &MetaModel, value: &Value) -> Result<(), AllocError> {
+fn print_value(alloc: Global, pen: &mut Pen, meta: &MetaModel, value: &Value) {
     match value {
         Value::Str(text) => {
-            out.push('\'')?;
-            out.push_str(text.as_str())
+            pen.put("'");
+            pen.put(text.as_str());
         }
-        Value::Int(i) => write!(out, "{i}"),
-        Value::Bool(b) => write!(out, "{b}"),
-        Value::Lit(e, n) => out.push_str(literal_name(meta, *e, *n)),
+        Value::Int(i) => pen.put_string(&format!(in alloc; "{i}")),
+        Value::Bool(b) => pen.put(if *b { "true" } else { "false" }),
+        Value::Lit(e, n) => pen.put(literal_name(meta, *e, *n)),
     }
 }
 

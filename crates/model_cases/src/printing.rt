@@ -1,143 +1,143 @@
 ghost use Rattle.std.specs.Prelude.{◌<◌};
 ghost use Rattle.mof_metamodel.specs.Metamodels.{class_count, enum_count, prop_count};
 
+use case_texts::Pen;
 use mof_metamodel::{ClassId, EnumId, MetaModel, Prop, PropId, PropType};
-use std::alloc::{AllocError, Global};
+use std::alloc::Global;
 
 /// What the reading calls say of a metamodel. Its name stands first, and then a line for each class: whether it is abstract, its
 /// name, its superclasses behind `<`, the classes that it conforms to behind `is`, and its properties in class order behind `has`.
 /// Lines for the properties that it owns follow, in the form of a description with all bounds, and at the end the enumerations.
-pub(crate) fn printed(alloc: Global, meta: &MetaModel) -> Result<String, AllocError> {
-    let mut out = String::from_str(alloc, meta.name())?;
+pub(crate) fn print_metamodel(alloc: Global, pen: &mut Pen, meta: &MetaModel) {
+    pen.put(meta.name());
     for c in 0..meta.class_count() {
-        print_class(&mut out, meta, ClassId(c))?;
+        print_class(alloc, pen, meta, ClassId(c));
     }
     for e in 0..meta.enum_count() {
-        print_enum(&mut out, meta, EnumId(e))?;
+        print_enum(pen, meta, EnumId(e));
     }
-    Ok(out)
 }
 
-fn print_class(out: &mut String, meta: &MetaModel, c: ClassId) -> Result<(), AllocError>
+fn print_class(alloc: Global, pen: &mut Pen, meta: &MetaModel, c: ClassId)
     requires { c.0 < class_count meta.now }
 {
-    out.push_str(if meta.is_abstract(c) {
+    pen.put(if meta.is_abstract(c) {
         "\n  abstract "
     } else {
         "\n  class "
-    })?;
-    out.push_str(meta.class_name(c))?;
-    print_supers(out, meta, c)?;
-    print_conforming(out, meta, c)?;
-    print_props(out, meta, c)?;
-    print_own(out, meta, c)
+    });
+    pen.put(meta.class_name(c));
+    print_supers(pen, meta, c);
+    print_conforming(pen, meta, c);
+    print_props(pen, meta, c);
+    print_own(alloc, pen, meta, c);
 }
 
-fn print_supers(out: &mut String, meta: &MetaModel, c: ClassId) -> Result<(), AllocError>
+fn print_supers(pen: &mut Pen, meta: &MetaModel, c: ClassId)
     requires { c.0 < class_count meta.now }
 {
     for s in meta.supers(c) {
-        out.push_str(" < ")?;
-        out.push_str(class_name(meta, *s))?;
+        pen.put(" < ");
+        pen.put(class_name(meta, *s));
     }
-    Ok(())
 }
 
-fn print_conforming(out: &mut String, meta: &MetaModel, c: ClassId) -> Result<(), AllocError>
+fn print_conforming(pen: &mut Pen, meta: &MetaModel, c: ClassId)
     requires { c.0 < class_count meta.now }
 {
-    out.push_str(" is")?;
+    pen.put(" is");
     for d in 0..meta.class_count() {
         if meta.conforms(c, ClassId(d)) {
-            out.push(' ')?;
-            out.push_str(class_name(meta, ClassId(d)))?;
+            pen.put(" ");
+            pen.put(class_name(meta, ClassId(d)));
         }
     }
-    Ok(())
 }
 
-fn print_props(out: &mut String, meta: &MetaModel, c: ClassId) -> Result<(), AllocError>
+fn print_props(pen: &mut Pen, meta: &MetaModel, c: ClassId)
     requires { c.0 < class_count meta.now }
 {
-    out.push_str(" has")?;
+    pen.put(" has");
     for p in meta.props(c) {
         let prop = meta.prop(*p);
-        out.push(' ')?;
-        out.push_str(class_name(meta, prop.owner))?;
-        out.push('.')?;
-        out.push_str(prop.name.as_str())?;
+        pen.put(" ");
+        pen.put(class_name(meta, prop.owner));
+        pen.put(".");
+        pen.put(prop.name.as_str());
     }
-    Ok(())
 }
 
-fn print_own(out: &mut String, meta: &MetaModel, c: ClassId) -> Result<(), AllocError>
+fn print_own(alloc: Global, pen: &mut Pen, meta: &MetaModel, c: ClassId)
     requires { c.0 < class_count meta.now }
 {
     for p in meta.props(c) {
         let prop = meta.prop(*p);
         if prop.owner == c {
-            print_prop(out, meta, prop)?;
+            print_prop(alloc, pen, meta, prop);
         }
     }
-    Ok(())
 }
 
-fn print_prop(out: &mut String, meta: &MetaModel, prop: &Prop) -> Result<(), AllocError> {
-    let lower = prop.lower;
-    let name = prop.name.as_str();
-    let type_name = type_name(meta, prop.ty);
-    write!(out, "\n    {name} : {type_name} {lower}..")?;
-    match prop.upper {
-        Some(upper) => write!(out, "{upper}")?,
-        None => out.push('*')?,
-    }
+fn print_prop(alloc: Global, pen: &mut Pen, meta: &MetaModel, prop: &Prop) {
+    pen.put("\n    ");
+    pen.put(prop.name.as_str());
+    pen.put(" : ");
+    pen.put(type_name(meta, prop.ty));
+    pen.put(" ");
+    print_bounds(alloc, pen, prop.lower, prop.upper);
     if prop.composite {
-        out.push_str(" composite")?;
+        pen.put(" composite");
     }
     if prop.ordered {
-        out.push_str(" ordered")?;
+        pen.put(" ordered");
     }
-    print_opposite(out, meta, prop)
+    print_opposite(pen, meta, prop);
+}
+
+/// Bounds, as `0..*`.
+pub(crate) fn print_bounds(alloc: Global, pen: &mut Pen, lower: u32, upper: Option<u32>) {
+    pen.put_string(&format!(in alloc; "{lower}.."));
+    match upper {
+        Some(upper) => pen.put_string(&format!(in alloc; "{upper}")),
+        None => pen.put("*"),
+    }
 }
 
 /// The opposite of a property is a property of its type.
-fn print_opposite(out: &mut String, meta: &MetaModel, prop: &Prop) -> Result<(), AllocError> {
+fn print_opposite(pen: &mut Pen, meta: &MetaModel, prop: &Prop) {
     if let Some(q) = prop.opposite
         && let PropType::Class(c) = prop.ty
         && c.0 < meta.class_count()
     {
-        out.push(' ')?;
-        return print_named(out, meta, c, q);
+        pen.put(" ");
+        print_named(pen, meta, c, q);
     }
-    Ok(())
 }
 
 /// A property of a class with the class that owns it.
-fn print_named(out: &mut String, meta: &MetaModel, c: ClassId, p: PropId) -> Result<(), AllocError>
+fn print_named(pen: &mut Pen, meta: &MetaModel, c: ClassId, p: PropId)
     requires { c.0 < class_count meta.now }
 {
     for q in meta.props(c) {
         if *q == p {
             let prop = meta.prop(*q);
-            out.push_str(class_name(meta, prop.owner))?;
-            out.push('.')?;
-            out.push_str(prop.name.as_str())?;
+            pen.put(class_name(meta, prop.owner));
+            pen.put(".");
+            pen.put(prop.name.as_str());
         }
     }
-    Ok(())
 }
 
-fn print_enum(out: &mut String, meta: &MetaModel, e: EnumId) -> Result<(), AllocError>
+fn print_enum(pen: &mut Pen, meta: &MetaModel, e: EnumId)
     requires { e.0 < enum_count meta.now }
 {
-    out.push_str("\n  enum ")?;
-    out.push_str(meta.enum_name(e))?;
-    out.push_str(" =")?;
+    pen.put("\n  enum ");
+    pen.put(meta.enum_name(e));
+    pen.put(" =");
     for literal in meta.literals(e) {
-        out.push(' ')?;
-        out.push_str(literal.as_str())?;
+        pen.put(" ");
+        pen.put(literal.as_str());
     }
-    Ok(())
 }
 
 fn class_name(meta: &MetaModel, c: ClassId) -> &str {

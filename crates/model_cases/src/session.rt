@@ -1,14 +1,15 @@
 ghost use Rattle.std.specs.Prelude.{IfSome};
 ghost use Rattle.mof_metamodel.specs.Tables.{IsPropOf};
 
-use crate::breaches::{printed_breach, printed_cycle, printed_depth, printed_greatest};
-use crate::objects::{print_object, printed_objects};
-use crate::printing::printed;
+use crate::breaches::{print_cycle, print_depth, print_first_breach, print_greatest_depth};
+use crate::objects::{print_object, print_objects};
+use crate::printing::{print_bounds, print_metamodel};
 use crate::script::{Command, edited, words};
+use case_texts::Pen;
 use model_building::Editor;
-use mof_metamodel::{ClassId, MetaModel, NoMemory, PropId};
+use mof_metamodel::{MetaModel, NoMemory, PropId, Text, or_drop};
 use object_tables::Model;
-use std::alloc::{AllocError, Global};
+use std::alloc::Global;
 use std::mem;
 
 /// A model that commands are given to, and another one that is put aside.
@@ -40,104 +41,125 @@ impl<'m> Session<'m> {
     ///   was put aside.
     /// - `metamodel` prints the metamodel, `named x` the class and the enumeration of a name, `property C x` a property of a
     ///   class with its bounds and its opposite.
-    pub(crate) fn answer(&mut self, alloc: Global, line: &str) -> Result<String, NoMemory> {
-        let c = words(line);
+    pub(crate) fn answer(&mut self, alloc: Global, line: &str) -> Result<Text, NoMemory> {
+        let mut pen = Pen::new(alloc)?;
+        or_drop!(self.print_answer(alloc, &mut pen, &words(line)); pen);
+        pen.written()
+    }
+
+    fn print_answer(
+        &mut self,
+        alloc: Global,
+        pen: &mut Pen,
+        c: &Command<'_>,
+    ) -> Result<(), NoMemory> {
+        let model = self.editor.model();
         match c.verb {
-            "new" => self.change(alloc, Editor::new(alloc, self.meta)),
-            "copy" => {
-                let copy = Editor::of(self.editor.model().duplicate(alloc)?);
-                self.change(alloc, copy)
+            "copy" => self.go_on_with_copy(alloc, pen),
+            "depth" => print_depth_of(alloc, pen, model, c.object),
+            "greatest" => print_greatest_depth(alloc, pen, model),
+            "validity" => print_first_breach(alloc, pen, model),
+            "cycle" => print_cycle(alloc, pen, model),
+            _ => {
+                self.print_plain_answer(alloc, pen, c);
+                Ok(())
             }
-            "other" => {
-                mem::swap(&mut self.editor, &mut self.other);
-                Ok(String::from_str(alloc, "ok")?)
-            }
-            "metamodel" => Ok(printed(alloc, self.meta)?),
-            "named" => Ok(named(alloc, self.meta, c.object)?),
-            "property" => Ok(property(alloc, self.meta, &c)?),
-            _ => self.answer_of_model(alloc, &c),
         }
+    }
+
+    /// Prints the answer to a command for which memory reaches, but for its text.
+    fn print_plain_answer(&mut self, alloc: Global, pen: &mut Pen, c: &Command<'_>) {
+        match c.verb {
+            "new" => self.change(Editor::new(alloc, self.meta), pen),
+            "other" => self.change_back(pen),
+            "metamodel" => print_metamodel(alloc, pen, self.meta),
+            "named" => print_named(alloc, pen, self.meta, c.object),
+            "property" => print_property(alloc, pen, self.meta, c),
+            "show" => print_known(alloc, pen, self.editor.model(), c.object),
+            "objects" => print_objects(alloc, pen, self.editor.model()),
+            "number" => print_number(alloc, pen, self.editor.model(), c.object),
+            "count" => print_count(alloc, pen, self.editor.model()),
+            _ => pen.put(edited(alloc, &mut self.editor, c)),
+        }
+    }
+
+    fn go_on_with_copy(&mut self, alloc: Global, pen: &mut Pen) -> Result<(), NoMemory> {
+        let copy = Editor::of(self.editor.model().duplicate(alloc)?);
+        self.change(copy, pen);
+        Ok(())
+    }
+
+    fn change_back(&mut self, pen: &mut Pen) {
+        mem::swap(&mut self.editor, &mut self.other);
+        pen.put("ok");
     }
 
     /// Puts the model aside, and goes on with another one.
-    fn change(&mut self, alloc: Global, editor: Editor<'m>) -> Result<String, NoMemory> {
+    fn change(&mut self, editor: Editor<'m>, pen: &mut Pen) {
         self.other = mem::replace(&mut self.editor, editor);
-        Ok(String::from_str(alloc, "ok")?)
+        pen.put("ok");
     }
+}
 
-    fn answer_of_model(&mut self, alloc: Global, c: &Command<'_>) -> Result<String, NoMemory> {
-        let model = self.editor.model();
-        match c.verb {
-            "show" => Ok(shown(alloc, model, c.object)?),
-            "objects" => Ok(printed_objects(alloc, model)?),
-            "number" => Ok(numbered(alloc, model, c.object)?),
-            "depth" => depth_of(alloc, model, c.object),
-            "greatest" => printed_greatest(alloc, model),
-            "validity" => printed_breach(alloc, model),
-            "cycle" => printed_cycle(alloc, model),
-            "count" => Ok(counted(alloc, model)?),
-            _ => Ok(String::from_str(alloc, edited(alloc, &mut self.editor, c))?),
+/// Prints what an object is, or `gone`.
+fn print_known(alloc: Global, pen: &mut Pen, model: &Model<'_>, id: &str) {
+    match model.by_id(id) {
+        Some(o) => print_object(alloc, pen, model, o),
+        None => pen.put("gone"),
+    }
+}
+
+fn print_depth_of(
+    alloc: Global,
+    pen: &mut Pen,
+    model: &Model<'_>,
+    id: &str,
+) -> Result<(), NoMemory> {
+    match model.by_id(id) {
+        Some(o) => print_depth(alloc, pen, model, o),
+        None => {
+            pen.put("gone");
+            Ok(())
         }
     }
 }
 
-/// What an object is, or `gone`.
-fn shown(alloc: Global, model: &Model<'_>, id: &str) -> Result<String, AllocError> {
-    let mut out = String::new(alloc);
+fn print_number(alloc: Global, pen: &mut Pen, model: &Model<'_>, id: &str) {
     match model.by_id(id) {
-        Some(o) => print_object(&mut out, model, o)?,
-        None => out.push_str("gone")?,
-    }
-    Ok(out)
-}
-
-fn depth_of(alloc: Global, model: &Model<'_>, id: &str) -> Result<String, NoMemory> {
-    match model.by_id(id) {
-        Some(o) => printed_depth(alloc, model, o),
-        None => Ok(String::from_str(alloc, "gone")?),
+        Some(o) => pen.put_string(&format!(in alloc; "{}", o.0)),
+        None => pen.put("none"),
     }
 }
 
-fn numbered(alloc: Global, model: &Model<'_>, id: &str) -> Result<String, AllocError> {
-    match model.by_id(id) {
-        Some(o) => format!(in alloc; "{}", o.0),
-        None => String::from_str(alloc, "none"),
-    }
-}
-
-fn counted(alloc: Global, model: &Model<'_>) -> Result<String, AllocError> {
+fn print_count(alloc: Global, pen: &mut Pen, model: &Model<'_>) {
     let count = model.len();
     let end = model.end();
-    format!(in alloc; "{count} of {end}")
+    pen.put_string(&format!(in alloc; "{count} of {end}"));
 }
 
-/// The numbers of the class and the enumeration of a name.
-fn named(alloc: Global, meta: &MetaModel, name: &str) -> Result<String, AllocError> {
-    if let Some(ClassId(c)) = meta.class_named(name) {
-        return format!(in alloc; "class {c}");
-    }
-    match meta.enum_named(name) {
-        Some(e) => format!(in alloc; "enum {}", e.0),
-        None => String::from_str(alloc, "none"),
+/// Prints the number of the class or the enumeration of a name.
+fn print_named(alloc: Global, pen: &mut Pen, meta: &MetaModel, name: &str) {
+    match meta.class_named(name) {
+        Some(c) => pen.put_string(&format!(in alloc; "class {}", c.0)),
+        None => match meta.enum_named(name) {
+            Some(e) => pen.put_string(&format!(in alloc; "enum {}", e.0)),
+            None => pen.put("none"),
+        },
     }
 }
 
-/// The property of a name that a class has: its number, its bounds and its opposite.
-fn property(alloc: Global, meta: &MetaModel, c: &Command<'_>) -> Result<String, AllocError> {
+/// Prints the property of a name that a class has: its number, its bounds and its opposite.
+fn print_property(alloc: Global, pen: &mut Pen, meta: &MetaModel, c: &Command<'_>) {
     match prop_named(meta, c.object, c.prop) {
         Some(p) => {
             let (lower, upper) = meta.bounds(p);
-            let mut out = format!(in alloc; "{} {lower}..", p.0)?;
-            match upper {
-                Some(upper) => write!(out, "{upper}")?,
-                None => out.push('*')?,
-            }
+            pen.put_string(&format!(in alloc; "{} ", p.0));
+            print_bounds(alloc, pen, lower, upper);
             if let Some(q) = meta.opposite(p) {
-                write!(out, " opposite {}", q.0)?;
+                pen.put_string(&format!(in alloc; " opposite {}", q.0));
             }
-            Ok(out)
         }
-        None => String::from_str(alloc, "none"),
+        None => pen.put("none"),
     }
 }
 
