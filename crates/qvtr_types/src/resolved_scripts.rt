@@ -1,11 +1,15 @@
 //! Scripts, resolved (QVT 1.3, section 7.11).
 ghost use Rattle.std.specs.Prelude.{◌≡◌, ◌≤◌, ℕ, List, [], map, length, chars, Contains, IfOk, OnOk};
 ghost use Rattle.std.specs.List.{AllZip};
+ghost use Rattle.mof_metamodel.specs.NameTables.{value_of};
 ghost use Rattle.qv_syntax.specs.declared.script.RelationTree.{RelationTree as Relation};
 ghost use Rattle.ocl_environments.specs.declared.fault.TypeFault.{TypeFault as Fault};
 ghost use Rattle.ocl_environments.specs.Environments.{most};
 ghost use Rattle.ocl_environments.specs.Written.{IfFault};
 ghost use Rattle.script_scopes.specs.Occurrences.{relations_of as relations_in};
+ghost use Rattle.script_scopes.specs.FirstEntries.{first_entries};
+ghost use Rattle.script_scopes.specs.ModelLists.{named_relations as by_name};
+ghost use Rattle.script_scopes.specs.VariableTypes.{metamodel_numbers};
 ghost use Rattle.script_scopes.specs.Directions.{IsStratum, IsOnWhenCycle};
 ghost use Rattle.script_scopes.specs.Declarations.{global_names, IsRepeated};
 ghost use Rattle.script_scopes.specs.Environments.{Setting, in_script, metamodel_names as metamodels, slots_of as slots};
@@ -28,7 +32,7 @@ use script_scopes::{
     metamodel_names, model_place, numbered, refuse_calls, refuse_names, relation_strata,
     relation_table, relations_of, slots_of,
 };
-use script_variables::script_tables;
+use script_variables::{ScriptTables, script_tables};
 use std::alloc::Global;
 
 /// What a script resolves to, but for its own name and its models.
@@ -63,10 +67,68 @@ fn resolve_each(
             stratum: strata[place],
             vars: vars[place].as_slice(),
         };
-        let rel = resolve_relation(alloc, env, scope, &relation)?;
-        out.push(rel)?;
+        let rel = or_drop!(resolve_relation(alloc, env, scope, &relation); out);
+        or_drop!(out.push(rel); out);
     }
     Ok(out)
+}
+
+/// The relations of a script, with their strata and their variables, towards a target and over the tables of the script.
+fn resolve_typed(
+    alloc: Global,
+    env: &mut Env<'_>,
+    script: &Script,
+    over: (&str, &ScriptTables<'_>),
+    listed: (&[&RelationTree], &[u32]),
+    vars: &[Seq<Var>],
+) -> Result<Seq<Rel>, TypeError>
+    requires empty { env.old.variables ≡ [] }
+    requires listed { map (λ r. r.now) listed.0.now ≡ relations_in script.now }
+    requires layers { AllZip (IsStratum script.now) (relations_in script.now) listed.1.now }
+    requires models { over.1.now.names.models ≡ first_entries (metamodel_numbers (slots script.now)) }
+    requires metas { over.1.now.names.metas ≡ metamodels script.now }
+    requires setting { (s : Setting) × IsScriptReach s env.old script.now (chars over.0.now) × AllZip (IsDeclared s) (relations_in script.now) vars.now }
+    ensures are { IfOk result (λ rels. (s : Setting) → IsScriptReach s env.old script.now (chars over.entry.0.now) → AllZip (IsDeclared s) (relations_in script.now) vars.now → AllZip (IsResolvedTo s) (relations_in script.now) rels) }
+    ensures fault { IfFault result (λ f. (s : Setting) → IsScriptReach s env.old script.now (chars over.entry.0.now) → AllZip (IsDeclared s) (relations_in script.now) vars.now → StandsInScript s f) }
+    ensures kept { OnOk result (env.new ≡ env.old) }
+{
+    let numbers = relation_table(alloc, script)?;
+    let roots = or_drop!(all_roots(alloc, listed.0, vars); numbers);
+    let scope = ScriptScope {
+        target: over.0,
+        names: &over.1.names,
+        relations: &numbers,
+        roots: roots.as_slice(),
+    };
+    let rels = resolve_each(alloc, env, &scope, listed.0, listed.1, vars);
+    drop(roots);
+    drop(numbers);
+    rels
+}
+
+/// The relations of a script, with their strata, towards a target and over the tables of the script.
+fn resolve_listed(
+    alloc: Global,
+    env: &mut Env<'_>,
+    script: &Script,
+    over: (&str, &ScriptTables<'_>),
+    listed: (&[&RelationTree], &[u32]),
+) -> Result<Seq<Rel>, TypeError>
+    requires empty { env.old.variables ≡ [] }
+    requires listed { map (λ r. r.now) listed.0.now ≡ relations_in script.now }
+    requires layers { AllZip (IsStratum script.now) (relations_in script.now) listed.1.now }
+    requires models { over.1.now.names.models ≡ first_entries (metamodel_numbers (slots script.now)) }
+    requires metas { over.1.now.names.metas ≡ metamodels script.now }
+    requires finds { (n : List ℕ) → value_of (map (λ e. (e.0, e.1.now)) over.1.now.relations) n ≡ value_of (by_name (relations_in script.now)) n }
+    requires setting { (s : Setting) × IsScriptReach s env.old script.now (chars over.0.now) }
+    ensures are { IfOk result (λ rels. (s : Setting) → IsScriptReach s env.old script.now (chars over.entry.0.now) → AllZip (IsResolvedTo s) (relations_in script.now) rels) }
+    ensures fault { IfFault result (λ f. (s : Setting) → IsScriptReach s env.old script.now (chars over.entry.0.now) → StandsInScript s f) }
+    ensures kept { OnOk result (env.new ≡ env.old) }
+{
+    let vars = all_variables(alloc, env, over.1, over.0, listed.0)?;
+    let rels = resolve_typed(alloc, env, script, over, listed, vars.as_slice());
+    drop(vars);
+    rels
 }
 
 /// The relations of a script whose names and calls are in order and whose queries are in reach.
@@ -84,26 +146,14 @@ fn resolve_relations(
     ensures kept { OnOk result (env.new ≡ env.old) }
 {
     let strata = relation_strata(alloc, script)?;
-    let tables = script_tables(alloc, script)?;
-    let relations = relations_of(alloc, script)?;
-    let listed = relations.as_slice();
-    let vars = all_variables(alloc, env, &tables, target, listed)?;
-    let roots = all_roots(alloc, listed, vars.as_slice())?;
-    let numbers = relation_table(alloc, script)?;
-    let scope = ScriptScope {
-        target,
-        names: &tables.names,
-        relations: &numbers,
-        roots: roots.as_slice(),
-    };
-    resolve_each(
-        alloc,
-        env,
-        &scope,
-        listed,
-        strata.as_slice(),
-        vars.as_slice(),
-    )
+    let tables = or_drop!(script_tables(alloc, script); strata);
+    let relations = or_drop!(relations_of(alloc, script); strata, tables);
+    let listed = (relations.as_slice(), strata.as_slice());
+    let rels = resolve_listed(alloc, env, script, (target, &tables), listed);
+    drop(relations);
+    drop(tables);
+    drop(strata);
+    rels
 }
 
 /// The keys, relations and queries of a script, over its metamodels and models alone.

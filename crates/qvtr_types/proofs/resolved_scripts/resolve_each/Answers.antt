@@ -1,10 +1,9 @@
-use Rattle.std.proofs.Common.{◌≡◌, ℕ, ◌+◌, ◌<◌, List, [], ◌∷◌, ◌++◌, Bor, map, take, length, get_or, arith, sym, ap, subst, ◌∙◌}
-use Rattle.std.specs.Prelude.{Some, slice_get}
+use Rattle.std.proofs.Common.{◌≡◌, ℕ, ◌+◌, ◌<◌, List, [], ◌∷◌, ◌++◌, Bor, map, take, length, get_or, arith, refl, sym, ap, subst, ◌∙◌}
+use Rattle.std.specs.Prelude.{Some, Err, slice_get}
 use Rattle.std.specs.List.{AllZip}
 use Rattle.std.specs.Option.{option_map}
 use Rattle.std.proofs.lemmas.Option.{slice_get-get_or, slice_get-map}
 use Rattle.std.proofs.lemmas.List.{take_all}
-use Rattle.std.proofs.lemmas.Result.{err_from_is_err_and}
 use Rattle.qv_syntax.specs.declared.program.Rel.{Rel}
 use Rattle.qv_syntax.specs.declared.program.Var.{Var}
 use Rattle.qv_syntax.specs.declared.script.RelationTree.{RelationTree}
@@ -49,29 +48,28 @@ resolve_relation-requires-clause-setting c =
           c.index-relations-place.is c.index-vars-place.is),
     )
 
-pub returns-in_err-rel-clause-fault : goal.returns-in_err-rel-clause-fault
-returns-in_err-rel-clause-fault c =
+pub returns-in-loop-place-clause-fault : goal.returns-in-loop-place-clause-fault
+returns-in-loop-place-clause-fault c =
     let r : RelationTree = c.index-relations-place.result.now in
     let vs : List Var = c.as_slice.result.now in
-    let p = err_from_is_err_and c.from_residual.result c.from_residual.ensures.1 in
-    err_told c.from_residual.result p.0 _
+    err_told {X = List Rel} (Err c.or_drop-from.result) c.or_drop-from.result c.in-Err-or_drop.field-0
     (λ (f : TypeFault). (s : Setting) → IsScriptScopeOf s c.args.env.now c.args.scope.now → AllZip (IsDeclared s) (shown c.args.relations.now) c.args.vars.now → HasQueries s → StandsInScript s f)
-    (λ (f : TypeFault). (s : Setting) → IsScriptScopeOf s c.loop-place.env c.args.scope.now → IsDeclared s r vs → StandsInExpressions s r vs f) p.1 p.2
+    (λ (f : TypeFault). (s : Setting) → IsScriptScopeOf s c.loop-place.env c.args.scope.now → IsDeclared s r vs → StandsInExpressions s r vs f) refl c.or_drop-from.ensures
     (λ f h s over all typed.
     let own : IsDeclared s r vs = subst (IsDeclared s r) (sym c.as_slice.ensures)
     (own_at s c.args.relations.now c.args.vars.now c.loop-place.place c.index-relations-place.result c.index-vars-place.result all (omega arith) (omega (arith, c.requires.count))
     c.index-relations-place.is c.index-vars-place.is) in
     StandsInScript.expression r vs f typed own.among own.are
     (h s (subst (λ (e : Environment). IsScriptScopeOf s e c.args.scope.now) (sym c.loop-place.invariant.0) over) own))
-    c.in_err-rel.ensures.fault
+    c.in-Err-or_drop.ensures.fault
 
 pub loop-place-preserved : goal.loop-place-preserved
 loop-place-preserved c =
     let i : ℕ = c.loop-place.place in
     let r : RelationTree = c.index-relations-place.result.now in
     let vs : List Var = c.as_slice.result.now in
-    let rel : Rel = c.in_ok-rel.rel in (
-      c.in_ok-rel.ensures.kept ∙ c.loop-place.invariant.0,
+    let rel : Rel = c.in-Ok-or_drop.field-0 in (
+      c.in-Ok-or_drop.ensures.kept ∙ c.loop-place.invariant.0,
       λ s over all layers.
           let here : IsScriptScopeOf s c.loop-place.env c.args.scope.now = subst (λ (e : Environment). IsScriptScopeOf s e c.args.scope.now) (sym c.loop-place.invariant.0) over in
           let own : IsDeclared s r vs = subst (IsDeclared s r) (sym c.as_slice.ensures)
@@ -81,8 +79,8 @@ loop-place-preserved c =
           zip_here (IsStratum s.script) (shown c.args.relations.now) c.args.strata.now i r (get_or c.args.strata.now i 0) layers
           (shown_at c.args.relations.now i c.index-relations-place.result (omega arith) c.index-relations-place.is)
           (slice_get-get_or c.args.strata.now i 0 (omega (arith, c.requires.layers))) in
-          let one : IsResolvedTo s r rel = resolved_to s r vs rel c.in_ok-rel.ensures.vars own (c.in_ok-rel.ensures.is s here own layer) (c.in_ok-rel.ensures.settled s here own) (λ f. c.in_ok-rel.ensures.none s f here own) in
-          subst (AllZip (IsResolvedTo s) (shown (take (i + 1) c.args.relations.now))) (sym c.in_ok-push.ensures.ok)
+          let one : IsResolvedTo s r rel = resolved_to s r vs rel c.in-Ok-or_drop.ensures.vars own (c.in-Ok-or_drop.ensures.is s here own layer) (c.in-Ok-or_drop.ensures.settled s here own) (λ f. c.in-Ok-or_drop.ensures.none s f here own) in
+          subst (AllZip (IsResolvedTo s) (shown (take (i + 1) c.args.relations.now))) (sym c.in-Ok-or_drop-2.ensures.ok)
           (subst (λ (rs : List RelationTree). AllZip (IsResolvedTo s) rs (c.loop-place.out ++ rel ∷ []))
           (sym (shown_more {X = Bor RelationTree} {Y = RelationTree} (λ r. r.now) c.args.relations.now i c.index-relations-place.result (omega arith) c.index-relations-place.is))
           (zip_push (IsResolvedTo s) (shown (take i c.args.relations.now)) c.loop-place.out r rel (c.loop-place.invariant.1 s over all layers) one)),
