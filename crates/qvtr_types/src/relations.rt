@@ -25,7 +25,7 @@ use crate::laws::expression_faults_are_told;
 use crate::lone_arguments::refuse_lone_arguments;
 use crate::relation_scope::bind_variables;
 use crate::resolved_conjuncts::ClauseScope;
-use mof_metamodel::{NameTable, NoMemory, Seq};
+use mof_metamodel::{NameTable, NoMemory, Seq, or_drop};
 use ocl_environments::{Env, TypeError};
 use qv_syntax::{Dom, Rel, RelationTree, Var};
 use script_scopes::{
@@ -172,7 +172,7 @@ fn parts_of(
         relations: scope.relations,
         roots: scope.roots,
     };
-    let clauses = resolve_clauses(alloc, &over, r)?;
+    let clauses = or_drop!(resolve_clauses(alloc, &over, r); domains);
     Ok(RelationParts { domains, clauses })
 }
 
@@ -186,9 +186,9 @@ fn with_parts(
     ensures { IfOk result (IsMadeOf (chars target.now) relation.now.tree.now relation.now.stratum relation.now.vars.now parts.domains parts.clauses.whens parts.clauses.wheres) }
 {
     let r = relation.tree;
-    let name = r.name.text.duplicate(alloc)?;
-    let vars = copies_of(alloc, relation.vars)?;
-    let division = division_of(alloc, target, r)?;
+    let name = or_drop!(r.name.text.duplicate(alloc); parts);
+    let vars = or_drop!(copies_of(alloc, relation.vars); parts, name);
+    let division = or_drop!(division_of(alloc, target, r); parts, name, vars);
     Ok(Rel {
         name,
         top: r.top,
@@ -249,15 +249,18 @@ pub(crate) fn resolve_relation(
     ensures kept { OnOk result (env.new ≡ env.old) }
 {
     let r = relation.tree;
-    let numbers = variables_of(alloc, r)?;
     let named = universal_names(alloc, scope.target, r)?;
     let universal = each_once(alloc, named)?;
+    let numbers = or_drop!(variables_of(alloc, r); universal);
     let variables = Variables {
         numbers: &numbers,
         vars: relation.vars,
         universal: &universal,
     };
-    let parts = resolve_parts(alloc, env, scope, &variables, r)?;
+    let parts = resolve_parts(alloc, env, scope, &variables, r);
+    drop(universal);
+    drop(numbers);
+    let parts = parts?;
     let rel = with_parts(alloc, scope.target, relation, parts)?;
     Ok(rel)
 }
