@@ -10,7 +10,7 @@ ghost use Rattle.ocl_environments.specs.Outcomes.{wrong_type as wrong};
 ghost use Rattle.ocl_environments.specs.Written.{IfFault};
 ghost use Rattle.qvtr_types.specs.Expressions.{HaveTypes, IsCondition, StandsInCondition, IsEquated, IsGiven, StandsInGiven, AreArguments, StandsInArguments};
 
-use mof_metamodel::{MetaModel, Seq, Text};
+use mof_metamodel::{MetaModel, Seq, Text, or_drop};
 use ocl_environments::{Env, TypeError, TypeFault, are_related, wrong_type};
 use ocl_types::{one_type_is_had, type_whole};
 use qv_syntax::{Expr, Ty, Typed, Var};
@@ -40,7 +40,7 @@ pub fn type_condition(alloc: Global, env: &Env<'_>, e: &Expr) -> Result<Typed, T
     ensures fault { IfFault result (StandsInCondition env.now e.now) }
 {
     let part = type_whole(alloc, env, e)?;
-    refuse_no_boolean(alloc, env.metas(), &part.ty)?;
+    or_drop!(refuse_no_boolean(alloc, env.metas(), &part.ty); part);
     Ok(part.into_tree())
 }
 
@@ -141,8 +141,8 @@ pub fn type_given(
     ensures fault { IfFault result (StandsInGiven env.now (record { ty = wanted.now.ty.now; model = wanted.now.model }) wanted.now.name.now e.now) }
 {
     let part = type_whole(alloc, env, e)?;
-    refuse_unrelated(alloc, env.metas(), wanted.ty, &part.ty)?;
-    refuse_other_model(alloc, wanted.model, part.model, wanted.name)?;
+    or_drop!(refuse_unrelated(alloc, env.metas(), wanted.ty, &part.ty); part);
+    or_drop!(refuse_other_model(alloc, wanted.model, part.model, wanted.name); part);
     Ok(part.into_tree())
 }
 
@@ -167,8 +167,8 @@ fn type_each(
             model: root.model,
             name: called,
         };
-        let tree = type_given(alloc, env, &wanted, e)?;
-        trees.push(tree)?;
+        let tree = or_drop!(type_given(alloc, env, &wanted, e); trees);
+        or_drop!(trees.push(tree); trees);
     }
     Ok(trees)
 }

@@ -1,7 +1,6 @@
-use Rattle.std.proofs.Common.{◌≡◌, ◌<◌, ℕ, ◌+◌, List, [], ◌∷◌, Bor, map, length, arith, sym, ap, subst, ◌∙◌, length-append}
-use Rattle.std.specs.Prelude.{Some, slice_get}
+use Rattle.std.proofs.Common.{◌≡◌, ◌<◌, ℕ, ◌+◌, List, [], ◌∷◌, Bor, map, length, arith, refl, sym, ap, subst, ◌∙◌, length-append}
+use Rattle.std.specs.Prelude.{Some, Err, slice_get}
 use Rattle.std.proofs.lemmas.Option.{slice_get-get_or}
-use Rattle.std.proofs.lemmas.Result.{err_from_is_err_and}
 use Rattle.qv_syntax.specs.declared.expr.Expr.{Expr}
 use Rattle.qv_syntax.specs.declared.typed.Typed.{Typed}
 use Rattle.qv_syntax.specs.declared.program.Var.{Var}
@@ -18,16 +17,15 @@ pub type_given-requires : goal.type_given-requires
 type_given-requires c =
     root_typed c.args.roots.now c.loop-place.place c.index-roots-place.result (omega (arith, c.requires.count, c.loop-place-test.true)) c.index-roots-place.is c.args.env.now.metas c.requires.types
 
-pub returns-in_err-tree-clause-fault : goal.returns-in_err-tree-clause-fault
-returns-in_err-tree-clause-fault c =
+pub returns-in-loop-place-clause-fault : goal.returns-in-loop-place-clause-fault
+returns-in-loop-place-clause-fault c =
     let within : c.loop-place.place < length c.args.roots.now = omega (arith, c.requires.count, c.loop-place-test.true) in
     let e : Expr = c.index-args-place.result in
     let root : Var = c.index-roots-place.result.now in
-    let p = err_from_is_err_and c.from_residual.result c.from_residual.ensures.1 in
-    err_told c.from_residual.result p.0 _ (StandsInArguments c.args.env.now c.args.called.now (shown c.args.roots.now) c.args.args.now) (StandsInGiven c.args.env.now (typing_of root) c.args.called.now e) p.1 p.2
+    err_told {X = List Typed} (Err c.or_drop-from.result) c.or_drop-from.result c.in-Err-or_drop.field-0 (StandsInArguments c.args.env.now c.args.called.now (shown c.args.roots.now) c.args.args.now) (StandsInGiven c.args.env.now (typing_of root) c.args.called.now e) refl c.or_drop-from.ensures
     (λ f h. StandsInArguments.argument c.loop-place.place root e (root_at c.args.roots.now c.loop-place.place c.index-roots-place.result within c.index-roots-place.is)
     (slice_get-get_or c.args.args.now c.loop-place.place e c.loop-place-test.true ∙ ap Some (sym c.index-args-place.is)) h)
-    c.in_err-tree.ensures.fault
+    c.in-Err-or_drop.ensures.fault
 
 pub loop-place-preserved : goal.loop-place-preserved
 loop-place-preserved c =
@@ -35,14 +33,14 @@ loop-place-preserved c =
     let e : Expr = c.index-args-place.result in
     let root : Var = c.index-roots-place.result.now in
     let long : length c.push.new.self ≡ c.loop-place.place + 1 =
-    ap (λ (ts : List Typed). length ts) c.in_ok-push.ensures.ok ∙ length-append c.loop-place.trees (c.in_ok-tree.tree ∷ []) ∙ ap (λ (n : ℕ). n + 1) c.loop-place.invariant.0 in (
+    ap (λ (ts : List Typed). length ts) c.in-Ok-or_drop-2.ensures.ok ∙ length-append c.loop-place.trees (c.in-Ok-or_drop.field-0 ∷ []) ∙ ap (λ (n : ℕ). n + 1) c.loop-place.invariant.0 in (
       long,
       subst
           (λ (ts : List Typed). (p : ℕ) (root : Var) (e : Expr) (tree : Typed) → slice_get (shown c.args.roots.now) p ≡ Some root → slice_get c.args.args.now p ≡ Some e → slice_get ts p ≡ Some tree
           → IsGiven c.args.env.now (typing_of root) e tree)
-          (sym c.in_ok-push.ensures.ok)
-          (each_more (λ root e tree. IsGiven c.args.env.now (typing_of root) e tree) (shown c.args.roots.now) c.args.args.now c.loop-place.trees root e c.in_ok-tree.tree c.loop-place.invariant.1
+          (sym c.in-Ok-or_drop-2.ensures.ok)
+          (each_more (λ root e tree. IsGiven c.args.env.now (typing_of root) e tree) (shown c.args.roots.now) c.args.args.now c.loop-place.trees root e c.in-Ok-or_drop.field-0 c.loop-place.invariant.1
           (ap (slice_get (shown c.args.roots.now)) c.loop-place.invariant.0 ∙ root_at c.args.roots.now c.loop-place.place c.index-roots-place.result within c.index-roots-place.is)
           (ap (slice_get c.args.args.now) c.loop-place.invariant.0 ∙ slice_get-get_or c.args.args.now c.loop-place.place e c.loop-place-test.true ∙ ap Some (sym c.index-args-place.is))
-          c.in_ok-tree.ensures.is),
+          c.in-Ok-or_drop.ensures.is),
     )
