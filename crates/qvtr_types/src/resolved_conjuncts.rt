@@ -8,7 +8,7 @@ ghost use Rattle.qvtr_types.specs.ResolvedConjuncts.{reach_of, called_number, Ha
 
 use crate::equations::{Variables, next_equation};
 use crate::expressions::{type_arguments, type_condition, type_equation};
-use mof_metamodel::{NameTable, Seq, Text};
+use mof_metamodel::{NameTable, Seq, Text, or_drop};
 use ocl_environments::{Env, TypeError};
 use qv_syntax::{BlockTree, Conj, Expr, Var};
 use script_scopes::{call_of, clause_conjuncts, numbered, place_of};
@@ -39,7 +39,8 @@ fn resolve_call(
     let (name, args) = call;
     let roots = scope.roots[place].as_slice();
     let trees = type_arguments(alloc, scope.env, name, roots, args)?;
-    Ok(Conj::Call(numbered(place)?, trees))
+    let number = or_drop!(numbered(place); trees);
+    Ok(Conj::Call(number, trees))
 }
 
 /// The equation of a variable.
@@ -56,7 +57,7 @@ fn resolve_equation(
 {
     let (name, value) = said;
     let tree = type_equation(alloc, scope.env, conjunct, value)?;
-    let number = place_of(scope.variables.numbers, name)?;
+    let number = or_drop!(place_of(scope.variables.numbers, name); tree);
     Ok(Conj::Equation(number, tree))
 }
 
@@ -151,9 +152,10 @@ fn resolve_listed(
     let mut met = NameTable::new(alloc);
     let mut out = Seq::new(alloc);
     for conjunct in conjuncts {
-        let resolved = resolve_next(alloc, scope, wanted, &mut met, conjunct)?;
-        out.push(resolved)?;
+        let resolved = or_drop!(resolve_next(alloc, scope, wanted, &mut met, conjunct); met, out);
+        or_drop!(out.push(resolved); met, out);
     }
+    drop(met);
     Ok(out)
 }
 

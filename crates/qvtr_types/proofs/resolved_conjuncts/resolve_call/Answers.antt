@@ -25,8 +25,8 @@ returns-in_err-trees-clause-fault c =
     err_told c.from_residual.result p.0 _ (StandsInCallWith reach c.args.place c.args.call.0.now c.args.call.1.now) (StandsInArguments reach.env c.args.call.0.now roots c.args.call.1.now)
     p.1 p.2 (λ f h. record { roots = roots; asked = asked; stands = h }) c.in_err-trees.ensures.fault
 
-pub returns-clause-is : goal.returns-clause-is
-returns-clause-is c =
+pub returns-2-clause-is : goal.returns-2-clause-is
+returns-2-clause-is c =
     let reach : ClauseReach = reach_of c.args.scope.now in
     let roots : List Var = map {A = Bor Var} {B = Var} (λ r. r.now) c.as_slice-roots.result.now in
     let asked : slice_get reach.roots c.args.place ≡ Some roots =
@@ -36,6 +36,6 @@ returns-clause-is c =
       roots = roots;
       asked = asked;
       trees = c.in_ok-trees.trees;
-      is = ap (λ (n : ℕ). conjs.Call n c.in_ok-trees.trees) c.in_ok-numbered.ensures.number;
+      is = ap (λ (n : ℕ). conjs.Call n c.in_ok-trees.trees) c.in-Ok-or_drop.ensures.number;
       fit = c.in_ok-trees.ensures.are;
     }

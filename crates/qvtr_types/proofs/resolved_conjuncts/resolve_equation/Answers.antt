@@ -15,9 +15,9 @@ returns-in_err-tree-clause-fault c =
     err_told c.from_residual.result p.0 _ (StandsInConjunct reach c.args.conjunct.now) (StandsInCondition reach.env c.args.conjunct.now) p.1 p.2
     (λ f h. StandsInConjunct.condition c.requires.uncalled h) c.in_err-tree.ensures.fault
 
-pub returns-clause-is : goal.returns-clause-is
-returns-clause-is c =
+pub returns-2-clause-is : goal.returns-2-clause-is
+returns-2-clause-is c =
     let said : Option (List ℕ × Expr) = Some (c.args.said.0.now, c.args.said.1.now) in
     let (whole, boolean) = c.in_ok-tree.ensures.condition in
-    subst (λ (n : ℕ). IsResolved (reach_of c.args.scope.now) said c.args.conjunct.now (conjs.Equation n c.in_ok-tree.tree)) (sym c.in_ok-number.ensures.number)
+    subst (λ (n : ℕ). IsResolved (reach_of c.args.scope.now) said c.args.conjunct.now (conjs.Equation n c.in_ok-tree.tree)) (sym c.in-Ok-or_drop.ensures.number)
     (IsResolved.equation c.args.said.0.now c.args.said.1.now c.in_ok-tree.tree whole c.requires.uncalled refl c.in_ok-tree.ensures.is boolean)
