@@ -9,7 +9,7 @@ ghost use Rattle.qvtr_types.specs.TemplatePieces.{IsMeant, IsPieceFault};
 
 use crate::domain_scope::DomainScope;
 use crate::items::{item_property, item_value, nested_class};
-use mof_metamodel::{ClassId, Seq};
+use mof_metamodel::{ClassId, Seq, or_drop};
 use ocl_environments::TypeError;
 use qv_syntax::{Item, ItemTree, ItemValue, ItemValueTree, Path, TemplateTree, Tmpl};
 use script_scopes::{BorrowedProperty, next_number};
@@ -62,8 +62,8 @@ fn resolve_items(
     let mut items = Seq::new(alloc);
     let mut k = first;
     for tree in trees {
-        let (item, after) = resolve_item(alloc, scope, k, of, tree)?;
-        items.push(item)?;
+        let (item, after) = or_drop!(resolve_item(alloc, scope, k, of, tree); items);
+        or_drop!(items.push(item); items);
         k = after;
     }
     Ok((items, k))
@@ -91,11 +91,15 @@ fn resolve_item(
     let (prop, ty) = item_property(alloc, scope, of.0, at)?;
     match &tree.value {
         ItemValueTree::Expr { value } => {
-            let value = item_value(alloc, scope, &ty, &tree.prop.text, value)?;
+            let value = item_value(alloc, scope, &ty, &tree.prop.text, value);
+            drop(ty);
+            let value = value?;
             Ok((Item { prop, value }, k))
         }
         ItemValueTree::Nested { variable, template } => {
-            let class = nested_class(alloc, scope, &ty, &template.class)?;
+            let class = nested_class(alloc, scope, &ty, &template.class);
+            drop(ty);
+            let class = class?;
             let var = scope.variable(alloc, k, variable)?;
             let (inner, after) = resolve_template(alloc, scope, k, (var, class), template)?;
             let value = ItemValue::Nested { template: inner };

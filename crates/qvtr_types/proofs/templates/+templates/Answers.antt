@@ -1,5 +1,5 @@
 use Rattle.std.proofs.Common.{◌≡◌, ◌+◌, ◌++◌, ℕ, List, drop, refl, sym, ap, subst, ◌∙◌, arith}
-use Rattle.std.specs.Prelude.{All}
+use Rattle.std.specs.Prelude.{Err, All}
 use Rattle.std.proofs.lemmas.Result.{err_from_is_err_and}
 use Rattle.std.proofs.Math.ListN.{drop_of_length-le}
 use Rattle.qv_syntax.specs.declared.name.Path.{Path}
@@ -25,8 +25,8 @@ resolve_item-returns-in_err-prop-clause-fault t c =
     (λ f h. property_fault c.args.scope.now c.args.tree.now c.args.k c.args.of.1.now f h)
     c.in_err-prop.ensures.fault
 
-pub resolve_item-item_value-requires : goal.resolve_item-item_value-requires
-resolve_item-item_value-requires t c =
+pub resolve_item-item_value-value-requires : goal.resolve_item-item_value-value-requires
+resolve_item-item_value-value-requires t c =
     item_type_over c.args.scope.now (written c.args.of.1.now c.args.tree.now) c.args.of.0 c.requires c.in_ok-prop.prop c.in_ok-prop.ty c.in_ok-prop.ensures.is
 
 pub resolve_item-returns-in_err-value-in-Expr-clause-fault : goal.resolve_item-returns-in_err-value-in-Expr-clause-fault
@@ -37,23 +37,23 @@ resolve_item-returns-in_err-value-in-Expr-clause-fault t c =
     (λ f h. expr_fault c.args.scope.now c.args.tree.now c.args.k c.args.of.1.now c.args.of.0 c.in_ok-prop.prop c.in_ok-prop.ty c.in_ok-prop.ensures.is c.in-Expr.value c.in-Expr.is f h)
     c.in_err-value-in-Expr.ensures.fault
 
-pub resolve_item-returns-in-Expr-clause-is : goal.resolve_item-returns-in-Expr-clause-is
-resolve_item-returns-in-Expr-clause-is t c =
+pub resolve_item-returns-in_ok-value-in-Expr-clause-is : goal.resolve_item-returns-in_ok-value-in-Expr-clause-is
+resolve_item-returns-in_ok-value-in-Expr-clause-is t c =
     expr_resolved c.args.scope.now c.args.tree.now c.args.k c.args.of.1.now c.args.of.0 c.in_ok-prop.prop c.in_ok-prop.ty c.in_ok-prop.ensures.is c.in-Expr.value c.in-Expr.is
     c.in_ok-value-in-Expr.value c.in_ok-value-in-Expr.ensures.is
 
-pub resolve_item-returns-in-Expr-clause-next : goal.resolve_item-returns-in-Expr-clause-next
-resolve_item-returns-in-Expr-clause-next t c =
+pub resolve_item-returns-in_ok-value-in-Expr-clause-next : goal.resolve_item-returns-in_ok-value-in-Expr-clause-next
+resolve_item-returns-in_ok-value-in-Expr-clause-next t c =
     let none = expr_count c.args.tree.now c.args.k c.args.of.1.now c.in-Expr.value c.in-Expr.is in
     omega (arith, none)
 
-pub resolve_item-returns-in-Expr-clause-meant : goal.resolve_item-returns-in-Expr-clause-meant
-resolve_item-returns-in-Expr-clause-meant t c =
+pub resolve_item-returns-in_ok-value-in-Expr-clause-meant : goal.resolve_item-returns-in_ok-value-in-Expr-clause-meant
+resolve_item-returns-in_ok-value-in-Expr-clause-meant t c =
     expr_meant c.args.scope.now c.args.tree.now c.args.k c.args.of.1.now c.args.of.0 c.in_ok-prop.prop c.in_ok-prop.ty c.in_ok-prop.ensures.is c.in-Expr.value c.in-Expr.is
     c.in_ok-value-in-Expr.ensures.meant
 
-pub resolve_item-nested_class-requires : goal.resolve_item-nested_class-requires
-resolve_item-nested_class-requires t c =
+pub resolve_item-nested_class-class-requires : goal.resolve_item-nested_class-class-requires
+resolve_item-nested_class-class-requires t c =
     item_type_over c.args.scope.now (written c.args.of.1.now c.args.tree.now) c.args.of.0 c.requires c.in_ok-prop.prop c.in_ok-prop.ty c.in_ok-prop.ensures.is
 
 pub resolve_item-returns-in_err-class-in-Nested-clause-fault : goal.resolve_item-returns-in_err-class-in-Nested-clause-fault
@@ -73,19 +73,19 @@ resolve_item-returns-in_err-inner-in-Nested-clause-fault t c =
     (λ f h. inner_fault c.args.scope.now c.args.tree.now c.args.k c.args.of.1.now c.args.of.0 c.in_ok-prop.prop c.in_ok-prop.ty c.in_ok-prop.ensures.is c.in-Nested.variable c.in-Nested.template c.in-Nested.is f h)
     c.in_err-inner-in-Nested.ensures.fault
 
-pub resolve_item-returns-clause-is : goal.resolve_item-returns-clause-is
-resolve_item-returns-clause-is t c =
+pub resolve_item-returns-in_ok-inner-in-Nested-clause-is : goal.resolve_item-returns-in_ok-inner-in-Nested-clause-is
+resolve_item-returns-in_ok-inner-in-Nested-clause-is t c =
     nested_resolved c.args.scope.now c.args.tree.now c.args.k c.args.of.1.now c.args.of.0 c.in_ok-prop.prop c.in_ok-prop.ty c.in_ok-prop.ensures.is c.in-Nested.variable c.in-Nested.template c.in-Nested.is
     c.in_ok-inner-in-Nested.inner c.in_ok-inner-in-Nested.after (c.in_ok-inner-in-Nested.ensures.is c.in-Nested.variable c.in_ok-var-in-Nested.ensures)
 
-pub resolve_item-returns-clause-next : goal.resolve_item-returns-clause-next
-resolve_item-returns-clause-next t c =
+pub resolve_item-returns-in_ok-inner-in-Nested-clause-next : goal.resolve_item-returns-in_ok-inner-in-Nested-clause-next
+resolve_item-returns-in_ok-inner-in-Nested-clause-next t c =
     let count = nested_count c.args.tree.now c.args.k c.args.of.1.now c.in-Nested.variable c.in-Nested.template c.in-Nested.is in
     let after = c.in_ok-inner-in-Nested.ensures.next in
     omega (arith, count, after)
 
-pub resolve_item-returns-clause-meant : goal.resolve_item-returns-clause-meant
-resolve_item-returns-clause-meant t c =
+pub resolve_item-returns-in_ok-inner-in-Nested-clause-meant : goal.resolve_item-returns-in_ok-inner-in-Nested-clause-meant
+resolve_item-returns-in_ok-inner-in-Nested-clause-meant t c =
     nested_meant c.args.scope.now c.args.tree.now c.args.k c.args.of.1.now c.args.of.0 c.in_ok-prop.prop c.in_ok-prop.ty c.in_ok-prop.ensures.is c.in-Nested.variable c.in-Nested.template c.in-Nested.is
     c.in_ok-class-in-Nested.class
     (subst (λ (path : Path). IsNested c.args.scope.now c.in_ok-prop.ty path c.in_ok-class-in-Nested.class) (sym (body_class c.in-Nested.template)) c.in_ok-class-in-Nested.ensures.is)
@@ -101,27 +101,26 @@ resolve_items-loop-tree-init t c = record {
   fault = λ f h. h;
 }
 
-pub resolve_items-returns-in_err-item-clause-fault : goal.resolve_items-returns-in_err-item-clause-fault
-resolve_items-returns-in_err-item-clause-fault t c =
-    let p = err_from_is_err_and c.from_residual.result c.from_residual.ensures.1 in
-    err_told c.from_residual.result p.0 _ (IsPieceFault c.args.scope.now (pieces_from c.args.first c.args.of.1.now c.args.trees.now))
-    (IsPieceFault c.args.scope.now ((item_pieces c.tree-item.result).from c.loop-tree.k c.args.of.1.now)) p.1 p.2
+pub resolve_items-returns-in-loop-tree-clause-fault : goal.resolve_items-returns-in-loop-tree-clause-fault
+resolve_items-returns-in-loop-tree-clause-fault t c =
+    err_told {X = List Item × ℕ} (Err c.or_drop-from.result) c.or_drop-from.result c.in-Err-or_drop.field-0 (IsPieceFault c.args.scope.now (pieces_from c.args.first c.args.of.1.now c.args.trees.now))
+    (IsPieceFault c.args.scope.now ((item_pieces c.tree-item.result).from c.loop-tree.k c.args.of.1.now)) refl c.or_drop-from.ensures
     (λ f h. fault_here c.args.scope.now c.args.trees.now c.loop-tree.tree-index c.tree-item.result (omega arith) c.tree-item.is c.loop-tree.k c.loop-tree.k c.args.of.1.now
     (pieces_from c.args.first c.args.of.1.now c.args.trees.now) c.loop-tree.invariant.fault f h)
-    c.in_err-item.ensures.fault
+    c.in-Err-or_drop.ensures.fault
 
 pub resolve_items-loop-tree-preserved : goal.resolve_items-loop-tree-preserved
 resolve_items-loop-tree-preserved t c =
     let i = c.loop-tree.tree-index in
     let all : List Piece = pieces_from c.args.first c.args.of.1.now c.args.trees.now in
     record {
-      are = subst (λ (xs : List Item). (rest : List Item) (next : ℕ) → AreItems c.args.scope.now c.args.of.0 c.in_ok-item.after (drop (i + 1) c.args.trees.now) rest next → AreItems c.args.scope.now c.args.of.0 c.args.first c.args.trees.now (xs ++ rest) next)
-          (sym c.in_ok-push.ensures.ok)
-          (are_more c.args.scope.now c.args.trees.now i c.tree-item.result (omega arith) c.tree-item.is c.loop-tree.k c.in_ok-item.after c.args.of.0 c.args.first c.loop-tree.items c.in_ok-item.item
-          c.loop-tree.invariant.are c.in_ok-item.ensures.is);
-      next = next_more c.args.scope.now c.args.trees.now i c.tree-item.result (omega arith) c.tree-item.is c.loop-tree.k c.in_ok-item.after c.in_ok-item.ensures.next (c.args.first + pieces_count c.args.trees.now) c.loop-tree.invariant.next;
-      meant = meant_more c.args.scope.now c.args.trees.now i c.tree-item.result (omega arith) c.tree-item.is c.loop-tree.k c.in_ok-item.after c.in_ok-item.ensures.next c.args.of.1.now all c.loop-tree.invariant.meant c.in_ok-item.ensures.meant;
-      fault = fault_more c.args.scope.now c.args.trees.now i c.tree-item.result (omega arith) c.tree-item.is c.loop-tree.k c.in_ok-item.after c.in_ok-item.ensures.next c.args.of.1.now all c.loop-tree.invariant.fault;
+      are = subst (λ (xs : List Item). (rest : List Item) (next : ℕ) → AreItems c.args.scope.now c.args.of.0 c.in-Ok-or_drop.field-0.1 (drop (i + 1) c.args.trees.now) rest next → AreItems c.args.scope.now c.args.of.0 c.args.first c.args.trees.now (xs ++ rest) next)
+          (sym c.in-Ok-or_drop-2.ensures.ok)
+          (are_more c.args.scope.now c.args.trees.now i c.tree-item.result (omega arith) c.tree-item.is c.loop-tree.k c.in-Ok-or_drop.field-0.1 c.args.of.0 c.args.first c.loop-tree.items c.in-Ok-or_drop.field-0.0
+          c.loop-tree.invariant.are c.in-Ok-or_drop.ensures.is);
+      next = next_more c.args.scope.now c.args.trees.now i c.tree-item.result (omega arith) c.tree-item.is c.loop-tree.k c.in-Ok-or_drop.field-0.1 c.in-Ok-or_drop.ensures.next (c.args.first + pieces_count c.args.trees.now) c.loop-tree.invariant.next;
+      meant = meant_more c.args.scope.now c.args.trees.now i c.tree-item.result (omega arith) c.tree-item.is c.loop-tree.k c.in-Ok-or_drop.field-0.1 c.in-Ok-or_drop.ensures.next c.args.of.1.now all c.loop-tree.invariant.meant c.in-Ok-or_drop.ensures.meant;
+      fault = fault_more c.args.scope.now c.args.trees.now i c.tree-item.result (omega arith) c.tree-item.is c.loop-tree.k c.in-Ok-or_drop.field-0.1 c.in-Ok-or_drop.ensures.next c.args.of.1.now all c.loop-tree.invariant.fault;
     }
 
 pub resolve_items-returns-clause-are : goal.resolve_items-returns-clause-are
