@@ -37,7 +37,7 @@ impl Pen {
         for c in piece.chars() {
             if c < ' ' || c == '%' || c == '\u{7f}' {
                 let code = u32::from(c);
-                self.put_string(&format!(in alloc; "%{code:02x}"));
+                self.put_string(format!(in alloc; "%{code:02x}"));
             } else {
                 self.put_char(c);
             }
@@ -45,17 +45,23 @@ impl Pen {
     }
 
     /// Writes what was made, if it was.
-    pub fn put_text(&mut self, made: &Result<Text, NoMemory>) {
+    pub fn put_text(&mut self, made: Result<Text, NoMemory>) {
         match made {
-            Ok(text) => self.put(text.as_str()),
+            Ok(text) => {
+                self.put(text.as_str());
+                drop(text);
+            }
             Err(_) => self.is_whole = false,
         }
     }
 
     /// Writes what was formatted, if it was.
-    pub fn put_string(&mut self, made: &Result<String, AllocError>) {
+    pub fn put_string(&mut self, made: Result<String, AllocError>) {
         match made {
-            Ok(text) => self.put(text.as_str()),
+            Ok(text) => {
+                self.put(text.as_str());
+                drop(text);
+            }
             Err(_) => self.is_whole = false,
         }
     }

@@ -47,7 +47,7 @@ fn put_value(pen: &mut Pen, stage: &Stage<'_, '_>, meta: u32, value: &Value) {
             pen.put_on_line(stage.alloc, text.as_str());
             pen.put("'");
         }
-        Value::Int(i) => pen.put_string(&format!(in stage.alloc; "{i}")),
+        Value::Int(i) => pen.put_string(format!(in stage.alloc; "{i}")),
         Value::Bool(b) => pen.put(bool_word(*b)),
         Value::Lit(e, place) => pen.put(literal_name(stage.metas, meta, *e, *place)),
     }

@@ -12,7 +12,7 @@ use std::alloc::Global;
 fn put_rest(alloc: Global, pen: &mut Pen, reading: &Reading) {
     let end = reading.end;
     if end != reading.count {
-        pen.put_string(&format!(in alloc; " rest {end}"));
+        pen.put_string(format!(in alloc; " rest {end}"));
     }
 }
 
@@ -30,7 +30,7 @@ pub fn put_end(alloc: Global, pen: &mut Pen, bytes: &[u8]) {
     if let Some(reading) = read(alloc, pen, bytes) {
         let end = reading.end;
         drop(reading);
-        pen.put_string(&format!(in alloc; "{end}"));
+        pen.put_string(format!(in alloc; "{end}"));
     }
 }
 
@@ -40,8 +40,7 @@ fn put_type_of(alloc: Global, pen: &mut Pen, metas: &Metas, env: &Env<'_>, expr:
         Ok(typed) => {
             let text = type_text(alloc, metas, &typed.ty);
             drop(typed);
-            pen.put_text(&text);
-            drop(text);
+            pen.put_text(text);
         }
         Err(error) => {
             put_type_fault(pen, &error);

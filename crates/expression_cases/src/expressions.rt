@@ -5,7 +5,7 @@ use qv_syntax::{Args, Expr, Infix, Kind, Name, Path, Postfix, TypeTree};
 use std::alloc::Global;
 
 fn put_path(alloc: Global, pen: &mut Pen, path: &Path) {
-    pen.put_text(&path_text(alloc, path));
+    pen.put_text(path_text(alloc, path));
 }
 
 /// A type as it is written.
@@ -70,7 +70,7 @@ pub fn put_tree(alloc: Global, pen: &mut Pen, expr: &Expr) {
 /// An expression that has no parts.
 fn put_leaf(alloc: Global, pen: &mut Pen, expr: &Expr) {
     match expr {
-        Expr::Number { value, .. } => pen.put_string(&format!(in alloc; "{value}")),
+        Expr::Number { value, .. } => pen.put_string(format!(in alloc; "{value}")),
         Expr::Str { value, .. } => put_string(pen, value),
         Expr::Bool { value, .. } => pen.put(bool_word(*value)),
         Expr::Null { .. } => pen.put("null"),

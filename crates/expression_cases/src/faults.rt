@@ -4,7 +4,7 @@ use ql_lex::LexError;
 use std::alloc::Global;
 
 fn put_placed(alloc: Global, pen: &mut Pen, word: &str, at: usize) {
-    pen.put_string(&format!(in alloc; "{word} {at}"));
+    pen.put_string(format!(in alloc; "{word} {at}"));
 }
 
 /// A fault of tokens: its kind and its place.

@@ -23,7 +23,7 @@ fn put_each(alloc: Global, pen: &mut Pen, tokens: &Tokens<'_>) {
         if i > 0 {
             pen.put(", ");
         }
-        pen.put_string(&format!(in alloc; "{kind:?} {text} {start}..{end}"));
+        pen.put_string(format!(in alloc; "{kind:?} {text} {start}..{end}"));
     }
 }
 
@@ -33,7 +33,7 @@ pub fn put_count(alloc: Global, pen: &mut Pen, bytes: &[u8]) {
     match &tokens {
         Ok(tokens) => {
             let count = tokens.len();
-            pen.put_string(&format!(in alloc; "{count}"));
+            pen.put_string(format!(in alloc; "{count}"));
         }
         Err(error) => put_lex_fault(alloc, pen, error),
     }

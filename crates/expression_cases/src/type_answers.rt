@@ -44,8 +44,7 @@ fn put_written(alloc: Global, pen: &mut Pen, metas: &Metas, env: &Env<'_>, tree:
 fn put_named(alloc: Global, pen: &mut Pen, metas: &Metas, ty: Ty) {
     let text = type_text(alloc, metas, &ty);
     drop(ty);
-    pen.put_text(&text);
-    drop(text);
+    pen.put_text(text);
 }
 
 /// A type as it is printed.

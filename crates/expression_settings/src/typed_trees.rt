@@ -8,7 +8,7 @@ use std::alloc::Global;
 
 fn put_type(alloc: Global, pen: &mut Pen, metas: &Metas, ty: &Ty) {
     pen.put(" : ");
-    pen.put_text(&type_text(alloc, metas, ty));
+    pen.put_text(type_text(alloc, metas, ty));
 }
 
 /// A typed tree: each part in parentheses with its type behind it. Names are numbers, as in the tree.
@@ -28,7 +28,7 @@ fn put_node(alloc: Global, pen: &mut Pen, metas: &Metas, node: &Node) {
             value,
             body,
         } => {
-            pen.put_string(&format!(in alloc; "let {variable} = "));
+            pen.put_string(format!(in alloc; "let {variable} = "));
             put_typed_tree(alloc, pen, metas, value.get());
             put_behind(alloc, pen, metas, " in ", body.get());
         }
@@ -56,7 +56,7 @@ fn put_node(alloc: Global, pen: &mut Pen, metas: &Metas, node: &Node) {
             put_list(alloc, pen, metas, elements.as_slice());
         }
         Node::Query { query, args } => {
-            pen.put_string(&format!(in alloc; "query {query}"));
+            pen.put_string(format!(in alloc; "query {query}"));
             put_list(alloc, pen, metas, args.as_slice());
         }
         _ => put_leaf(alloc, pen, node),
@@ -73,7 +73,7 @@ pub fn put_string(pen: &mut Pen, value: &Literal) {
 /// A node that has no parts.
 fn put_leaf(alloc: Global, pen: &mut Pen, node: &Node) {
     match node {
-        Node::Number { value } => pen.put_string(&format!(in alloc; "{value}")),
+        Node::Number { value } => pen.put_string(format!(in alloc; "{value}")),
         Node::Str { value } => put_string(pen, value),
         Node::Bool { value } => pen.put(bool_word(*value)),
         Node::Null => pen.put("null"),
@@ -82,12 +82,12 @@ fn put_leaf(alloc: Global, pen: &mut Pen, node: &Node) {
             meta,
             enumeration: EnumId(e),
             literal,
-        } => pen.put_string(&format!(in alloc; "literal {meta} {e} {literal}")),
-        Node::Variable { number } => pen.put_string(&format!(in alloc; "variable {number}")),
+        } => pen.put_string(format!(in alloc; "literal {meta} {e} {literal}")),
+        Node::Variable { number } => pen.put_string(format!(in alloc; "variable {number}")),
         Node::Extent {
             model,
             class: ClassId(c),
-        } => pen.put_string(&format!(in alloc; "extent {model} {c}")),
+        } => pen.put_string(format!(in alloc; "extent {model} {c}")),
         _ => (),
     }
 }
@@ -135,22 +135,22 @@ fn put_call(alloc: Global, pen: &mut Pen, metas: &Metas, call: &Call) {
     match call {
         Call::Property { prop, values } => {
             let p = prop.0;
-            pen.put_string(&format!(in alloc; "property {p} {values:?}"));
+            pen.put_string(format!(in alloc; "property {p} {values:?}"));
         }
         Call::CollectProperty { prop, values } => {
             let p = prop.0;
-            pen.put_string(&format!(in alloc; "collected {p} {values:?}"));
+            pen.put_string(format!(in alloc; "collected {p} {values:?}"));
         }
         Call::Operation { operation, args } => {
-            pen.put_string(&format!(in alloc; "{operation:?}"));
+            pen.put_string(format!(in alloc; "{operation:?}"));
             put_list(alloc, pen, metas, args.as_slice());
         }
         Call::Class { operation, class } => {
             let c = class.0;
-            pen.put_string(&format!(in alloc; "{operation:?} {c}"));
+            pen.put_string(format!(in alloc; "{operation:?} {c}"));
         }
         Call::Collection { operation, args } => {
-            pen.put_string(&format!(in alloc; "{operation:?}"));
+            pen.put_string(format!(in alloc; "{operation:?}"));
             put_list(alloc, pen, metas, args.as_slice());
         }
         Call::Iterator {
@@ -158,7 +158,7 @@ fn put_call(alloc: Global, pen: &mut Pen, metas: &Metas, call: &Call) {
             variable,
             body,
         } => {
-            pen.put_string(&format!(in alloc; "{iterator:?} {variable} "));
+            pen.put_string(format!(in alloc; "{iterator:?} {variable} "));
             put_typed_tree(alloc, pen, metas, body.get());
         }
     }

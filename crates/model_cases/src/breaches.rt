@@ -51,7 +51,7 @@ pub(crate) fn print_depth(
         Some(_) => pen.put("unknown"),
         None => {
             let depth = model.depth(o);
-            pen.put_string(&format!(in alloc; "{depth}"));
+            pen.put_string(format!(in alloc; "{depth}"));
         }
     }
     Ok(())
@@ -67,7 +67,7 @@ pub(crate) fn print_greatest_depth(
         Some(_) => pen.put("unknown"),
         None => {
             let depth = model.greatest_depth(alloc)?;
-            pen.put_string(&format!(in alloc; "{depth}"));
+            pen.put_string(format!(in alloc; "{depth}"));
         }
     }
     Ok(())

@@ -60,8 +60,8 @@ fn put_repeated(alloc: Global, pen: &mut Pen, text: &str) {
 fn put_piece(alloc: Global, pen: &mut Pen, piece: &str, number: u32) {
     for c in piece.chars() {
         match c {
-            '%' => pen.put_string(&format!(in alloc; "{number:08}")),
-            '^' => pen.put_string(&format!(in alloc; "{:08}", u64::from(number) + 1)),
+            '%' => pen.put_string(format!(in alloc; "{number:08}")),
+            '^' => pen.put_string(format!(in alloc; "{:08}", u64::from(number) + 1)),
             '~' => put_earlier(alloc, pen, number),
             _ => pen.put_char(c),
         }
@@ -71,6 +71,6 @@ fn put_piece(alloc: Global, pen: &mut Pen, piece: &str, number: u32) {
 /// The names of all classes before.
 fn put_earlier(alloc: Global, pen: &mut Pen, number: u32) {
     for earlier in 0..number {
-        pen.put_string(&format!(in alloc; " C{earlier:08}"));
+        pen.put_string(format!(in alloc; " C{earlier:08}"));
     }
 }

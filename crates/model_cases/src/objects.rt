@@ -89,7 +89,7 @@ fn print_value(alloc: Global, pen: &mut Pen, meta: &MetaModel, value: &Value) {
             pen.put("'");
             pen.put(text.as_str());
         }
-        Value::Int(i) => pen.put_string(&format!(in alloc; "{i}")),
+        Value::Int(i) => pen.put_string(format!(in alloc; "{i}")),
         Value::Bool(b) => pen.put(if *b { "true" } else { "false" }),
         Value::Lit(e, n) => pen.put(literal_name(meta, *e, *n)),
     }

@@ -96,9 +96,9 @@ fn print_prop(alloc: Global, pen: &mut Pen, meta: &MetaModel, prop: &Prop) {
 
 /// Bounds, as `0..*`.
 pub(crate) fn print_bounds(alloc: Global, pen: &mut Pen, lower: u32, upper: Option<u32>) {
-    pen.put_string(&format!(in alloc; "{lower}.."));
+    pen.put_string(format!(in alloc; "{lower}.."));
     match upper {
-        Some(upper) => pen.put_string(&format!(in alloc; "{upper}")),
+        Some(upper) => pen.put_string(format!(in alloc; "{upper}")),
         None => pen.put("*"),
     }
 }

@@ -126,7 +126,7 @@ fn print_depth_of(
 
 fn print_number(alloc: Global, pen: &mut Pen, model: &Model<'_>, id: &str) {
     match model.by_id(id) {
-        Some(o) => pen.put_string(&format!(in alloc; "{}", o.0)),
+        Some(o) => pen.put_string(format!(in alloc; "{}", o.0)),
         None => pen.put("none"),
     }
 }
@@ -134,15 +134,15 @@ fn print_number(alloc: Global, pen: &mut Pen, model: &Model<'_>, id: &str) {
 fn print_count(alloc: Global, pen: &mut Pen, model: &Model<'_>) {
     let count = model.len();
     let end = model.end();
-    pen.put_string(&format!(in alloc; "{count} of {end}"));
+    pen.put_string(format!(in alloc; "{count} of {end}"));
 }
 
 /// Prints the number of the class or the enumeration of a name.
 fn print_named(alloc: Global, pen: &mut Pen, meta: &MetaModel, name: &str) {
     match meta.class_named(name) {
-        Some(c) => pen.put_string(&format!(in alloc; "class {}", c.0)),
+        Some(c) => pen.put_string(format!(in alloc; "class {}", c.0)),
         None => match meta.enum_named(name) {
-            Some(e) => pen.put_string(&format!(in alloc; "enum {}", e.0)),
+            Some(e) => pen.put_string(format!(in alloc; "enum {}", e.0)),
             None => pen.put("none"),
         },
     }
@@ -153,10 +153,10 @@ fn print_property(alloc: Global, pen: &mut Pen, meta: &MetaModel, c: &Command<'_
     match prop_named(meta, c.object, c.prop) {
         Some(p) => {
             let (lower, upper) = meta.bounds(p);
-            pen.put_string(&format!(in alloc; "{} ", p.0));
+            pen.put_string(format!(in alloc; "{} ", p.0));
             print_bounds(alloc, pen, lower, upper);
             if let Some(q) = meta.opposite(p) {
-                pen.put_string(&format!(in alloc; " opposite {}", q.0));
+                pen.put_string(format!(in alloc; " opposite {}", q.0));
             }
         }
         None => pen.put("none"),

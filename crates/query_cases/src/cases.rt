@@ -94,7 +94,7 @@ fn put_queries(alloc: Global, pen: &mut Pen, queries: &[Query]) {
         let count = query.params.len();
         pen.put(" ");
         pen.put(query.name.as_str());
-        pen.put_string(&format!(in alloc; "/{count}:"));
-        pen.put_text(&type_text(alloc, &metas, &query.body.ty));
+        pen.put_string(format!(in alloc; "/{count}:"));
+        pen.put_text(type_text(alloc, &metas, &query.body.ty));
     }
 }

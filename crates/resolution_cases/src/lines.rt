@@ -21,7 +21,7 @@ fn put_bytes(pen: &mut Pen, line: &[u8]) {
 
 /// A number behind a blank.
 pub fn put_number(alloc: Global, pen: &mut Pen, number: u32) {
-    pen.put_string(&format!(in alloc; " {number}"));
+    pen.put_string(format!(in alloc; " {number}"));
 }
 
 /// Numbers, each behind a blank.

@@ -35,7 +35,7 @@ fn put_match(alloc: Global, pen: &mut Pen, script: &Script, target: &str, names:
     match names_match(script, target, names) {
         None => pen.put(" all"),
         Some(NameFault::Target) => pen.put(" target"),
-        Some(NameFault::Extra(place)) => pen.put_string(&format!(in alloc; " extra {place}")),
-        Some(NameFault::Missing(place)) => pen.put_string(&format!(in alloc; " missing {place}")),
+        Some(NameFault::Extra(place)) => pen.put_string(format!(in alloc; " extra {place}")),
+        Some(NameFault::Missing(place)) => pen.put_string(format!(in alloc; " missing {place}")),
     }
 }

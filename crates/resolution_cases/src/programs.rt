@@ -23,7 +23,7 @@ fn put_head(alloc: Global, pen: &mut Pen, program: &Program) {
     let target = program.target;
     pen.put("\n  ");
     pen.put(program.name.as_str());
-    pen.put_string(&format!(in alloc; " towards {target}"));
+    pen.put_string(format!(in alloc; " towards {target}"));
 }
 
 fn put_models(alloc: Global, pen: &mut Pen, models: &[ModelSlot]) {
@@ -31,7 +31,7 @@ fn put_models(alloc: Global, pen: &mut Pen, models: &[ModelSlot]) {
         let meta = model.meta;
         pen.put("\n  model ");
         pen.put(model.name.as_str());
-        pen.put_string(&format!(in alloc; " of {meta}"));
+        pen.put_string(format!(in alloc; " of {meta}"));
     }
 }
 
@@ -44,7 +44,7 @@ fn put_keys(alloc: Global, pen: &mut Pen, keys: &[Key]) {
 fn put_key(alloc: Global, pen: &mut Pen, key: &Key) {
     let meta = key.meta;
     let class = key.class.0;
-    pen.put_string(&format!(in alloc; "\n  key {meta} {class}:"));
+    pen.put_string(format!(in alloc; "\n  key {meta} {class}:"));
     for prop in key.props.as_slice() {
         put_number(alloc, pen, prop.0);
     }
@@ -62,7 +62,7 @@ fn put_query(alloc: Global, pen: &mut Pen, metas: &Metas, query: &Query) {
     pen.put("(");
     put_types(alloc, pen, metas, query.params.as_slice());
     pen.put(") : ");
-    pen.put_text(&type_text(alloc, metas, &query.result));
+    pen.put_text(type_text(alloc, metas, &query.result));
     pen.put(" is ");
     put_typed_tree(alloc, pen, metas, &query.body);
 }
@@ -73,7 +73,7 @@ fn put_types(alloc: Global, pen: &mut Pen, metas: &Metas, types: &[Ty]) {
         if is_later {
             pen.put(", ");
         }
-        pen.put_text(&type_text(alloc, metas, ty));
+        pen.put_text(type_text(alloc, metas, ty));
         is_later = true;
     }
 }

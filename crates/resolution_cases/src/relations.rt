@@ -37,12 +37,12 @@ fn put_head(alloc: Global, pen: &mut Pen, relation: &Rel) {
     if relation.in_direction {
         pen.put(", in the direction");
     }
-    pen.put_string(&format!(in alloc; ", stratum {stratum}"));
+    pen.put_string(format!(in alloc; ", stratum {stratum}"));
 }
 
 fn put_variables(alloc: Global, pen: &mut Pen, metas: &Metas, vars: &[Var]) {
     for (number, var) in vars.iter().enumerate() {
-        pen.put_string(&format!(in alloc; "\n    variable {number} "));
+        pen.put_string(format!(in alloc; "\n    variable {number} "));
         put_variable(alloc, pen, metas, var);
     }
 }
@@ -50,9 +50,9 @@ fn put_variables(alloc: Global, pen: &mut Pen, metas: &Metas, vars: &[Var]) {
 fn put_variable(alloc: Global, pen: &mut Pen, metas: &Metas, var: &Var) {
     pen.put(var.name.as_str());
     pen.put(" : ");
-    pen.put_text(&type_text(alloc, metas, &var.ty));
+    pen.put_text(type_text(alloc, metas, &var.ty));
     if let Some(model) = var.model {
-        pen.put_string(&format!(in alloc; " of {model}"));
+        pen.put_string(format!(in alloc; " of {model}"));
     }
 }
 
@@ -75,9 +75,9 @@ fn put_domain(alloc: Global, pen: &mut Pen, metas: &Metas, domain: &Dom) {
     pen.put("\n    domain ");
     pen.put(marker_word(domain.marker));
     if let Some(model) = domain.model {
-        pen.put_string(&format!(in alloc; " of {model}"));
+        pen.put_string(format!(in alloc; " of {model}"));
     }
-    pen.put_string(&format!(in alloc; ", root {root}"));
+    pen.put_string(format!(in alloc; ", root {root}"));
     if let Some(template) = &domain.template {
         pen.put(", ");
         put_template(alloc, pen, metas, template);
@@ -99,11 +99,11 @@ fn put_conjunct(alloc: Global, pen: &mut Pen, metas: &Metas, conjunct: &Conj) {
             put_typed_tree(alloc, pen, metas, tree);
         }
         Conj::Equation(number, tree) => {
-            pen.put_string(&format!(in alloc; " equation {number} = "));
+            pen.put_string(format!(in alloc; " equation {number} = "));
             put_typed_tree(alloc, pen, metas, tree);
         }
         Conj::Call(number, args) => {
-            pen.put_string(&format!(in alloc; " call {number}"));
+            pen.put_string(format!(in alloc; " call {number}"));
             put_arguments(alloc, pen, metas, args.as_slice());
         }
     }

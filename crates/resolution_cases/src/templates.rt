@@ -10,7 +10,7 @@ use std::alloc::Global;
 pub fn put_template(alloc: Global, pen: &mut Pen, metas: &Metas, template: &Tmpl) {
     let var = template.var;
     let class = template.class.0;
-    pen.put_string(&format!(in alloc; "{var}: class {class} {{"));
+    pen.put_string(format!(in alloc; "{var}: class {class} {{"));
     put_items(alloc, pen, metas, template.items.as_slice());
     pen.put("}");
 }
@@ -30,7 +30,7 @@ fn put_items(alloc: Global, pen: &mut Pen, metas: &Metas, items: &[Item]) {
 #[cycle(printing)]
 fn put_item(alloc: Global, pen: &mut Pen, metas: &Metas, item: &Item) {
     let prop = item.prop.0;
-    pen.put_string(&format!(in alloc; "{prop} = "));
+    pen.put_string(format!(in alloc; "{prop} = "));
     match &item.value {
         ItemValue::Null => pen.put("null"),
         ItemValue::Expr { value } => put_typed_tree(alloc, pen, metas, value),
