@@ -1,5 +1,5 @@
 -- Marks that are written, and how many are new.
-use Rattle.std.proofs.Common.{◌≡◌, ◌≢◌, ◌<◌, ◌≤◌, ◌+◌, ℕ, zero, suc, List, [], ◌∷◌, length, set, sym, ◌∙◌, ap, ⊎_elim, ◌⊎◌, inl, inr, arith}
+use Rattle.std.proofs.Common.{◌≡◌, ◌≢◌, ◌<◌, ◌≤◌, ◌+◌, ℕ, zero, suc, List, [], ◌∷◌, length, set, get_or, refl, sym, ◌∙◌, ap, ⊎_elim, ◌⊎◌, inl, inr, arith}
 use Rattle.std.proofs.lemmas.List.{get_or-set_same, get_or-set_other}
 use Rattle.std.proofs.lemmas.Bool.{cases_eq}
 use Rattle.call_graph.specs.declared.mark.Mark.{Mark}
@@ -19,6 +19,12 @@ pub new_within : (marks : List Mark) (u : ℕ) → mark_at marks u ≡ New → u
 new_within [] u h = absurd (new_done (sym h))
 new_within (m ∷ marks) zero h = omega arith
 new_within (m ∷ marks) (suc u) h = let below = new_within marks u h in omega (arith, below)
+
+-- within the marks it doesn't matter what stands for those past the end
+pub same_mark : (marks : List Mark) (u : ℕ) (d : Mark) → u < length marks → mark_at marks u ≡ get_or marks u d
+same_mark [] u d within = absurd (omega (arith, within))
+same_mark (m ∷ marks) zero d within = refl
+same_mark (m ∷ marks) (suc u) d within = same_mark marks u d (omega (arith, within))
 
 -- a node is the one that is written, or another
 pub written : (marks : List Mark) (u w : ℕ) (m : Mark) → u < length marks → ((w ≡ u) × (mark_at (set marks u m) w ≡ m)) ⊎ ((w ≢ u) × (mark_at (set marks u m) w ≡ mark_at marks w))

@@ -13,3 +13,7 @@ loop-root-preserved c = (
 
 pub returns : goal.returns
 returns c = no_cycle_at_all c.args.graph.now c.loop-root.marks c.loop-root.next c.loop-root.root c.loop-root.invariant.0 c.loop-root.invariant.1 c.loop-root-test.false
+
+pub returns-in-Some : goal.returns-in-Some
+returns-in-Some c =
+    subst (λ o. MatchOption o (IsSearch c.args.graph.now c.visit.new.marks c.visit.new.next []) (IsOnCycle c.args.graph.now)) c.in-Some.is c.in_ok-u.ensures.search
