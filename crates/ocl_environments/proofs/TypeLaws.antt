@@ -80,3 +80,25 @@ same_itself = ind-Ty (λ a. same_type a a ≡ true) (λ x y made.
 
 pub same_is_one : (a b : Ty) → IsTrue (same_type a b) ↔ (a ≡ b)
 same_is_one a b = (same_types a b, λ same. subst (λ c. same_type a c ≡ true) same (same_itself a))
+
+-- of what a function answers that is proved to be the test
+pub same_told : (r : Bool) (a b : Ty) → r ≡ same_type a b → IsTrue r ↔ (a ≡ b)
+same_told r a b is = subst (λ t. IsTrue t ↔ (a ≡ b)) (sym is) (same_is_one a b)
+
+-- of two that are one
+pub same_here : (a b c : Ty) → a ≡ c → b ≡ c → IsTrue true ↔ (a ≡ b)
+same_here a b c one other = (λ is. one ∙ sym other, λ is. refl)
+
+-- the test asks the layers
+pub same_rolled : (x y : of.Ty-F Ty) (a b : Ty) → roll-Ty x ≡ a → roll-Ty y ≡ b → same_type a b ≡ same_layer (map-Ty Ty (Ty → Bool) same_type x) y
+same_rolled x y a b one other =
+    ap (λ t. same_type t b) (sym one) ∙ ap (same_type (roll-Ty x)) (sym other) ∙ ap (λ f. f (roll-Ty y)) (fold-roll-Ty (Ty → Bool) same_step x)
+    ∙ ap (same_layer (map-Ty Ty (Ty → Bool) same_type x)) (out-roll-Ty y)
+
+pub and_second : (a b : Bool) → a ≡ true → b ≡ (a && b)
+and_second true b is = refl
+and_second false b is = absurd (false≢true is)
+
+pub and_first : (a b : Bool) → a ≡ false → a ≡ (a && b)
+and_first true b is = absurd (false≢true (sym is))
+and_first false b is = refl

@@ -60,6 +60,7 @@ impl Metas {
         ensures err { OnErr result (self.new ≡ self.old) }
     {
         if self.metas.len() >= MAX_NUMBERED {
+            drop(meta);
             return Err(NoMemory);
         }
         // No fault stands in the new one.

@@ -1,6 +1,6 @@
-use Rattle.std.proofs.Common.{sym, ap, ◌∙◌, ◌++◌, arith}
+use Rattle.std.proofs.Common.{sym, refl, ap, ◌∙◌, ◌++◌, arith}
 use Rattle.ocl_environments.specs.QueryCalls.{called_by, called_behind, called_with}
-use Rattle.ocl_environments.proofs.QueryCallLemmas.{calls_more, by_link, calls_of_step}
+use Rattle.ocl_environments.proofs.QueryCallLemmas.{calls_more, by_link, calls_of_step, let_calls, chain_calls, postfix_calls, if_calls, query_calls, both_behind, behind_told}
 use Rattle.ocl_environments.proofs.query_calls.+calls.Goals as goal
 
 pub put_all-loop-tree-preserved : goal.put_all-loop-tree-preserved
@@ -17,3 +17,31 @@ pub put_postfixes-loop-postfix-preserved : goal.put_postfixes-loop-postfix-prese
 put_postfixes-loop-postfix-preserved t c =
     calls_more called_with c.args.postfixes.now c.loop-postfix.postfix-index c.postfix-item.result c.args.calls.now c.loop-postfix.calls c.put_call.new.calls (omega arith) c.postfix-item.is
     c.loop-postfix.invariant (c.in_ok-put_call.ensures ∙ ap (λ ys. c.loop-postfix.calls ++ ys) (sym (calls_of_step c.postfix-item.result)))
+
+pub put_node-returns-in_ok-put_calls-in-Let : goal.put_node-returns-in_ok-put_calls-in-Let
+put_node-returns-in_ok-put_calls-in-Let t c =
+    behind_told c.put_calls-in-Let.result _ _ _ _ _ _ c.in_ok-put_calls-in-Let.ensures
+    (let_calls c.args.node.now c.in-Let.variable c.in-Let.value c.in-Let.body c.get.result.now c.get-in-Let.result.now c.in-Let.is c.get.ensures c.get-in-Let.ensures)
+    c.put_calls-in-Let.ensures
+
+pub put_node-returns-in_ok-put_calls-in-Chain : goal.put_node-returns-in_ok-put_calls-in-Chain
+put_node-returns-in_ok-put_calls-in-Chain t c =
+    behind_told c.put_links.result _ _ _ _ _ _ c.in_ok-put_calls-in-Chain.ensures
+    (chain_calls c.args.node.now c.in-Chain.first c.get-in-Chain.result.now c.in-Chain.rest c.as_slice.result.now c.in-Chain.is c.get-in-Chain.ensures c.as_slice.ensures) c.put_links.ensures
+
+pub put_node-returns-in_ok-put_calls-in-Calls : goal.put_node-returns-in_ok-put_calls-in-Calls
+put_node-returns-in_ok-put_calls-in-Calls t c =
+    behind_told c.put_postfixes.result _ _ _ _ _ _ c.in_ok-put_calls-in-Calls.ensures
+    (postfix_calls c.args.node.now c.in-Calls.of c.get-in-Calls.result.now c.in-Calls.postfixes c.as_slice-in-Calls.result.now c.in-Calls.is c.get-in-Calls.ensures c.as_slice-in-Calls.ensures)
+    c.put_postfixes.ensures
+
+pub put_node-returns-in_ok-put_calls-in-If-2 : goal.put_node-returns-in_ok-put_calls-in-If-2
+put_node-returns-in_ok-put_calls-in-If-2 t c =
+    behind_told c.put_calls-in-If-3.result _ _ _ _ _ _ (c.in_ok-put_calls-in-If-2.ensures ∙ both_behind c.args.calls.now _ _ _ _ c.in_ok-put_calls-in-If.ensures refl)
+    (if_calls c.args.node.now c.in-If.condition c.in-If.one c.in-If.other c.get-in-If.result.now c.get-in-If-2.result.now c.get-in-If-3.result.now c.in-If.is c.get-in-If.ensures
+    c.get-in-If-2.ensures c.get-in-If-3.ensures) c.put_calls-in-If-3.ensures
+
+pub put_node-returns-in_ok-push-in-Query : goal.put_node-returns-in_ok-push-in-Query
+put_node-returns-in_ok-push-in-Query t c =
+    behind_told c.put_all-in-Query.result _ _ _ _ _ _ c.in_ok-push-in-Query.ensures.ok
+    (query_calls c.args.node.now c.in-Query.query c.in-Query.args c.as_slice-in-Query.result.now c.in-Query.is c.as_slice-in-Query.ensures) c.put_all-in-Query.ensures

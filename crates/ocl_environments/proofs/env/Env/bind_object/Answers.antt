@@ -1,0 +1,4 @@
+use Rattle.ocl_environments.proofs.env.Env.bind_object.Goals as goal
+
+pub returns-clause-ok : goal.returns-clause-ok
+returns-clause-ok c = assumption

@@ -1,0 +1,9 @@
+use Rattle.std.proofs.Common.{arith}
+use Rattle.std.proofs.lemmas.Grind.{common_steps}
+use Rattle.ocl_environments.proofs.query_calls.put_rows.Goals as goal
+
+pub loop-query-preserved : goal.loop-query-preserved
+loop-query-preserved c = grind (arith, common_steps)
+
+pub returns : goal.returns
+returns c = grind (arith, common_steps)
