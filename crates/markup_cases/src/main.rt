@@ -23,7 +23,21 @@ mod reading;
 mod writing;
 
 use cases::answer;
+use mof_metamodel::{NoMemory, Text};
 use std::io;
+
+/// Prints a case with its answer.
+fn print_answer(rt: &impl Print, line: &str, answer: Result<Text, NoMemory>) -> io::Result<()> {
+    match answer {
+        Ok(text) => {
+            let answer = text.as_str();
+            let printed = println!(rt; "{line} => {answer}");
+            drop(text);
+            printed
+        }
+        Err(_) => println!(rt; "{line} => no memory"),
+    }
+}
 
 fn main(rt: HostRuntime) -> io::Result<()> {
     let cases = io::read_to_string(rt.alloc(), rt.reader())?;
@@ -31,10 +45,7 @@ fn main(rt: HostRuntime) -> io::Result<()> {
         if line.is_empty() || line.starts_with('#') {
             println!(rt; "{line}")?;
         } else {
-            match answer(rt.alloc(), line) {
-                Ok(answer) => println!(rt; "{line} => {answer}")?,
-                Err(_) => println!(rt; "{line} => no memory")?,
-            }
+            print_answer(&rt, line, answer(rt.alloc(), line))?;
         }
     }
     Ok(())

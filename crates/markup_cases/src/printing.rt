@@ -1,4 +1,5 @@
-use mof_metamodel::NoMemory;
+use case_texts::Pen;
+use mof_metamodel::{NoMemory, Text};
 use std::alloc::Global;
 use xmi_text::{Attr, Mark, TextFault};
 
@@ -8,103 +9,113 @@ const SHOWN_CHARACTERS: usize = 40;
 /// The most marks that are shown.
 const SHOWN_MARKS: usize = 16;
 
-/// A text with the numbers of its characters that aren't printed ASCII.
-pub fn shown(alloc: Global, text: &str) -> Result<String, NoMemory> {
-    shown_up_to(alloc, text, SHOWN_CHARACTERS)
+/// Puts a text with the numbers of its characters that aren't printed ASCII.
+pub fn put_shown(alloc: Global, pen: &mut Pen, text: &str) {
+    put_shown_up_to(alloc, pen, text, SHOWN_CHARACTERS);
 }
 
 /// The same. Of a text that has more characters than this, the first eight and their count.
-pub fn shown_up_to(alloc: Global, text: &str, most: usize) -> Result<String, NoMemory> {
+pub fn put_shown_up_to(alloc: Global, pen: &mut Pen, text: &str, most: usize) {
     let count = text.chars().count();
-    let mut out = String::new(alloc);
     let taken = if count > most { 8 } else { most };
     for c in text.chars().take(taken) {
-        push_shown(alloc, &mut out, c)?;
+        put_character(alloc, pen, c);
     }
     if count > most {
-        out.push_str(format!(in alloc; "..[{count} characters]")?.as_str())?;
+        pen.put_string(format!(in alloc; "..[{count} characters]"));
     }
-    Ok(out)
 }
 
-fn push_shown(alloc: Global, out: &mut String, c: char) -> Result<(), NoMemory> {
+fn put_character(alloc: Global, pen: &mut Pen, c: char) {
     if c >= ' ' && c <= '~' {
-        out.push(c)?;
+        pen.put_char(c);
     } else {
         let number = u32::from(c);
-        out.push_str(format!(in alloc; "[{number:X}]")?.as_str())?;
+        pen.put_string(format!(in alloc; "[{number:X}]"));
     }
-    Ok(())
 }
 
-/// A fault: the word of its kind, and its place.
-pub fn shown_fault(alloc: Global, fault: TextFault) -> Result<String, NoMemory> {
-    let word = fault.kind.word();
+/// Puts a fault: the word of its kind, and its place.
+pub fn put_fault(alloc: Global, pen: &mut Pen, fault: TextFault) {
     let at = fault.at;
-    Ok(format!(in alloc; "{word} {at}")?)
+    pen.put(fault.kind.word());
+    pen.put_string(format!(in alloc; " {at}"));
 }
 
-fn shown_mark(alloc: Global, mark: &Mark) -> Result<String, NoMemory> {
+fn put_mark(alloc: Global, pen: &mut Pen, mark: &Mark) {
     match mark {
         Mark::Open { name, attrs, at } => {
-            let name = shown(alloc, name.as_str())?;
-            let attrs = shown_attrs(alloc, attrs.as_slice())?;
-            Ok(format!(in alloc; "({name}{attrs}@{at}) ")?)
+            pen.put("(");
+            put_shown(alloc, pen, name.as_str());
+            put_attrs(alloc, pen, attrs.as_slice());
+            pen.put_string(format!(in alloc; "@{at}) "));
         }
         Mark::Data { text, at } => {
-            let text = shown(alloc, text.as_str())?;
-            Ok(format!(in alloc; "'{text}'@{at} ")?)
+            put_quoted(alloc, pen, text.as_str());
+            pen.put_string(format!(in alloc; "@{at} "));
         }
-        Mark::Close { at } => Ok(format!(in alloc; "/{at} ")?),
-        Mark::End => Ok(format!(in alloc; "END ")?),
+        Mark::Close { at } => pen.put_string(format!(in alloc; "/{at} ")),
+        Mark::End => pen.put("END "),
     }
 }
 
-/// The attributes of a tag, each with a blank before it, and a blank behind them.
-fn shown_attrs(alloc: Global, attrs: &[Attr]) -> Result<String, NoMemory> {
-    let mut out = String::new(alloc);
+fn put_quoted(alloc: Global, pen: &mut Pen, text: &str) {
+    pen.put("'");
+    put_shown(alloc, pen, text);
+    pen.put("'");
+}
+
+/// Puts the attributes of a tag, each with a blank before it, and a blank behind them.
+fn put_attrs(alloc: Global, pen: &mut Pen, attrs: &[Attr]) {
     for attr in attrs {
-        let name = shown(alloc, attr.name.as_str())?;
-        let value = shown(alloc, attr.value.as_str())?;
         let at = attr.at;
-        out.push_str(format!(in alloc; " {name}='{value}'@{at}")?.as_str())?;
+        pen.put(" ");
+        put_shown(alloc, pen, attr.name.as_str());
+        pen.put("=");
+        put_quoted(alloc, pen, attr.value.as_str());
+        pen.put_string(format!(in alloc; "@{at}"));
     }
     if !attrs.is_empty() {
-        out.push(' ')?;
+        pen.put(" ");
     }
-    Ok(out)
 }
 
-/// The marks that a reader gave. Of many only the first ones are shown, the last one, and their count.
+fn shown_mark(alloc: Global, mark: &Mark) -> Result<Text, NoMemory> {
+    let mut pen = Pen::new(alloc)?;
+    put_mark(alloc, &mut pen, mark);
+    pen.written()
+}
+
+/// The marks that a reader gave, each with a blank behind it. Of many only the first ones are shown, the last one, and their
+/// count.
 #[derive(Drop)]
 pub struct Trace {
     alloc: Global,
-    text: String,
+    pen: Pen,
     count: usize,
-    last: String,
+    last: Result<Text, NoMemory>,
 }
 
 impl Trace {
     /// Without a mark.
-    pub fn new(alloc: Global) -> Trace {
-        Trace {
+    pub fn new(alloc: Global) -> Result<Trace, NoMemory> {
+        let pen = Pen::new(alloc)?;
+        Ok(Trace {
             alloc,
-            text: String::new(alloc),
+            pen,
             count: 0,
-            last: String::new(alloc),
-        }
+            last: Text::new(alloc, ""),
+        })
     }
 
     /// Adds a mark.
-    pub fn push(&mut self, mark: &Mark) -> Result<(), NoMemory> {
-        let shown = shown_mark(self.alloc, mark)?;
+    pub fn push(&mut self, mark: &Mark) {
         if self.count < SHOWN_MARKS {
-            self.text.push_str(shown.as_str())?;
+            put_mark(self.alloc, &mut self.pen, mark);
         } else {
-            self.last = shown;
+            self.last = shown_mark(self.alloc, mark);
         }
         self.count = self.count.saturating_add(1);
-        Ok(())
     }
 
     /// Whether no mark came.
@@ -112,17 +123,21 @@ impl Trace {
         self.count == 0
     }
 
-    /// The marks, each with a blank behind it.
-    pub fn into_text(self) -> Result<String, NoMemory> {
+    /// Puts the marks.
+    pub fn put_into(self, pen: &mut Pen) {
         let Trace {
             alloc,
-            mut text,
+            pen: shown,
             count,
             last,
         } = self;
+        pen.put_text(shown.written());
         if count > SHOWN_MARKS {
-            text.push_str(format!(in alloc; ".. {last}[{count} marks] ")?.as_str())?;
+            pen.put(".. ");
+            pen.put_text(last);
+            pen.put_string(format!(in alloc; "[{count} marks] "));
+        } else {
+            drop(last);
         }
-        Ok(text)
     }
 }

@@ -1,7 +1,8 @@
 ghost use Rattle.std.specs.Prelude.{◌≡◌, ◌<◌, false, OnOk};
 
-use crate::printing::{Trace, shown_fault};
-use mof_metamodel::{NoMemory, or_drop};
+use crate::printing::{Trace, put_fault};
+use case_texts::Pen;
+use mof_metamodel::{NoMemory, Text, or_drop};
 use std::alloc::Global;
 use xmi_text::{Mark, Reader, Step, TextError, TextFault, TextKind};
 
@@ -20,7 +21,10 @@ fn drain(reader: &mut Reader, trace: &mut Trace) -> Result<Stop, NoMemory>
     'marks: for _ in 0..u64::MAX {
         match reader.next() {
             Ok(Step::Mark(Mark::End)) => return Ok(Stop::End),
-            Ok(Step::Mark(mark)) => trace.push(&mark)?,
+            Ok(Step::Mark(mark)) => {
+                trace.push(&mark);
+                drop(mark);
+            }
             Ok(Step::NotYet) => return Ok(Stop::NotYet),
             Err(TextError::Fault(fault)) => return Ok(Stop::Fault(fault)),
             Err(TextError::NoMemory) => return Err(NoMemory),
@@ -41,88 +45,107 @@ fn feed(reader: &mut Reader, bytes: &[u8], size: usize, trace: &mut Trace) -> Re
     Ok(())
 }
 
-/// The marks that a reader gives of a text in pieces of a size, and its last answer, which is asked for twice.
-fn outcome_of(
+/// Puts the marks that a reader gives of a text in pieces of a size, and its last answer, which is asked for twice.
+fn put_outcome(
     alloc: Global,
+    pen: &mut Pen,
     reader: &mut Reader,
     bytes: &[u8],
     size: usize,
-) -> Result<String, NoMemory>
+) -> Result<(), NoMemory>
     requires { reader.old.finished ≡ false }
 {
-    let mut trace = Trace::new(alloc);
+    let mut trace = Trace::new(alloc)?;
     or_drop!(feed(reader, bytes, size.max(1), &mut trace); trace);
     reader.finish();
     or_drop!(drain(reader, &mut trace); trace);
     let stop = or_drop!(drain(reader, &mut trace); trace);
-    let mut text = trace.into_text()?;
-    text.push_str(shown_stop(alloc, stop)?.as_str())?;
-    Ok(text)
+    trace.put_into(pen);
+    put_stop(alloc, pen, stop);
+    Ok(())
 }
 
 /// The marks of a text in pieces of a size, and its last answer.
-pub fn outcome(alloc: Global, bytes: &[u8], size: usize) -> Result<String, NoMemory> {
+pub fn outcome(alloc: Global, bytes: &[u8], size: usize) -> Result<Text, NoMemory> {
+    let mut pen = Pen::new(alloc)?;
     let mut reader = Reader::new(alloc);
-    let text = outcome_of(alloc, &mut reader, bytes, size);
+    let put = put_outcome(alloc, &mut pen, &mut reader, bytes, size);
     drop(reader);
-    text
+    or_drop!(put; pen);
+    pen.written()
 }
 
-fn shown_stop(alloc: Global, stop: Stop) -> Result<String, NoMemory> {
+fn put_stop(alloc: Global, pen: &mut Pen, stop: Stop) {
     match stop {
-        Stop::NotYet => Ok(format!(in alloc; "no last answer")?),
-        Stop::End => Ok(format!(in alloc; "END")?),
-        Stop::Fault(fault) => shown_fault(alloc, fault),
+        Stop::NotYet => pen.put("no last answer"),
+        Stop::End => pen.put("END"),
+        Stop::Fault(fault) => put_fault(alloc, pen, fault),
     }
 }
 
-/// The outcome of a whole text, and those of its pieces that are others.
-pub fn outcomes(alloc: Global, bytes: &[u8]) -> Result<String, NoMemory> {
-    let mut text = outcome(alloc, bytes, bytes.len())?;
-    let whole = text.clone()?;
+/// Puts the outcome of a whole text, and those of its pieces that are others.
+pub fn put_outcomes(alloc: Global, pen: &mut Pen, bytes: &[u8]) -> Result<(), NoMemory> {
+    let whole = outcome(alloc, bytes, bytes.len())?;
+    pen.put(whole.as_str());
+    let put = put_others(alloc, pen, bytes, whole.as_str());
+    drop(whole);
+    put
+}
+
+fn put_others(alloc: Global, pen: &mut Pen, bytes: &[u8], whole: &str) -> Result<(), NoMemory> {
     for size in [1, 2, 7] {
-        let other = outcome(alloc, bytes, size)?;
-        if other.as_str() != whole.as_str() {
-            text.push_str(format!(in alloc; " but in pieces of {size} {other}")?.as_str())?;
-        }
+        put_if_other(alloc, pen, outcome(alloc, bytes, size)?, size, whole);
     }
-    Ok(text)
+    Ok(())
 }
 
-/// What a reader gives at the end of a text.
-fn end_of(alloc: Global, reader: &mut Reader) -> Result<String, NoMemory> {
-    let mut trace = Trace::new(alloc);
+/// Puts the outcome of pieces of a size, if it is another than that of the whole.
+fn put_if_other(alloc: Global, pen: &mut Pen, other: Text, size: usize, whole: &str) {
+    if other.as_str() != whole {
+        pen.put_string(format!(in alloc; " but in pieces of {size} "));
+        pen.put(other.as_str());
+    }
+    drop(other);
+}
+
+/// Puts what a reader gives at the end of a text.
+fn put_end(alloc: Global, pen: &mut Pen, reader: &mut Reader) -> Result<(), NoMemory> {
+    let mut trace = Trace::new(alloc)?;
     let stop = or_drop!(drain(reader, &mut trace); trace);
-    let marks = trace.into_text()?;
-    let last = shown_stop(alloc, stop)?;
-    Ok(format!(in alloc; "end: {marks}{last}")?)
+    pen.put("end: ");
+    trace.put_into(pen);
+    put_stop(alloc, pen, stop);
+    Ok(())
 }
 
-/// What a reader gives with each byte of a text, and at its end.
-fn times_of(alloc: Global, reader: &mut Reader, bytes: &[u8]) -> Result<String, NoMemory>
-    requires { reader.old.finished ≡ false }
-{
-    let mut text = String::new(alloc);
-    feed_bytes(alloc, reader, bytes, &mut text)?;
-    reader.finish();
-    text.push_str(end_of(alloc, reader)?.as_str())?;
-    Ok(text)
-}
-
-/// What comes with each byte of a text, and at its end.
-pub fn times(alloc: Global, bytes: &[u8]) -> Result<String, NoMemory> {
-    let mut reader = Reader::new(alloc);
-    let text = times_of(alloc, &mut reader, bytes);
-    drop(reader);
-    text
-}
-
-/// Feeds the bytes of a text, and adds what comes with each, up to a fault.
-fn feed_bytes(
+/// Puts what a reader gives with each byte of a text, and at its end.
+fn put_times_of(
     alloc: Global,
+    pen: &mut Pen,
     reader: &mut Reader,
     bytes: &[u8],
-    text: &mut String,
+) -> Result<(), NoMemory>
+    requires { reader.old.finished ≡ false }
+{
+    feed_bytes(alloc, pen, reader, bytes)?;
+    reader.finish();
+    put_end(alloc, pen, reader)
+}
+
+/// Puts what comes with each byte of a text, and at its end.
+pub fn put_times(alloc: Global, pen: &mut Pen, bytes: &[u8]) -> Result<(), NoMemory> {
+    let mut reader = Reader::new(alloc);
+    let put = put_times_of(alloc, pen, &mut reader, bytes);
+    drop(reader);
+    put
+}
+
+/// Feeds the bytes of a text, and puts what comes with each, up to a fault.
+fn feed_bytes(
+    alloc: Global,
+    pen: &mut Pen,
+    reader: &mut Reader,
+    bytes: &[u8],
 ) -> Result<(), NoMemory>
     requires { reader.old.finished ≡ false }
 {
@@ -130,37 +153,34 @@ fn feed_bytes(
     'bytes: for piece in bytes.chunks(1) {
         count = count.saturating_add(1);
         reader.feed(piece)?;
-        let mut trace = Trace::new(alloc);
+        let mut trace = Trace::new(alloc)?;
         let stop = or_drop!(drain(reader, &mut trace); trace);
-        if push_times(alloc, text, count, trace, stop)? {
+        if put_time(alloc, pen, count, trace, stop) {
             return Ok(());
         }
     }
     Ok(())
 }
 
-/// Adds what came with a byte, and says whether it was a fault.
-fn push_times(
-    alloc: Global,
-    text: &mut String,
-    count: u64,
-    trace: Trace,
-    stop: Stop,
-) -> Result<bool, NoMemory> {
-    let some = !trace.is_empty();
-    let marks = trace.into_text()?;
-    match stop {
-        Stop::Fault(fault) => {
-            let fault = shown_fault(alloc, fault)?;
-            text.push_str(format!(in alloc; "{count}: {marks}{fault} ")?.as_str())?;
-            Ok(true)
+/// Puts what came with a byte, and says whether it was a fault.
+fn put_time(alloc: Global, pen: &mut Pen, count: u64, trace: Trace, stop: Stop) -> bool {
+    let fault = match stop {
+        Stop::Fault(fault) => Some(fault),
+        _ => None,
+    };
+    if trace.is_empty() && fault.is_none() {
+        drop(trace);
+        return false;
+    }
+    pen.put_string(format!(in alloc; "{count}: "));
+    trace.put_into(pen);
+    match fault {
+        Some(fault) => {
+            put_fault(alloc, pen, fault);
+            pen.put(" ");
+            true
         }
-        _ => {
-            if some {
-                text.push_str(format!(in alloc; "{count}: {marks}")?.as_str())?;
-            }
-            Ok(false)
-        }
+        None => false,
     }
 }
 
@@ -168,7 +188,7 @@ fn push_times(
 fn stop_of(alloc: Global, reader: &mut Reader, bytes: &[u8]) -> Result<Stop, NoMemory>
     requires { reader.old.finished ≡ false }
 {
-    let mut trace = Trace::new(alloc);
+    let mut trace = Trace::new(alloc)?;
     or_drop!(reader.feed(bytes); trace);
     reader.finish();
     let stop = drain(reader, &mut trace);
@@ -189,15 +209,14 @@ fn is_open(alloc: Global, bytes: &[u8]) -> Result<bool, NoMemory> {
     }
 }
 
-/// The lengths of the proper prefixes of a text that don't end too early.
-pub fn prefixes(alloc: Global, bytes: &[u8]) -> Result<String, NoMemory> {
-    let mut text = String::new(alloc);
+/// Puts the lengths of the proper prefixes of a text that don't end too early.
+pub fn put_prefixes(alloc: Global, pen: &mut Pen, bytes: &[u8]) -> Result<(), NoMemory> {
     for length in 0..bytes.len() {
         if !is_open(alloc, &bytes[..length])? {
-            text.push_str(format!(in alloc; "{length} ")?.as_str())?;
+            pen.put_string(format!(in alloc; "{length} "));
         }
     }
     let count = bytes.len();
-    text.push_str(format!(in alloc; "of {count}")?.as_str())?;
-    Ok(text)
+    pen.put_string(format!(in alloc; "of {count}"));
+    Ok(())
 }

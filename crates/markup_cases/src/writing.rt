@@ -1,6 +1,6 @@
-use crate::printing::{shown, shown_up_to};
-use crate::reading::outcomes;
-use case_texts::expanded;
+use crate::printing::{put_shown, put_shown_up_to};
+use crate::reading::put_outcomes;
+use case_texts::{Pen, expanded};
 use mof_metamodel::{NoMemory, is_storable, or_drop};
 use std::alloc::Global;
 use std::str;
@@ -9,13 +9,18 @@ use xmi_text::{Writer, is_name};
 /// The most characters of a written text that are shown.
 const SHOWN_CHARACTERS: usize = 400;
 
-/// What the calls of a script write, and what is read of it.
-pub fn written(alloc: Global, script: &str) -> Result<String, NoMemory> {
+/// Puts what the calls of a script write, and what is read of it.
+pub fn put_written(alloc: Global, pen: &mut Pen, script: &str) -> Result<(), NoMemory> {
     let bytes = expanded(alloc, script)?;
-    match str::from_utf8(bytes.as_slice()) {
-        Ok(text) => carried_out(alloc, text),
-        Err(_) => shown(alloc, "no text"),
-    }
+    let put = match str::from_utf8(bytes.as_slice()) {
+        Ok(text) => put_carried_out(alloc, pen, text),
+        Err(_) => {
+            pen.put("no text");
+            Ok(())
+        }
+    };
+    drop(bytes);
+    put
 }
 
 /// Carries the calls of a script out, up to the first that may not come.
@@ -28,34 +33,38 @@ fn carry_all_out<'a>(writer: &mut Writer, script: &'a str) -> Result<Option<&'a 
     Ok(None)
 }
 
-/// What a writer wrote, if it may end there, and what is read of it.
-fn read_again(alloc: Global, writer: Writer) -> Result<String, NoMemory> {
+/// Puts what a writer wrote, if it may end there, and what is read of it.
+fn put_read_again(alloc: Global, pen: &mut Pen, writer: Writer) -> Result<(), NoMemory> {
     if !writer.is_whole() {
         drop(writer);
-        return shown(alloc, "not whole");
+        pen.put("not whole");
+        return Ok(());
     }
     let bytes = writer.into_bytes();
-    let text = shown_bytes(alloc, bytes.as_slice())?;
-    let marks = outcomes(alloc, bytes.as_slice())?;
-    Ok(format!(in alloc; "{text} | {marks}")?)
+    put_bytes(alloc, pen, bytes.as_slice());
+    pen.put(" | ");
+    let put = put_outcomes(alloc, pen, bytes.as_slice());
+    drop(bytes);
+    put
 }
 
-fn carried_out(alloc: Global, script: &str) -> Result<String, NoMemory> {
+fn put_carried_out(alloc: Global, pen: &mut Pen, script: &str) -> Result<(), NoMemory> {
     let mut writer = Writer::new(alloc);
     match or_drop!(carry_all_out(&mut writer, script); writer) {
         Some(call) => {
             drop(writer);
-            let call = shown(alloc, call)?;
-            Ok(format!(in alloc; "may not come: {call}")?)
+            pen.put("may not come: ");
+            put_shown(alloc, pen, call);
+            Ok(())
         }
-        None => read_again(alloc, writer),
+        None => put_read_again(alloc, pen, writer),
     }
 }
 
-fn shown_bytes(alloc: Global, bytes: &[u8]) -> Result<String, NoMemory> {
+fn put_bytes(alloc: Global, pen: &mut Pen, bytes: &[u8]) {
     match str::from_utf8(bytes) {
-        Ok(text) => shown_up_to(alloc, text, SHOWN_CHARACTERS),
-        Err(_) => shown(alloc, "no text"),
+        Ok(text) => put_shown_up_to(alloc, pen, text, SHOWN_CHARACTERS),
+        Err(_) => pen.put("no text"),
     }
 }
 
