@@ -11,7 +11,7 @@ use crate::reducing::reduce;
 use crate::shifting::{open, refuse};
 use crate::stack::Stack;
 use crate::state::{Action, State};
-use mof_metamodel::{NoMemory, Seq, Span};
+use mof_metamodel::{NoMemory, Seq, Span, or_drop};
 use ql_lex::{Symbol, Terminal};
 use qv_syntax::{Args, Expr, Infix, Operator};
 use std::alloc::Global;
@@ -53,7 +53,7 @@ fn operator_in_row(
     } = row;
     if waiting.level() == operator.level() {
         let mut rest = rest;
-        rest.push(infixed(waiting, subtree))?;
+        or_drop!(rest.push(infixed(waiting, subtree)); first, rest);
         open(
             stack,
             Frame::Row {
@@ -63,11 +63,12 @@ fn operator_in_row(
             },
         )
     } else {
-        stack.push(Frame::Row {
+        let row = Frame::Row {
             first,
             rest,
             operator: waiting,
-        })?;
+        };
+        or_drop!(stack.push(row); subtree);
         begin_row(alloc, stack, operator, subtree)
     }
 }
@@ -136,11 +137,14 @@ fn close_parenthesis(
         }
         Frame::Arguments { called, values } => {
             let mut values = values;
-            values.push(subtree.tree.into_inner())?;
+            or_drop!(values.push(subtree.tree.into_inner()); called, values);
             behind_call(alloc, called, Args::Values { values }, end)
         }
         Frame::Body { iterated, ty } => behind_body(iterated, ty, subtree.tree, end),
-        other => refuse(stack, other),
+        other => {
+            drop(subtree);
+            refuse(stack, other)
+        }
     }
 }
 
@@ -184,7 +188,7 @@ fn comma(stack: &mut Stack, frame: Frame, subtree: Subtree, _span: Span) -> Resu
     match frame {
         Frame::Arguments { called, values } => {
             let mut values = values;
-            values.push(subtree.tree.into_inner())?;
+            or_drop!(values.push(subtree.tree.into_inner()); called, values);
             open(stack, Frame::Arguments { called, values })
         }
         Frame::Elements {
@@ -193,7 +197,7 @@ fn comma(stack: &mut Stack, frame: Frame, subtree: Subtree, _span: Span) -> Resu
             elements,
         } => {
             let mut elements = elements;
-            elements.push(subtree.tree.into_inner())?;
+            or_drop!(elements.push(subtree.tree.into_inner()); elements);
             open(
                 stack,
                 Frame::Elements {
@@ -203,7 +207,10 @@ fn comma(stack: &mut Stack, frame: Frame, subtree: Subtree, _span: Span) -> Resu
                 },
             )
         }
-        other => refuse(stack, other),
+        other => {
+            drop(subtree);
+            refuse(stack, other)
+        }
     }
 }
 

@@ -13,7 +13,7 @@ use crate::shifting::{open, open_type};
 use crate::stack::Stack;
 use crate::state::{Action, State};
 use crate::types::{type_begin, type_end, type_path};
-use mof_metamodel::{NoMemory, Seq};
+use mof_metamodel::{NoMemory, Seq, or_drop};
 use ql_lex::{Symbol, Terminal};
 use qv_syntax::{Kind, Name, Path};
 use std::alloc::Global;
@@ -146,10 +146,14 @@ fn class_name(alloc: Global, called: CallHead, symbol: Symbol) -> Result<Action,
 {
     match symbol {
         Symbol::Name(name) => {
-            let path = path_of(alloc, name)?;
+            let path = or_drop!(path_of(alloc, name); called);
             Ok(Action::Read(State::ClassPath { called, path }))
         }
-        _ => Ok(Action::Refused),
+        other => {
+            drop(other);
+            drop(called);
+            Ok(Action::Refused)
+        }
     }
 }
 
@@ -159,10 +163,15 @@ fn class_next(called: CallHead, path: Path, symbol: Symbol) -> Result<Action, No
 {
     match symbol {
         Symbol::Name(name) => {
-            let path = extended(path, name)?;
+            let path = or_drop!(extended(path, name); called);
             Ok(Action::Read(State::ClassPath { called, path }))
         }
-        _ => Ok(Action::Refused),
+        other => {
+            drop(other);
+            drop(called);
+            drop(path);
+            Ok(Action::Refused)
+        }
     }
 }
 

@@ -4,6 +4,7 @@ ghost use Rattle.ocl_parser.specs.Readings.{Gives, name_read, path_behind, path_
 use crate::expecting::is_sign_at;
 use crate::halt::{Halt, Stop};
 use crate::parts::{extended, path_of};
+use mof_metamodel::or_drop;
 use ql_lex::{Tokens, name_text, peek};
 use qv_syntax::{Name, Path};
 use std::alloc::Global;
@@ -39,7 +40,7 @@ fn read_behind(
 {
     let path = path_of(alloc, first)?;
     if is_sign_at(tokens, at, "::") {
-        let (second, end) = read_name(alloc, tokens, at + 1)?;
+        let (second, end) = or_drop!(read_name(alloc, tokens, at + 1); path);
         return Ok((extended(path, second)?, end));
     }
     Ok((path, at))

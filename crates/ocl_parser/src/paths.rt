@@ -14,7 +14,7 @@ use crate::parts::{base_of, behind_call, only_name, path_of, with_postfix};
 use crate::shifting::{open, open_type};
 use crate::stack::Stack;
 use crate::state::{Action, State};
-use mof_metamodel::{NoMemory, Seq, Span, Text};
+use mof_metamodel::{NoMemory, Seq, Span, Text, or_drop};
 use ql_lex::{Symbol, Terminal};
 use qv_syntax::{Args, Expr, Name, Path, Postfix};
 use std::alloc::Global;
@@ -155,17 +155,19 @@ pub(crate) fn class_path(
     ensures { IfOk result (λ o. (stack : List AnyFrame) → made stack o ≡ class_move stack called path terminal.symbol terminal.span) }
 {
     let Terminal { symbol, span } = terminal;
-    match symbol {
-        Symbol::DoubleColon => {
-            if path.names.len() < CLASS_NAMES {
-                Ok(Action::Read(State::ClassNext { called, path }))
-            } else {
-                Ok(Action::Refused)
-            }
+    let action = match &symbol {
+        Symbol::DoubleColon if path.names.len() < CLASS_NAMES => {
+            Ok(Action::Read(State::ClassNext { called, path }))
         }
         Symbol::CloseParenthesis => behind_call(alloc, called, Args::Class { path }, span.end),
-        _ => Ok(Action::Refused),
-    }
+        _ => {
+            drop(called);
+            drop(path);
+            Ok(Action::Refused)
+        }
+    };
+    drop(symbol);
+    action
 }
 
 /// A symbol behind `->name(`: a name may be a variable.
@@ -217,10 +219,12 @@ fn first_argument(
     ensures { IfOk result (λ o. made stack.new o ≡ (if class_taken called.name.text then refused stack.old else operand_move (frames.Arguments called [] ∷ stack.old) terminal.symbol terminal.span)) }
 {
     if takes_class(&called.name.text) {
+        drop(called);
+        drop(terminal);
         Ok(Action::Refused)
     } else {
         let values = Seq::new(alloc);
-        stack.push(Frame::Arguments { called, values })?;
+        or_drop!(stack.push(Frame::Arguments { called, values }); terminal);
         operand(alloc, stack, terminal)
     }
 }
@@ -239,7 +243,7 @@ fn first_path(
         class_path(alloc, called, path, terminal)
     } else {
         let values = Seq::new(alloc);
-        stack.push(Frame::Arguments { called, values })?;
+        or_drop!(stack.push(Frame::Arguments { called, values }); path, terminal);
         on_path(alloc, stack, path, terminal)
     }
 }
@@ -264,9 +268,11 @@ pub(crate) fn arrow_second(
                 name,
                 variable,
             } = iterated;
-            let before = Before::Arrow { base, start };
-            let path = path_of(alloc, variable)?;
-            let called = CallHead { before, name };
+            let called = CallHead {
+                before: Before::Arrow { base, start },
+                name,
+            };
+            let path = or_drop!(path_of(alloc, variable); called, other);
             first_path(
                 alloc,
                 stack,

@@ -139,7 +139,11 @@ fn end_in(
         Symbol::CloseParenthesis => end_of_kind(alloc, stack, frame, ty, span),
         Symbol::Operator(operator) => operator_behind(stack, frame, ty, operator, span),
         Symbol::Bar => begin_body(stack, frame, ty, span),
-        _ => refuse(stack, frame),
+        other => {
+            drop(other);
+            drop(ty);
+            refuse(stack, frame)
+        }
     }
 }
 

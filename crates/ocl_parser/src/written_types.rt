@@ -5,7 +5,7 @@ use crate::expecting::{read_opening, read_sign, span_between};
 use crate::halt::{Halt, Stop};
 use crate::names::read_path;
 use crate::types::plain_type;
-use mof_metamodel::Boxed;
+use mof_metamodel::{Boxed, or_drop};
 use ql_lex::{Symbol, Terminal, Tokens, peek, symbol_at};
 use qv_syntax::{Kind, TypeTree};
 use std::alloc::Global;
@@ -25,7 +25,7 @@ fn read_elements(
 {
     let open = read_opening(tokens, at + 1, levels, "(")?;
     let (of, close) = read_type(alloc, tokens, open, levels - 1)?;
-    let end = read_sign(tokens, close, ")")?;
+    let end = or_drop!(read_sign(tokens, close, ")"); of);
     let of = Boxed::new(alloc, of)?;
     let span = span_between(tokens, at, end);
     Ok((TypeTree::Coll { kind, of, span }, end))

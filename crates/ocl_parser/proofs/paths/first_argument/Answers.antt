@@ -7,10 +7,10 @@ use Rattle.ocl_parser.specs.declared.frame.Frame.TheVariants as frames
 use Rattle.ocl_parser.proofs.MoveLaws.{so, else_so}
 use Rattle.ocl_parser.proofs.paths.first_argument.Goals as goal
 
-pub returns-in_ok-push : goal.returns-in_ok-push
-returns-in_ok-push c =
+pub returns-in-Ok-or_drop : goal.returns-in-Ok-or_drop
+returns-in-Ok-or_drop c =
     let opened : c.push.new.self ≡ frames.Arguments c.args.called [] ∷ c.args.stack.now =
-    c.in_ok-push.ensures.ok ∙ ap (λ (vs : List Expr). frames.Arguments c.args.called vs ∷ c.args.stack.now) c.new-values.ensures in
+    c.in-Ok-or_drop.ensures.ok ∙ ap (λ (vs : List Expr). frames.Arguments c.args.called vs ∷ c.args.stack.now) c.new-values.ensures in
     so c.operand.result c.operand.new.stack _ _
     (ap (λ (s : List Frame). operand s c.args.terminal.symbol c.args.terminal.span) opened
     ∙ else_so (takes_class c.args.called.name.text) (refused c.args.stack.now) (operand (frames.Arguments c.args.called [] ∷ c.args.stack.now) c.args.terminal.symbol c.args.terminal.span) c.if-takes_class.ensures)
