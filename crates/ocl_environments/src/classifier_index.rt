@@ -8,7 +8,7 @@ ghost use Rattle.ocl_environments.specs.ClassifierIndexes.{own_meaning as meanin
 
 use crate::classifier::{Classifier, Found, Wanted};
 use crate::meaning::{Meaning, MeaningTable};
-use mof_metamodel::{ClassId, EnumId, MetaModel, NameTable, NoMemory, Text};
+use mof_metamodel::{ClassId, EnumId, MetaModel, NameTable, NoMemory, Text, or_drop};
 use std::alloc::Global;
 
 /// Adds a class to what its name means, unless a class before it has the name.
@@ -142,7 +142,7 @@ impl ClassifierIndex {
     {
         let mut index = ClassifierIndex::new(alloc);
         for (m, meta) in metas.iter().enumerate() {
-            index.add_meta(alloc, m as u32, meta, &names[m])?;
+            or_drop!(index.add_meta(alloc, m as u32, meta, &names[m]); index);
         }
         Ok(index)
     }

@@ -10,7 +10,7 @@ use crate::look_up::{class_alone, find_path, type_of};
 use crate::metas::Metas;
 use crate::of_types::{are_types, class_of, is_type};
 use crate::variable::{Signature, Variable};
-use mof_metamodel::{ClassId, EnumId, MetaModel, NameTable, NoMemory, Seq, Text};
+use mof_metamodel::{ClassId, EnumId, MetaModel, NameTable, NoMemory, Seq, Text, or_drop};
 use qv_syntax::{ModelSlot, Path, Ty};
 use std::alloc::Global;
 use std::marker::Model;
@@ -83,10 +83,14 @@ impl<'a> Env<'a> {
         ensures { IfOk result (λ e. e ≡ record { metas = metas.now; names = names; models = models; variables = []; queries = [] }) }
     {
         if models.len() > MAX_NUMBERED {
+            drop(models);
+            drop(names);
             return Err(NoMemory);
         }
-        let only_models = only_models(alloc, models.as_slice(), metas.len())?;
-        let classifiers = ClassifierIndex::over(alloc, metas.as_slice(), names.as_slice())?;
+        let only = only_models(alloc, models.as_slice(), metas.len());
+        let only_models = or_drop!(only; models, names);
+        let classifiers = ClassifierIndex::over(alloc, metas.as_slice(), names.as_slice());
+        let classifiers = or_drop!(classifiers; only_models, models, names);
         Ok(Env {
             metas: metas.as_slice(),
             names,

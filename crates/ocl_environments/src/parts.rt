@@ -7,7 +7,7 @@ use crate::agreement::joined_models;
 use crate::fault::TypeError;
 use crate::outcomes::model_mix;
 use crate::part::{CallsSoFar, TypedPart};
-use mof_metamodel::{NoMemory, Seq};
+use mof_metamodel::{NoMemory, Seq, or_drop};
 use qv_syntax::{Call, Ty, Typed, TypedPostfix};
 use std::alloc::Global;
 
@@ -70,9 +70,14 @@ impl CallsSoFar {
     ) -> Result<CallsSoFar, NoMemory>
         ensures { IfOk result (λ c. c ≡ stepped self call ty model) }
     {
-        let mut calls = self.calls;
-        let reached = ty.duplicate(alloc)?;
-        calls.push(TypedPostfix { call, ty })?;
+        let CallsSoFar {
+            mut calls,
+            ty: before,
+            model: _,
+        } = self;
+        drop(before);
+        let reached = or_drop!(ty.duplicate(alloc); calls, call, ty);
+        or_drop!(calls.push(TypedPostfix { call, ty }); reached, calls);
         Ok(CallsSoFar {
             calls,
             ty: reached,

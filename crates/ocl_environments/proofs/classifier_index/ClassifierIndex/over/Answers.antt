@@ -10,10 +10,10 @@ loop-m-init c = (c.new-index.ensures.tables, over_init c.args.metas.now c.args.n
 
 pub loop-m-preserved : goal.loop-m-preserved
 loop-m-preserved c = (
-  c.in_ok-add_meta.ensures.index,
+  c.in-Ok-or_drop.ensures.index,
   λ w q n.
       over_step c.loop-m.index c.add_meta.new.self c.args.metas.now c.args.names.now c.loop-m.m c.index-metas-m.result c.index-names-m.result (omega arith) (omega arith)
-      c.index-metas-m.is c.index-names-m.is c.in_ok-add_meta.ensures.added w q n ∙ c.loop-m.invariant.1 w q n,
+      c.index-metas-m.is c.index-names-m.is c.in-Ok-or_drop.ensures.added w q n ∙ c.loop-m.invariant.1 w q n,
 )
 
 pub returns : goal.returns
