@@ -2,7 +2,7 @@ ghost use Rattle.std.specs.Prelude.{◌≡◌, IfOk};
 ghost use Rattle.object_tables.specs.Sameness.{IsSame};
 
 use crate::model::Model;
-use mof_metamodel::NoMemory;
+use mof_metamodel::{NoMemory, or_drop};
 use std::alloc::Global;
 
 impl<'m> Model<'m> {
@@ -13,7 +13,7 @@ impl<'m> Model<'m> {
         ensures same { IfOk result (λ copy. IsSame self.now copy) }
     {
         let tables = self.tables.duplicate(alloc)?;
-        let names = self.names.clone()?;
+        let names = or_drop!(self.names.clone(); tables);
         Ok(Model {
             meta: self.meta,
             tables,

@@ -7,9 +7,9 @@ use Rattle.object_tables.proofs.model.Model.duplicate.Goals as goal
 
 pub invariant_of-result : goal.invariant_of-result
 invariant_of-result c = record {
-  tied = tied-copy _ _ _ _ _ _ c.self.invariant.tied c.in_ok-tables.ensures (λ cs. lookup_cloned cs _ _ c.in_ok-names.ensures.cases);
+  tied = tied-copy _ _ _ _ _ _ c.self.invariant.tied c.in_ok-tables.ensures (λ cs. lookup_cloned cs _ _ c.in-Ok-or_drop.ensures.cases);
   kept = kept_unchanged _ _ _ _ _ c.self.invariant c.in_ok-tables.ensures;
 }
 
-pub returns-clause-same : goal.returns-clause-same
-returns-clause-same c = same_as_equal _ _ (ap (seen c.self.inside.meta.now) c.in_ok-tables.ensures ∙ c.self.view_is)
+pub returns-2-clause-same : goal.returns-2-clause-same
+returns-2-clause-same c = same_as_equal _ _ (ap (seen c.self.inside.meta.now) c.in_ok-tables.ensures ∙ c.self.view_is)
