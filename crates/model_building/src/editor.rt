@@ -25,9 +25,11 @@ impl<'m> Editor<'m> {
 
     pub fn add(&mut self, class: ClassId, id: Text) -> Result<ObjId, Refusal> {
         if class.0 >= self.model.meta().class_count() {
+            drop(id);
             return Err(Refusal::NoClass);
         }
         if !is_identifier(id.as_str()) {
+            drop(id);
             return Err(Refusal::BadIdentifier);
         }
         match self.model.add(class, id) {
@@ -38,9 +40,11 @@ impl<'m> Editor<'m> {
 
     pub fn set(&mut self, o: ObjId, p: PropId, values: Seq<Value>) -> Result<(), Refusal> {
         if !self.model.has_attribute(o, p) {
+            drop(values);
             return Err(Refusal::NoProperty);
         }
         if !self.model.may_hold(o, p, values.as_slice()) {
+            drop(values);
             return Err(Refusal::WrongValues);
         }
         self.model.set_attr(o, p, values);
