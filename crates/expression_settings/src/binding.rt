@@ -1,7 +1,7 @@
 //! Variables and queries in reach.
 use crate::refused::Refused;
 use crate::type_names::type_named;
-use mof_metamodel::{NoMemory, Seq, Text};
+use mof_metamodel::{NoMemory, Seq, Text, or_drop};
 use ocl_environments::{Env, Metas};
 use qv_syntax::Ty;
 use std::alloc::Global;
@@ -17,12 +17,12 @@ pub fn bind_variable(
     let name = Text::new(alloc, name)?;
     match of.split_once(" in ") {
         Some((class, model)) => {
-            let class = type_named(alloc, metas, class)?;
-            let model = model.parse().map_err(|_| Refused)?;
+            let class = or_drop!(type_named(alloc, metas, class); name);
+            let model = or_drop!(model.parse::<u32>().map_err(|_| Refused); class, name);
             bind_object(env, name, class, model)
         }
         None => {
-            let ty = type_named(alloc, metas, of)?;
+            let ty = or_drop!(type_named(alloc, metas, of); name);
             bind(env, name, ty)
         }
     }
@@ -30,6 +30,8 @@ pub fn bind_variable(
 
 fn bind(env: &mut Env<'_>, name: Text, ty: Ty) -> Result<(), Refused> {
     if env.is_bound(&name) || !env.is_type(&ty) {
+        drop(name);
+        drop(ty);
         return Err(Refused);
     }
     env.bind(name, ty)?;
@@ -38,6 +40,8 @@ fn bind(env: &mut Env<'_>, name: Text, ty: Ty) -> Result<(), Refused> {
 
 fn bind_object(env: &mut Env<'_>, name: Text, class: Ty, model: u32) -> Result<(), Refused> {
     if env.is_bound(&name) || !env.is_object_type(&class, model) {
+        drop(name);
+        drop(class);
         return Err(Refused);
     }
     env.bind_object(name, class, model)?;
@@ -52,7 +56,8 @@ pub fn param_types(alloc: Global, metas: &Metas, text: &str) -> Result<Seq<Ty>, 
     }
     for param in text.split(", ") {
         let (_, ty) = param.split_once(" : ").unwrap_or(("", param));
-        types.push(type_named(alloc, metas, ty)?)?;
+        let ty = or_drop!(type_named(alloc, metas, ty); types);
+        or_drop!(types.push(ty); types);
     }
     Ok(types)
 }
@@ -67,13 +72,16 @@ pub fn bind_query(
     let (name, rest) = text.split_once('(').ok_or(Refused)?;
     let (params, gives) = rest.split_once(") : ").ok_or(Refused)?;
     let name = Text::new(alloc, name)?;
-    let params = param_types(alloc, metas, params)?;
-    let gives = type_named(alloc, metas, gives)?;
+    let params = or_drop!(param_types(alloc, metas, params); name);
+    let gives = or_drop!(type_named(alloc, metas, gives); name, params);
     declare_query(env, name, params, gives)
 }
 
 fn declare_query(env: &mut Env<'_>, name: Text, params: Seq<Ty>, gives: Ty) -> Result<(), Refused> {
     if env.is_query(&name) || !env.are_types(params.as_slice()) || !env.is_type(&gives) {
+        drop(name);
+        drop(params);
+        drop(gives);
         return Err(Refused);
     }
     env.bind_query(name, params, gives)?;

@@ -2,7 +2,7 @@
 use crate::refused::{Refused, put_if_refused};
 use case_texts::Pen;
 use model_building::described;
-use mof_metamodel::{MetaModel, NoMemory, Text};
+use mof_metamodel::{MetaModel, NoMemory, Text, or_drop};
 use ocl_environments::Metas;
 use std::alloc::Global;
 
@@ -10,9 +10,10 @@ use std::alloc::Global;
 pub fn metamodels(alloc: Global, pen: &mut Pen, setting: &str) -> Result<Metas, NoMemory> {
     let mut metas = Metas::new(alloc);
     for part in setting.split("\nmetamodel ").skip(1) {
-        let items = items(alloc, part)?;
+        let items = or_drop!(items(alloc, part); metas);
         let added = add_metamodel(alloc, &mut metas, items.as_str());
         put_if_refused(pen, items.as_str(), &added);
+        drop(items);
     }
     Ok(metas)
 }
@@ -21,9 +22,11 @@ pub fn metamodels(alloc: Global, pen: &mut Pen, setting: &str) -> Result<Metas, 
 pub fn metamodels_named(alloc: Global, setting: &str, names: &[Text]) -> Result<Metas, Refused> {
     let mut metas = Metas::new(alloc);
     for name in names {
-        let part = part_named(setting, name.as_str()).ok_or(Refused)?;
-        let items = items(alloc, part)?;
-        add_metamodel(alloc, &mut metas, items.as_str())?;
+        let part = or_drop!(part_named(setting, name.as_str()).ok_or(Refused); metas);
+        let items = or_drop!(items(alloc, part); metas);
+        let added = add_metamodel(alloc, &mut metas, items.as_str());
+        drop(items);
+        or_drop!(added; metas);
     }
     Ok(metas)
 }

@@ -5,7 +5,7 @@ ghost use Rattle.ocl_environments.specs.Environments.{have_metas};
 use crate::refused::{Refused, put_if_refused};
 use crate::type_names::meta_named;
 use case_texts::Pen;
-use mof_metamodel::{NoMemory, Seq, Text};
+use mof_metamodel::{NoMemory, Seq, Text, or_drop};
 use ocl_environments::{Env, Metas};
 use qv_syntax::ModelSlot;
 use std::alloc::Global;
@@ -61,8 +61,10 @@ pub fn over_models<'m>(
     metas: &'m Metas,
     models: Seq<ModelSlot>,
 ) -> Result<Env<'m>, NoMemory> {
-    let names = names(alloc, metas)?;
+    let names = or_drop!(names(alloc, metas); models);
     if names.len() != metas.len() as usize || !are_placed(models.as_slice(), names.len()) {
+        drop(names);
+        drop(models);
         return Ok(Env::new(alloc));
     }
     Env::over(alloc, metas, names, models)

@@ -1,7 +1,7 @@
 //! Types by their names.
 use crate::refused::Refused;
 use crate::words::kind_named;
-use mof_metamodel::{Boxed, ClassId, EnumId, MetaModel, NoMemory};
+use mof_metamodel::{Boxed, ClassId, EnumId, MetaModel, NoMemory, or_drop};
 use ocl_environments::Metas;
 use qv_syntax::{Kind, Ty};
 use std::alloc::Global;
@@ -77,7 +77,7 @@ pub fn type_named(alloc: Global, metas: &Metas, text: &str) -> Result<Ty, Refuse
         return Ok(ty);
     }
     for kind in kinds.rsplit('(') {
-        let kind = kind_named(kind).ok_or(Refused)?;
+        let kind = or_drop!(kind_named(kind).ok_or(Refused); ty);
         ty = collection(alloc, kind, ty)?;
     }
     Ok(ty)
