@@ -14,28 +14,28 @@ same_level a b m n one two e = sym (eq-eqb m n (sym one ∙ e ∙ two))
 other_level : (a b m n : ℕ) → a ≡ m → b ≡ n → (a ≡ b → ⊥) → false ≡ (m == n)
 other_level a b m n one two ne = sym (ne_eqb m n (λ e. ne (one ∙ e ∙ sym two)))
 
-pub returns-in_ok-push : goal.returns-in_ok-push
-returns-in_ok-push c =
+pub returns-in-Ok-or_drop : goal.returns-in-Ok-or_drop
+returns-in-Ok-or_drop c =
     let row = c.args.row in
     let part : Infix = infixed row.operator c.args.subtree.tree in
     let goes_on : Move = to (frames.Row row.first (row.rest ++ part ∷ []) c.args.operator ∷ c.args.stack.now) states.Operand in
     let begins : Move = to (frames.Row c.args.subtree [] c.args.operator ∷ frames.Row row.first row.rest row.operator ∷ c.args.stack.now) states.Operand in
     so c.open.result c.open.new.stack (to (frames.Row row.first c.push.new.self c.args.operator ∷ c.args.stack.now) states.Operand)
     (if level_of row.operator == level_of c.args.operator then goes_on else begins)
-    (ap (λ (is : List Infix). to (frames.Row row.first is c.args.operator ∷ c.args.stack.now) states.Operand) (c.in_ok-push.ensures.ok ∙ ap (λ (i : Infix). row.rest ++ i ∷ []) c.infixed.ensures)
+    (ap (λ (is : List Infix). to (frames.Row row.first is c.args.operator ∷ c.args.stack.now) states.Operand) (c.in-Ok-or_drop.ensures.ok ∙ ap (λ (i : Infix). row.rest ++ i ∷ []) c.infixed.ensures)
     ∙ then_so (level_of row.operator == level_of c.args.operator) goes_on begins
     (same_level c.level.result c.level-2.result (level_of row.operator) (level_of c.args.operator) c.level.ensures c.level-2.ensures c.if-level.true))
     c.open.ensures
 
-pub returns-in_ok-push-2 : goal.returns-in_ok-push-2
-returns-in_ok-push-2 c =
+pub returns-in-Ok-or_drop-2 : goal.returns-in-Ok-or_drop-2
+returns-in-Ok-or_drop-2 c =
     let row = c.args.row in
     let part : Infix = infixed row.operator c.args.subtree.tree in
     let goes_on : Move = to (frames.Row row.first (row.rest ++ part ∷ []) c.args.operator ∷ c.args.stack.now) states.Operand in
     let begins : Move = to (frames.Row c.args.subtree [] c.args.operator ∷ frames.Row row.first row.rest row.operator ∷ c.args.stack.now) states.Operand in
     so c.begin_row.result c.begin_row.new.stack (to (frames.Row c.args.subtree [] c.args.operator ∷ c.push-else-level.new.self) states.Operand)
     (if level_of row.operator == level_of c.args.operator then goes_on else begins)
-    (ap (λ (s : List Frame). to (frames.Row c.args.subtree [] c.args.operator ∷ s) states.Operand) c.in_ok-push-2.ensures.ok
+    (ap (λ (s : List Frame). to (frames.Row c.args.subtree [] c.args.operator ∷ s) states.Operand) c.in-Ok-or_drop-2.ensures.ok
     ∙ else_so (level_of row.operator == level_of c.args.operator) goes_on begins
     (other_level c.level.result c.level-2.result (level_of row.operator) (level_of c.args.operator) c.level.ensures c.level-2.ensures c.if-level.false))
     c.begin_row.ensures

@@ -1,0 +1,18 @@
+use Rattle.std.proofs.Common.{arith}
+use Rattle.std.proofs.lemmas.Grind.{common_steps}
+use Rattle.mof_metamodel.proofs.checks.bad_bounds_in_class.Goals as goal
+
+pub loop-prop-init : goal.loop-prop-init
+loop-prop-init c = grind (arith, common_steps)
+
+pub returns-in_err-qualified : goal.returns-in_err-qualified
+returns-in_err-qualified c = grind (arith, common_steps)
+
+pub returns-then-not-has_bounds : goal.returns-then-not-has_bounds
+returns-then-not-has_bounds c = grind (arith, common_steps)
+
+pub loop-prop-preserved : goal.loop-prop-preserved
+loop-prop-preserved c = grind (arith, common_steps)
+
+pub returns : goal.returns
+returns c = grind (arith, common_steps)
