@@ -1,0 +1,16 @@
+pub mod ListLaws
+pub mod TextLaws
+pub mod ValueLaws
+pub mod OperatorLaws
+pub mod NavigationLaws
+pub mod CollectionLaws
+pub mod TypeLaws
+pub mod ProgramLaws
+pub mod SlotLaws
+pub mod DatumLaws
+pub mod FormLaws
+pub mod MatchLaws
+pub mod SourceLaws
+pub mod BoundLaws
+pub mod Examples
+pub mod CallLaws
