@@ -15,3 +15,4 @@ pub mod Containment
 pub mod Climbs
 pub mod Validity
 pub mod Words
+pub mod Keys

@@ -23,6 +23,7 @@
 
 mod breach;
 mod fault;
+mod keys;
 mod limit;
 mod model;
 mod partners;
@@ -33,6 +34,7 @@ mod value;
 
 pub use breach::{Breach, BreachKind};
 pub use fault::AddFault;
+pub use keys::HashKey;
 pub use limit::{LimitKind, MAX_ADDED};
 pub use model::Model;
 pub use partners::Partners;

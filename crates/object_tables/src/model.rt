@@ -15,6 +15,7 @@ mod links;
 mod orders;
 mod validity;
 
+use crate::keys::HashKey;
 use crate::partners::Partners;
 use crate::places::{far_place, near_place};
 use crate::tables::Tables;
@@ -22,14 +23,13 @@ use crate::value::{ObjId, Value};
 use mof_metamodel::{ClassId, MetaModel, NoMemory, PropId, Seq, Text};
 use std::alloc::{AllocError, Global};
 use std::collections::HashMap;
-use std::hash::{BuildHasherDefault, DefaultHasher};
 
 /// Objects of a metamodel's classes, their attribute values and their links (MOF 2.5.1, Reflection).
 #[derive(Drop)]
 pub struct Model<'m> {
     meta: &'m MetaModel,
     tables: Tables,
-    names: HashMap<String, u32, BuildHasherDefault<DefaultHasher>>,
+    names: HashMap<String, u32, HashKey>,
     live: u32,
     alloc: Global,
 }
@@ -49,15 +49,22 @@ impl<'m> std::marker::Model for Model<'m> {
 }
 
 impl<'m> Model<'m> {
-    /// A model without an object. It takes no memory.
+    /// A model without an object, whose identifiers come from no stranger. It takes no memory.
     pub fn new(alloc: Global, meta: &'m MetaModel) -> Model<'m>
+        ensures { result ≡ record { meta = meta.now; objects = [] } }
+    {
+        Model::keyed(alloc, meta, HashKey::none())
+    }
+
+    /// A model without an object, whose identifiers are hashed after a key. It takes no memory.
+    pub fn keyed(alloc: Global, meta: &'m MetaModel, key: HashKey) -> Model<'m>
         ensures { result ≡ record { meta = meta.now; objects = [] } }
     {
         let _ = meta.class_count();
         Model {
             meta,
             tables: Tables::new(alloc),
-            names: HashMap::with_hasher(alloc, BuildHasherDefault::default()),
+            names: HashMap::with_hasher(alloc, key),
             live: 0,
             alloc,
         }

@@ -1,0 +1,12 @@
+-- What the identifiers of a model are hashed after.
+use Rattle.std.specs.Prelude.{ℕ, List}
+use Rattle.std.specs.Hash.DefaultHasher as sip
+use Rattle.object_tables.specs.declared.keys.HashKey.{HashKey}
+
+-- nothing stands before an identifier
+abbrev pub no_key : HashKey
+no_key = record { start = sip.initial }
+
+-- these bytes stand before it
+abbrev pub key_of : List ℕ → HashKey
+key_of bytes = record { start = sip.write sip.initial bytes }
