@@ -6,6 +6,7 @@ pub mod JoinLemmas
 pub mod KnownLemmas
 pub mod LineageLemmas
 pub mod MetaLaws
+pub mod NameIndexLemmas
 pub mod NameLemmas
 pub mod NumberLemmas
 pub mod OnceLemmas

@@ -15,6 +15,7 @@ mod limits;
 mod lineages;
 mod memory;
 mod meta;
+mod name_index;
 mod name_table;
 mod named;
 mod names;
@@ -38,7 +39,7 @@ pub use limits::{
 pub use memory::NoMemory;
 pub use meta::MetaModel;
 pub use name_table::NameTable;
-pub use names::{is_identifier, is_storable};
+pub use names::{is_blank, is_identifier, is_storable};
 pub use seq::Seq;
 pub use span::Span;
 pub use text::Text;

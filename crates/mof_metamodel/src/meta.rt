@@ -285,7 +285,7 @@ impl MetaModel {
         self.ordered.named().enumeration(e.0).literals.as_slice()
     }
 
-    /// The literal of this name of an enumeration: its place in `literals(e)`. By hashing.
+    /// The literal of this name of an enumeration: its place in `literals(e)`.
     pub fn literal_named(&self, e: EnumId, name: &str) -> Option<u32>
         requires { e.0 < enum_count self.now }
         ensures number { result ≡ literal_number self.now e.0 (chars name.now) }

@@ -2,27 +2,29 @@ ghost use Rattle.std.specs.Prelude.{◌≡◌, ◌<◌, [], length, is_some, fal
 ghost use Rattle.std.specs.Option.{option_map};
 
 use crate::memory::NoMemory;
+use crate::name_index::NameIndex;
 use crate::text::Text;
-use indexmap::IndexMap;
 use std::alloc::Global;
-use std::hash::{BuildHasherDefault, DefaultHasher};
 use std::marker::Model;
 
 /// Names with what they stand for, in the order in which they came. Contracts see it as that list.
 ///
-/// Names are found by hashing: by `DefaultHasher`, whose answers who chooses the names can't tell beforehand, so that
-/// no choice of names makes a look-up slow.
+/// A name is kept once. Adding one and finding one take the logarithm of their number, whatever the names are.
 #[derive(Drop)]
 pub struct NameTable<V> {
-    entries: IndexMap<String, V, BuildHasherDefault<DefaultHasher>>,
+    names: NameIndex,
+    values: Vec<V>,
 }
 
 impl<V> Model for NameTable<V> {
-    ghost use Rattle.std.specs.Prelude.{ℕ, List, map, chars, string_bytes};
+    ghost use Rattle.std.specs.Prelude.{◌≡◌, ℕ, List, length};
+    ghost use Rattle.std.specs.List.{zip};
 
     ghost Value = { List (List ℕ × V) };
 
-    ghost view = { λ t. map (λ e. (chars (string_bytes e.0), e.1)) t.entries.entries };
+    ghost view = { λ t. zip t.names t.values.items };
+
+    ghost invariant = { λ t. length t.values.items ≡ length t.names };
 }
 
 impl<V> NameTable<V> {
@@ -33,7 +35,8 @@ impl<V> NameTable<V> {
         ensures { result ≡ [] }
     {
         NameTable {
-            entries: IndexMap::with_hasher(alloc, BuildHasherDefault::default()),
+            names: NameIndex::new(alloc),
+            values: Vec::new(alloc),
         }
     }
 
@@ -41,21 +44,24 @@ impl<V> NameTable<V> {
     pub fn len(&self) -> usize
         ensures { result ≡ length self.now }
     {
-        self.entries.len()
+        self.values.as_slice().len()
     }
 
     /// Whether a name is there.
     pub fn contains(&self, name: &Text) -> bool
         ensures { result ≡ is_some (value_of self.now name.now) }
     {
-        self.entries.contains_key(name.as_str())
+        self.names.place(name.as_str()).is_some()
     }
 
     /// What a name stands for.
     pub fn get(&self, name: &str) -> Option<&V>
         ensures { option_map (λ v. v.now) result ≡ value_of self.now (chars name.now) }
     {
-        self.entries.get(name)
+        match self.names.place(name) {
+            Some(place) => Some(&self.values[place]),
+            None => None,
+        }
     }
 
     /// Where a name stands among the names, from 0, and what it stands for.
@@ -64,8 +70,8 @@ impl<V> NameTable<V> {
         ensures value { option_map (λ p. p.1.now) result ≡ value_of self.now name.now }
         ensures within { IfSome result (λ p. p.0 < length self.now) }
     {
-        match self.entries.get_full(name.as_str()) {
-            Some((number, _, value)) => Some((number, value)),
+        match self.names.place(name.as_str()) {
+            Some(place) => Some((place, &self.values[place])),
             None => None,
         }
     }
@@ -80,8 +86,14 @@ impl<V: Drop> NameTable<V> {
         ensures ok { OnOk result (self.new ≡ with_value self.old name value) }
         ensures err { OnErr result (self.new ≡ self.old) }
     {
-        self.entries.insert(name.into_string(), value)?;
-        Ok(())
+        self.values.push(value)?;
+        match self.names.add(name) {
+            Ok(()) => Ok(()),
+            Err(error) => {
+                let _ = self.values.pop();
+                Err(error)
+            }
+        }
     }
 }
 

@@ -17,8 +17,15 @@ fn is_storable_character(c: char) -> bool
     matches!(c, '\t' | '\n' | '\r') || (c >= ' ' && c != '\u{fffe}' && c != '\u{ffff}')
 }
 
-/// Whether a character is a space, a tab, a line feed or a carriage return.
-fn is_blank(c: char) -> bool
+/// Whether a byte is a blank: a space, a tab, a line feed or a carriage return.
+pub fn is_blank(byte: u8) -> bool
+    ensures { result ≡ blank byte }
+{
+    matches!(byte, b' ' | b'\t' | b'\n' | b'\r')
+}
+
+/// Whether a character is a blank.
+fn is_blank_character(c: char) -> bool
     ensures { result ≡ blank c }
 {
     matches!(c, ' ' | '\t' | '\n' | '\r')
@@ -36,7 +43,7 @@ pub fn is_storable(text: &str) -> bool
 fn has_blank(text: &str) -> bool
     ensures { result ≡ list_any blank (chars text.now) }
 {
-    text.chars().any(is_blank)
+    text.chars().any(is_blank_character)
 }
 
 /// Whether the text has a character.
