@@ -1,5 +1,4 @@
 pub mod ClassOrderLemmas
-pub mod ClosureLemmas
 pub mod DistinctLemmas
 pub mod FirstLemmas
 pub mod JoinLemmas
@@ -18,4 +17,5 @@ pub mod RepeatLemmas
 pub mod RoundLemmas
 pub mod SearchLemmas
 pub mod TableLemmas
+pub mod WalkLemmas
 pub mod WellLemmas

@@ -104,15 +104,16 @@ module _ {Y : Type 0} (key : String Y) (es : List (String Y × ℕ)) (absent : l
 
   pub index_more : IsIndex after
   index_more = record {
-      within =
-          let P : List (String Y × ℕ) → Type 0 = λ xs. All (λ place. place < length after) (values_of xs) in
-          subst P (sym is) (All-values-insert_entry string_cmp key (length es) (λ place. place < length after) es (All-weaker (λ place. place < length es) (λ place. place < length after) (λ x l. omega (arith, l, longer)) (values_of es) index.within) (omega (arith, longer)));
-      found = λ name.
-          ap (λ xs. place_in xs name) is ∙ place_in-insert key (length es) name es absent
-          ∙ ap (λ o. option_or o (cond (same_name name (chars (string_bytes key))) (Some (length es)) None)) (index.found name)
-          ∙ ap (λ m. option_or (position (same_name name) (names_in es)) (cond (same_name name (chars (string_bytes key))) (Some m) None)) (sym (length-map-range_with_len (name_at es) 0 (length es)))
-          ∙ sym (position_push (same_name name) (names_in es) (chars (string_bytes key)))
-          ∙ sym (ap (position (same_name name)) names_more) }
+    within =
+        let P : List (String Y × ℕ) → Type 0 = λ xs. All (λ place. place < length after) (values_of xs) in
+        subst P (sym is) (All-values-insert_entry string_cmp key (length es) (λ place. place < length after) es (All-weaker (λ place. place < length es) (λ place. place < length after) (λ x l. omega (arith, l, longer)) (values_of es) index.within) (omega (arith, longer)));
+    found = λ name.
+        ap (λ xs. place_in xs name) is ∙ place_in-insert key (length es) name es absent
+        ∙ ap (λ o. option_or o (cond (same_name name (chars (string_bytes key))) (Some (length es)) None)) (index.found name)
+        ∙ ap (λ m. option_or (position (same_name name) (names_in es)) (cond (same_name name (chars (string_bytes key))) (Some m) None)) (sym (length-map-range_with_len (name_at es) 0 (length es)))
+        ∙ sym (position_push (same_name name) (names_in es) (chars (string_bytes key)))
+        ∙ sym (ap (position (same_name name)) names_more);
+  }
 
 -- ---- values beside names
 

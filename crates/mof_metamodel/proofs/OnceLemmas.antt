@@ -26,7 +26,7 @@ with_item-once xs x h = by (list_any (nat_eq x) xs) refl
     by true e = h
     by false e = once_append xs (x ∷ []) h (once_one x) (λ q a b. false≢true (sym e ∙ Has-from_Contains xs x (subst (Contains xs) (sym (one_is x q b)) a)))
 
-united-once : (xs ys : List ℕ) → IsOnce xs → IsOnce (united xs ys)
+pub united-once : (xs ys : List ℕ) → IsOnce xs → IsOnce (united xs ys)
 united-once xs [] h = h
 united-once xs (y ∷ ys) h = united-once (with_item xs y) ys (with_item-once xs y h)
 

@@ -1,6 +1,6 @@
 -- What the tables of a metamodel hold: what its description says, by number.
-use Rattle.std.specs.Prelude.{Vec, ◌≡◌, ℕ, zero, suc, ◌<◌, Bool, false, ◌||◌, ◌&&◌, List, [], ◌∷◌, ◌++◌, Option, None, Some, map, length, slice_index_or, position, All, IsSome, IsTrue, is_some, nat_eq, take, if◌then◌else◌}
-use Rattle.std.specs.List.{range_with_len, list_any, flat_map, position_or_len}
+use Rattle.std.specs.Prelude.{◌≡◌, ◌≢◌, ℕ, ◌<◌, Bool, true, false, List, [], ◌∷◌, ◌++◌, Option, None, Some, map, length, slice_index_or, position, All, IsSome, IsTrue, is_some, nat_eq, take, Contains, if◌then◌else◌}
+use Rattle.std.specs.List.{range_with_len, list_any, flat_map, position_or_len, AllPairs}
 use Rattle.std.specs.Map.{lookup}
 use Rattle.std.specs.Option.{option_map, unwrap_or}
 use Rattle.indexmap.specs.IndexSet.{IndexSet}
@@ -11,7 +11,7 @@ use Rattle.mof_metamodel.specs.declared.desc.ClassId.{ClassId}
 use Rattle.mof_metamodel.specs.declared.desc.EnumId.{EnumId}
 use Rattle.mof_metamodel.specs.declared.desc.PropId.{PropId}
 use Rattle.mof_metamodel.specs.declared.desc.Prop.{Prop}
-use Rattle.mof_metamodel.specs.Metamodels.{same_name, class_count, class_at, enum_count, enum_at, no_prop, prop_count, declared_props, prop_at, first_own, supers_of, with_item, all_united, IsCircular, lineage_within, reached_classes, lineage_of, own_props, props_of, IsProp}
+use Rattle.mof_metamodel.specs.Metamodels.{same_name, class_count, class_at, enum_count, enum_at, no_prop, prop_count, declared_props, prop_at, first_own, supers_of, with_item, all_united, Conforms, IsCircular, lineage_within, reached_classes, lineage_of, own_props, props_of, IsProp}
 use Rattle.mof_metamodel.specs.WellMeta.{WellMeta}
 use Rattle.mof_metamodel.specs.MetaFaults.{is_within_limits}
 
@@ -153,23 +153,24 @@ pub record IsOrdered {S : Type 0} (desc : MetaDesc) (orders : List (Option (Inde
   pub props_are : map prop_numbers props ≡ table (props_of desc) (class_count desc)
   pub starts_are : starts ≡ table (λ c. starts_of desc (lineage_of desc c)) (class_count desc)
 
--- whether c is d, has it as a superclass, or reaches it over classes below k
-abbrev pub reaches_over : MetaDesc → ℕ → ℕ → ℕ → Bool
-reaches_over desc zero c d = nat_eq c d || list_any (nat_eq d) (supers_of desc c)
-reaches_over desc (suc k) c d = reaches_over desc k c d || (reaches_over desc k c k && reaches_over desc k k d)
+-- one of the classes is d, or reaches it
+abbrev pub IsReached : MetaDesc → List ℕ → ℕ → Type 0
+IsReached desc starts d = (e : ℕ) × Contains starts e × Conforms desc e d
 
--- a row of a table of rows, and what it has at a class
-abbrev pub row_at : {A : Type 0} → List (Vec Bool A) → ℕ → List Bool
-row_at rows c = slice_index_or (map (λ r. r.items) rows) c []
+-- a mark stands at each class that is reached, and at no other
+pub record AreReached (desc : MetaDesc) (starts : List ℕ) (marks : List Bool) : Type 0 where
+  pub long : length marks ≡ class_count desc
+  pub sound : (d : ℕ) → slice_index_or marks d false ≡ true → IsReached desc starts d
+  pub complete : (d : ℕ) → IsReached desc starts d → slice_index_or marks d false ≡ true
 
-abbrev pub cell_at : {A : Type 0} → List (Vec Bool A) → ℕ → ℕ → Bool
-cell_at rows c d = slice_index_or (row_at rows c) d false
-
--- a row for each class, which has what the class reaches over classes below k
-pub record ReachesOver {A : Type 0} (desc : MetaDesc) (k : ℕ) (rows : List (Vec Bool A)) : Type 0 where
-  pub count : length rows ≡ class_count desc
-  pub long : (c : ℕ) → c < class_count desc → length (row_at rows c) ≡ class_count desc
-  pub cells : (c d : ℕ) → c < class_count desc → d < class_count desc → cell_at rows c d ≡ reaches_over desc k c d
+-- A walk from classes along superclasses: classes that are reached, the starts among them, each once. Of those before the
+-- place `next` the superclasses were met.
+pub record IsWalk (desc : MetaDesc) (starts : List ℕ) (next : ℕ) (met : List ℕ) : Type 0 where
+  pub begins : AreAmong starts met
+  pub once : AllPairs (λ x y. x ≢ y) met
+  pub below : AreBelow (class_count desc) met
+  pub reached : (q : ℕ) → IsTrue (list_any (nat_eq q) met) → IsReached desc starts q
+  pub closed : (i : ℕ) → i < next → i < length met → AreAmong (supers_of desc (slice_index_or met i 0)) met
 
 -- the first class that reaches itself
 pub record IsFirstCircle (desc : MetaDesc) (c : ℕ) : Type 0 where

@@ -5,7 +5,6 @@
 mod boxed;
 mod checks;
 mod circles;
-mod closure;
 mod desc;
 mod duplicates;
 mod fault;
@@ -21,6 +20,7 @@ mod named;
 mod names;
 mod numbering;
 mod ordered;
+mod reached;
 mod resolved;
 mod seq;
 mod span;
@@ -39,7 +39,7 @@ pub use limits::{
 pub use memory::NoMemory;
 pub use meta::MetaModel;
 pub use name_table::NameTable;
-pub use names::{is_blank, is_identifier, is_storable};
+pub use names::{is_blank, is_blank_character, is_identifier, is_storable};
 pub use seq::Seq;
 pub use span::Span;
 pub use text::Text;

@@ -8,14 +8,14 @@
 ghost use Rattle.std.specs.Prelude.{◌≡◌, ◌≢◌, ℕ, ◌<◌, [], length, map, nat_eq, All, IfOk, OnOk, IsTrue, None, false};
 ghost use Rattle.std.specs.Option.{option_map, option_or, is_some};
 ghost use Rattle.std.specs.List.{list_any, list_all};
-ghost use Rattle.mof_metamodel.specs.Metamodels.{class_count, supers_of, united, all_united, with_item, lineage_of};
-ghost use Rattle.mof_metamodel.specs.Tables.{class_numbers, lines, line, line_at, AreLines, table, new_line, later_line, lineage_in, AreBelow, AreAmong, AreMarks, AreClosed, ReachesOver};
+ghost use Rattle.mof_metamodel.specs.Metamodels.{class_count, supers_of, united, all_united, with_item, lineage_of, reached_classes as reached_by_number};
+ghost use Rattle.mof_metamodel.specs.Tables.{class_numbers, lines, line, line_at, AreLines, table, new_line, later_line, lineage_in, AreBelow, AreAmong, AreMarks, AreClosed};
 
-use crate::closure::{Rows, classes_in, closure};
 use crate::desc::ClassId;
 use crate::hierarchy::Hierarchy;
 use crate::memory::NoMemory;
 use crate::or_drop;
+use crate::reached::{marked, reached};
 use crate::seq::Seq;
 use indexmap::IndexSet;
 use std::alloc::Global;
@@ -229,35 +229,23 @@ pub(crate) fn all_lines(alloc: Global, hierarchy: &Hierarchy) -> Result<Vec<Line
     Ok(orders)
 }
 
-/// The rows of a description, where a class has no order.
-fn rows_beside(alloc: Global, hierarchy: &Hierarchy, lines: &[Line]) -> Result<Rows, NoMemory>
-    ensures { IfOk result (λ rows. list_all (λ o. is_some o) lines.now ≡ false → ReachesOver hierarchy.now (class_count hierarchy.now) rows.items) }
+/// The class and those that it reaches, by number.
+fn reached_classes(alloc: Global, hierarchy: &Hierarchy, c: u32) -> Result<Seq<u32>, NoMemory>
+    requires { c < class_count hierarchy.now }
+    ensures { IfOk result (λ classes. classes ≡ reached_by_number hierarchy.now c) }
 {
-    if all_found(lines) {
-        return Ok(Vec::new(alloc));
-    }
-    closure(alloc, hierarchy)
+    let marks = reached(alloc, hierarchy, &[ClassId(c)])?;
+    marked(alloc, marks.as_slice(), hierarchy.named().class_count())
 }
 
-/// The class and those that it inherits from, by its order, or by its row where it has none.
-fn lineage(
-    alloc: Global,
-    hierarchy: &Hierarchy,
-    line: &Line,
-    rows: &[Vec<bool>],
-    c: u32,
-) -> Result<Seq<u32>, NoMemory>
-    requires class { c < class_count hierarchy.now }
-    requires rows { line.now ≡ None → ReachesOver hierarchy.now (class_count hierarchy.now) rows.now }
+/// The class and those that it inherits from, by its order, or by number where it has none.
+fn lineage(alloc: Global, hierarchy: &Hierarchy, line: &Line, c: u32) -> Result<Seq<u32>, NoMemory>
+    requires { c < class_count hierarchy.now }
     ensures { IfOk result (λ classes. classes ≡ lineage_in hierarchy.now line.now c) }
 {
     match line {
         Some(order) => Seq::from_slice(alloc, order.as_slice()),
-        None => classes_in(
-            alloc,
-            rows[c as usize].as_slice(),
-            hierarchy.named().class_count(),
-        ),
+        None => reached_classes(alloc, hierarchy, c),
     }
 }
 
@@ -270,10 +258,9 @@ pub(crate) fn all_lineages(
     requires { AreLines hierarchy.now (class_count hierarchy.now) lines.now }
     ensures { IfOk result (λ lineages. lineages.items ≡ table (lineage_of hierarchy.now) (class_count hierarchy.now)) }
 {
-    let rows = rows_beside(alloc, hierarchy, lines)?;
     let mut lineages = Vec::new(alloc);
     for c in 0..hierarchy.named().class_count() {
-        let classes = lineage(alloc, hierarchy, &lines[c as usize], rows.as_slice(), c)?;
+        let classes = lineage(alloc, hierarchy, &lines[c as usize], c)?;
         lineages.push(classes)?;
     }
     Ok(lineages)

@@ -25,7 +25,8 @@ use std::marker::Model;
 /// that a number is of this metamodel. The tables take room for each class and each class that it inherits from, and for
 /// each property of each class, inherited ones included. Making them takes time for each of these; for each written
 /// superclass a look-up of its name, and a look at each class of its order where the order before it lacks the superclass;
-/// and for each two classes, where superclasses stand in circles, a look at each class.
+/// and for each class that reaches a circle of superclasses, a look at each class that it reaches and at each superclass
+/// that these write.
 #[derive(Drop)]
 pub struct MetaModel {
     ordered: Ordered,

@@ -24,8 +24,8 @@ pub fn is_blank(byte: u8) -> bool
     matches!(byte, b' ' | b'\t' | b'\n' | b'\r')
 }
 
-/// Whether a character is a blank.
-fn is_blank_character(c: char) -> bool
+/// Whether a character is a blank: a space, a tab, a line feed or a carriage return.
+pub fn is_blank_character(c: char) -> bool
     ensures { result ≡ blank c }
 {
     matches!(c, ' ' | '\t' | '\n' | '\r')

@@ -5,12 +5,12 @@ use Rattle.mof_metamodel.proofs.circles.first_circle.Goals as goal
 pub loop-c-preserved : goal.loop-c-preserved
 loop-c-preserved c =
     below_more (λ d. IsCircular c.args.hierarchy.now d → ⊥) c.loop-c.c c.loop-c.invariant
-    (λ circular. true≢false (sym (c.is_circular.ensures.1 circular) ∙ c.if-is_circular.false))
+    (λ circular. true≢false (sym (c.in_ok-circular.ensures.1 circular) ∙ c.if-circular.false))
 
-pub returns-then-is_circular : goal.returns-then-is_circular
-returns-then-is_circular c = record {
+pub returns-then-circular : goal.returns-then-circular
+returns-then-circular c = record {
   within = let n = c.class_count-c-end.ensures ∙ ap class_count c.named.ensures in omega (arith, n);
-  circular = c.is_circular.ensures.0 c.if-is_circular.true;
+  circular = c.in_ok-circular.ensures.0 c.if-circular.true;
   first = c.loop-c.invariant;
 }
 

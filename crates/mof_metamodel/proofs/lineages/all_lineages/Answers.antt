@@ -1,10 +1,8 @@
-use Rattle.std.proofs.Common.{◌<◌, ap, ◌∙◌, sym, subst, arith}
+use Rattle.std.proofs.Common.{◌<◌, ap, ◌∙◌, arith}
 use Rattle.mof_metamodel.specs.Metamodels.{class_count, lineage_of}
-use Rattle.mof_metamodel.specs.Tables.{ReachesOver}
 use Rattle.mof_metamodel.proofs.TableLemmas.{entry_more}
 use Rattle.mof_metamodel.proofs.RoundLemmas.{lines_count}
 use Rattle.mof_metamodel.proofs.OrderLemmas.{lineage_is}
-use Rattle.mof_metamodel.proofs.ClosureLemmas.{not_all}
 use Rattle.mof_metamodel.proofs.lineages.all_lineages.Goals as goal
 
 pub bounds-lines-c : goal.bounds-lines-c
@@ -12,13 +10,6 @@ bounds-lines-c c =
     let n = c.class_count-c-end.ensures ∙ ap class_count c.named.ensures in
     let m = lines_count c.args.hierarchy.now (class_count c.args.hierarchy.now) c.args.lines.now c.requires in
     omega (arith, n, m)
-
-pub lineage-requires-clause-rows : goal.lineage-requires-clause-rows
-lineage-requires-clause-rows c none =
-    let n = c.class_count-c-end.ensures ∙ ap class_count c.named.ensures in
-    let m = lines_count c.args.hierarchy.now (class_count c.args.hierarchy.now) c.args.lines.now c.requires in
-    subst (ReachesOver c.args.hierarchy.now (class_count c.args.hierarchy.now)) (sym c.as_slice.ensures.value)
-    (c.in_ok-rows.ensures (not_all c.args.lines.now c.loop-c.c c.index-lines-c.result (omega (arith, n, m)) (sym c.index-lines-c.is ∙ none)))
 
 pub loop-c-preserved : goal.loop-c-preserved
 loop-c-preserved c =
