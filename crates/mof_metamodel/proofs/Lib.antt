@@ -19,3 +19,4 @@ pub mod SearchLemmas
 pub mod TableLemmas
 pub mod WalkLemmas
 pub mod WellLemmas
+pub mod Refuting

@@ -25,3 +25,4 @@ pub mod DistinctLemmas
 pub mod ContainerLemmas
 pub mod PlaceLemmas
 pub mod ConditionLemmas
+pub mod Refuting

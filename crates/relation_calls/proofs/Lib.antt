@@ -12,3 +12,4 @@ pub mod StepLaws
 pub mod MakingLaws
 pub mod MemoLaws
 pub mod HeldLaws
+pub mod Refuting
