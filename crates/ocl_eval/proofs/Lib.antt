@@ -18,3 +18,4 @@ pub mod FormLaws
 pub mod CollectLaws
 pub mod Measures
 pub mod ScopeLaws
+pub mod Refuting

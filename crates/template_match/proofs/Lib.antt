@@ -13,3 +13,4 @@ pub mod BindingLaws
 pub mod PublicLaws
 pub mod SearchForms
 pub mod PruneLaws
+pub mod Refuting
