@@ -4,3 +4,4 @@ pub mod writing
 pub mod completion
 pub mod backward
 pub mod faults
+pub mod Refuting
