@@ -9,3 +9,4 @@ pub mod TypeLaws
 pub mod MeaningLemmas
 pub mod ClassifierIndexLemmas
 pub mod QueryCallLemmas
+pub mod Refuting

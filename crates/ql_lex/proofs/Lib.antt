@@ -7,3 +7,4 @@ pub mod LexLaws
 pub mod DigitLaws
 pub mod TableLaws
 pub mod TokenLaws
+pub mod Refuting
