@@ -32,3 +32,4 @@ pub mod written
 pub mod SpotFaults
 pub mod PlaceOwners
 pub mod PlaceFaults
+pub mod Refuting
