@@ -15,3 +15,4 @@ pub mod DirectionLaws
 pub mod PrintedLemmas
 pub mod ConjunctLemmas
 pub mod LoopLemmas
+pub mod Refuting
