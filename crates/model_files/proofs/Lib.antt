@@ -34,3 +34,4 @@ pub mod OneModelLaws
 pub mod ReadingLaws
 pub mod read_back
 pub mod ShapeLaws
+pub mod Refuting

@@ -31,3 +31,4 @@ pub mod DemandLaws
 pub mod NameLaws
 pub mod JudgmentLaws
 pub mod CharacterLaws
+pub mod Refuting
