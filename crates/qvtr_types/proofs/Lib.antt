@@ -36,3 +36,4 @@ pub mod ReachLaws
 pub mod RelationLaws
 pub mod SlotLaws
 pub mod ScriptLaws
+pub mod Refuting
