@@ -55,3 +55,4 @@ pub mod FollowLaws
 pub mod TokenApart
 pub mod ReadingFound
 pub mod ReadingComplete
+pub mod Refuting
