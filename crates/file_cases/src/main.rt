@@ -4,6 +4,7 @@
 //! |---|---|
 //! | `meta TEXT` | the metamodel that a file with this text is, or what is printed of its fault; the `read` lines below it are by this metamodel |
 //! | `read TEXT` | the form of a file with this text, and the model that it is as JSON; or what is printed of its fault |
+//! | `pieces N TEXT` | the same for a file that is XMI and comes in pieces of N bytes, N being 1, 2 or 7; of a fault only `refused` |
 //! | another one | the metamodel that a model of EMOF describes, or why it describes none. The line is objects parted by `; `, each by words with a blank between: its class, its identifier, and slots as `PROPERTY=VALUES`, values parted by commas |
 //!
 //! In each TEXT `%` and two hexadecimal digits are a byte, and `%[3 ab^ ]` is `ab0 ab1 ab2 `. The first metamodel is EMOF. Lines that are
@@ -16,7 +17,7 @@ mod reading;
 
 use crate::building::built;
 use crate::printing::printed;
-use crate::reading::{read, read_meta};
+use crate::reading::{read, read_meta, read_pieces};
 use model_building::Refusal;
 use model_files::{FileError, emof_metamodel, metamodel_of};
 use mof_metamodel::{MetaModel, NoMemory, or_drop};
@@ -76,6 +77,12 @@ fn answer(alloc: Global, metas: &mut Metas, line: &str) -> Result<String, NoMemo
         read_meta(alloc, &mut metas.current, text)
     } else if let Some(text) = line.strip_prefix("read ") {
         read(alloc, &metas.current, text)
+    } else if let Some(text) = line.strip_prefix("pieces 1 ") {
+        read_pieces(alloc, &metas.current, 1, text)
+    } else if let Some(text) = line.strip_prefix("pieces 2 ") {
+        read_pieces(alloc, &metas.current, 2, text)
+    } else if let Some(text) = line.strip_prefix("pieces 7 ") {
+        read_pieces(alloc, &metas.current, 7, text)
     } else {
         described(alloc, &metas.emof, line)
     }

@@ -1,4 +1,5 @@
 //! Files of models and of metamodels.
+ghost use Rattle.std.specs.Prelude.{◌<◌};
 ghost use Rattle.model_files.specs.FaultTexts.{IsKnownError};
 ghost use Rattle.model_files.specs.Emof.{emof};
 
@@ -8,7 +9,9 @@ use model_files::{
     FileError, Form, Read, fault_text, metamodel_fault_text, read_any, read_metamodel, write_json,
 };
 use mof_metamodel::{MetaModel, NoMemory, Seq};
+use object_tables::Model;
 use std::alloc::Global;
+use xmi_profile::{Externs, ModelReader, XmiError};
 
 /// A text without the line feed at its end.
 fn line_of(alloc: Global, bytes: &Seq<u8>) -> Result<String, NoMemory> {
@@ -78,4 +81,38 @@ pub(crate) fn read(alloc: Global, meta: &MetaModel, text: &str) -> Result<String
         Ok(read) => read_line(alloc, &read),
         Err(error) => model_fault(alloc, meta, &error),
     }
+}
+
+/// A model that was read as XMI, as JSON; of a fault only that there is one.
+fn pieces_line(alloc: Global, model: &Result<Model<'_>, XmiError>) -> Result<String, NoMemory> {
+    match model {
+        Ok(model) => {
+            let json = write_json(alloc, model)?;
+            let line = line_of(alloc, &json)?;
+            Ok(format!(in alloc; "xmi {line}")?)
+        }
+        Err(XmiError::NoMemory) => Err(NoMemory),
+        Err(_) => Ok(String::from_str(alloc, "refused")?),
+    }
+}
+
+/// Reads a model as XMI that comes in pieces of at most so many bytes.
+pub(crate) fn read_pieces(
+    alloc: Global,
+    meta: &MetaModel,
+    most: usize,
+    text: &str,
+) -> Result<String, NoMemory>
+    requires { 0 < most }
+{
+    let bytes = expanded(alloc, text)?;
+    let mut reader = ModelReader::new(alloc, meta, Externs::None);
+    for piece in bytes.as_slice().chunks(most) {
+        reader.feed(piece)?;
+    }
+    drop(bytes);
+    let model = reader.finish();
+    let line = pieces_line(alloc, &model);
+    drop(model);
+    line
 }

@@ -20,5 +20,6 @@ pub use laws::{
     operations_are_told, queries_are_typed, query_typing_is_told, rules_are_told, trees_are_typed,
     types_agree_on_a_top, types_are_told_apart, typing_is_told,
 };
+pub use ocl_environments::{Env, Metas, TypeError, TypeFault};
 pub use queries::{type_queries, variable_type};
 pub use typing::{type_expr, type_whole};

@@ -40,5 +40,5 @@ pub use program_laws::programs_are_one;
 pub use relation_scope::bind_variables;
 pub use resolved_scripts::resolve;
 pub use script_queries::resolve_queries;
-pub use script_scopes::names_match;
+pub use script_scopes::{NameFault, names_match};
 pub use well_formed_laws::resolutions_are_well_formed;

@@ -1,6 +1,6 @@
 -- The conjuncts of when and where clauses (QVT 1.3, section 7.11.1.4): `a and b` counts as two; parentheses, and a part on which
 -- nothing is called, are looked through.
-use Rattle.std.specs.Prelude.{ℕ, Bool, true, false, ◌&&◌, if◌then◌else◌, List, [], ◌∷◌, ◌++◌, Option, None, Some}
+use Rattle.std.specs.Prelude.{ℕ, Bool, true, false, if◌then◌else◌, List, [], ◌∷◌, ◌++◌, Option, None, Some}
 use Rattle.std.specs.List.{flat_map, list_all}
 use Rattle.qv_syntax.specs.declared.name.Name.{Name}
 use Rattle.qv_syntax.specs.declared.operator.Operator.{Operator}
@@ -112,10 +112,8 @@ call_of e = call_in (out-Expr e)
 abbrev pub null_step : of.Expr-F (Unit {0}) Bool (Unit {0}) (Unit {0}) → Bool
 null_step (of.Null span) = true
 null_step (of.Parens inner span) = inner
-null_step (of.If condition one other span) = one && other
-null_step (of.Let name ty value body span) = body
 null_step layer = false
 
--- the literal `null`, or an expression with it in each branch: as an item it asks for an empty slot
+-- the literal `null`, in parentheses or not: as an item it asks for an empty slot
 abbrev pub is_null : Expr → Bool
 is_null = fold-Expr (Unit {0}) Bool (Unit {0}) (Unit {0}) (λ a. tt) null_step (λ p. tt) (λ i. tt)

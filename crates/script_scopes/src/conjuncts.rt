@@ -195,15 +195,13 @@ pub fn call_of(e: &Expr) -> Option<(&Text, &[Expr])>
     }
 }
 
-/// Whether an expression is the literal `null`, or has it in each branch: as an item it asks for an empty slot.
+/// Whether an expression is the literal `null`, in parentheses or not: as an item it asks for an empty slot.
 pub fn is_null(e: &Expr) -> bool
     ensures { result ≡ null e.now }
 {
     match e {
         Expr::Null { .. } => true,
         Expr::Parens { inner, .. } => is_null(inner.get()),
-        Expr::If { one, other, .. } => is_null(one.get()) && is_null(other.get()),
-        Expr::Let { body, .. } => is_null(body.get()),
         _ => false,
     }
 }
