@@ -1,9 +1,9 @@
 //! Which form a file of a model has.
 ghost use Rattle.std.specs.Prelude.{◌≡◌};
-ghost use Rattle.mof_metamodel.specs.Characters.{is_blank as blank};
 ghost use Rattle.model_files.specs.FileForm as forms;
 
 use crate::json_reading::without_mark;
+use mof_metamodel::is_blank;
 
 /// The form of a file of a model.
 #[derive(Clone, Copy)]
@@ -12,13 +12,6 @@ pub enum Form {
     Xmi,
     /// A value of JSON (RFC 8259).
     Json,
-}
-
-/// Whether a byte is a blank.
-fn is_blank(byte: u8) -> bool
-    ensures { result ≡ blank byte }
-{
-    matches!(byte, b' ' | b'\t' | b'\n' | b'\r')
 }
 
 /// Whether the first byte behind blanks is `{`.

@@ -7,6 +7,6 @@ use Rattle.object_tables.specs.declared.keys.HashKey.{HashKey}
 abbrev pub no_key : HashKey
 no_key = record { start = sip.initial }
 
--- these bytes stand before it
-abbrev pub key_of : List ℕ → HashKey
-key_of bytes = record { start = sip.write sip.initial bytes }
+-- these bytes stand before it besides
+abbrev pub after : HashKey → List ℕ → HashKey
+after key bytes = record { start = sip.write key.start bytes }

@@ -1,10 +1,10 @@
 ghost use Rattle.std.specs.Prelude.{◌≡◌};
-ghost use Rattle.object_tables.specs.Keys.{no_key, key_of};
+ghost use Rattle.object_tables.specs.Keys.{no_key, after};
 
 use std::hash::{BuildHasher, DefaultHasher, Hasher};
 
-/// What the identifiers of a model are hashed after: nothing, or the bytes of the file that spells them. A stranger who
-/// makes names with one hash has to make them for the very file that they stand in.
+/// What names are hashed after: nothing, or all that a file says of them. A stranger who makes names of one hash has to make
+/// them for the very file that they stand in, and each name that is changed changes the key.
 #[derive(Clone, Copy)]
 pub struct HashKey {
     start: DefaultHasher,
@@ -20,11 +20,11 @@ impl HashKey {
         }
     }
 
-    /// The key of a file, which all of its bytes change. In time linear in their number.
-    pub fn of(bytes: &[u8]) -> HashKey
-        ensures { result ≡ key_of bytes.now }
+    /// The key that these bytes besides change. In time linear in their number.
+    pub fn after(self, bytes: &[u8]) -> HashKey
+        ensures { result ≡ after self bytes.now }
     {
-        let mut start = DefaultHasher::new();
+        let mut start = self.start;
         start.write(bytes);
         HashKey { start }
     }

@@ -11,13 +11,7 @@ use crate::names::{begins_name, front_character, read_name};
 use crate::piece::{Piece, make_fault, make_nothing, make_token};
 use crate::texts::{read_block_comment, read_text};
 use crate::token::TokenKind;
-
-/// Whether the byte is a blank.
-fn is_blank(b: u8) -> bool
-    ensures { result ≡ blank b }
-{
-    matches!(b, b' ' | b'\t' | b'\n' | b'\r')
-}
+use mof_metamodel::is_blank;
 
 /// How many blanks there are at the front.
 fn blank_len(bytes: &[u8]) -> usize

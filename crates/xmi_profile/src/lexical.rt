@@ -6,8 +6,8 @@ ghost use Rattle.mof_metamodel.specs.WellMeta.{is_digit as digit};
 ghost use Rattle.xmi_profile.specs.Lexical as lexical;
 ghost use Rattle.xmi_profile.specs.Values as texts;
 
-use crate::names::{empty_text, is_blank, is_named};
-use mof_metamodel::{EnumId, MetaModel, NoMemory, PropType, Text};
+use crate::names::{empty_text, is_named};
+use mof_metamodel::{EnumId, MetaModel, NoMemory, PropType, Text, is_blank_character};
 use object_tables::Value;
 use std::alloc::Global;
 
@@ -164,7 +164,7 @@ impl Trim {
     fn take(&mut self, alloc: Global, c: char) -> Result<(), NoMemory>
         ensures { OnOk result (self.new ≡ lexical.trim_on self.old c) }
     {
-        if is_blank(c) {
+        if is_blank_character(c) {
             self.take_blank(c)
         } else {
             self.take_other(alloc, c)

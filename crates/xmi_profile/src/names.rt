@@ -1,11 +1,11 @@
 ghost use Rattle.std.specs.Prelude.{◌≡◌, [], chars, codes, IfOk};
-ghost use Rattle.mof_metamodel.specs.Characters.{same_name, is_blank as blank};
+ghost use Rattle.mof_metamodel.specs.Characters.{same_name};
 ghost use Rattle.xmi_profile.specs.Attributes as names;
 ghost use Rattle.xmi_text.specs.Markup.{begins};
 ghost use Rattle.xmi_profile.specs.Scanning as scanning;
 ghost use Rattle.xmi_profile.specs.Values as texts;
 
-use mof_metamodel::{NoMemory, Text};
+use mof_metamodel::{NoMemory, Text, is_blank_character};
 use std::alloc::Global;
 
 /// A text without a character.
@@ -161,17 +161,11 @@ fn behind_on(
     }
 }
 
-pub(crate) fn is_blank(c: char) -> bool
-    ensures { result ≡ blank c }
-{
-    matches!(c, ' ' | '\t' | '\n' | '\r')
-}
-
 /// Whether each character of a text is a blank.
 pub(crate) fn is_all_blank(text: &str) -> bool
     ensures { result ≡ texts.is_all_blank (chars text.now) }
 {
-    text.chars().all(is_blank)
+    text.chars().all(is_blank_character)
 }
 
 /// What stands behind the first of these characters.

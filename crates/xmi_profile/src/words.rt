@@ -3,8 +3,8 @@ ghost use Rattle.std.specs.List.{fold};
 ghost use Rattle.xmi_profile.specs.References as references;
 ghost use Rattle.xmi_profile.specs.WordList as lists;
 
-use crate::names::{empty_text, is_blank};
-use mof_metamodel::{NoMemory, Seq, Text};
+use crate::names::empty_text;
+use mof_metamodel::{NoMemory, Seq, Text, is_blank_character};
 use std::alloc::Global;
 use std::marker::Model;
 use std::mem;
@@ -54,7 +54,7 @@ impl Words {
     fn take(&mut self, alloc: Global, c: char) -> Result<(), NoMemory>
         ensures { OnOk result (self.new ≡ lists.words_on self.old c) }
     {
-        if is_blank(c) {
+        if is_blank_character(c) {
             self.end(alloc)
         } else {
             self.push(c)

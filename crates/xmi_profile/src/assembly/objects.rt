@@ -7,7 +7,7 @@ ghost use Rattle.object_tables.specs.Models.{ModelData};
 ghost use Rattle.xmi_profile.specs.AssemblyObjects.{AreObjects, bare_model};
 
 use mof_metamodel::{ClassId, MetaModel, NoMemory, Text};
-use object_tables::{AddFault, Model};
+use object_tables::{AddFault, HashKey, Model};
 use std::alloc::Global;
 
 /// Why an object is not added that may be added: want of memory.
@@ -33,6 +33,15 @@ fn add(model: &mut Model<'_>, class: ClassId, id: Text) -> Result<(), NoMemory>
     }
 }
 
+/// What the identifiers of a file are hashed after: all of them, so that none can be made that collide.
+fn key_of(ids: &[Text]) -> HashKey {
+    let mut key = HashKey::none();
+    for id in ids {
+        key = key.after(id.as_str().as_bytes());
+    }
+    key
+}
+
 /// The objects of a file, without values and links, in the order of their numbers.
 pub(super) fn bare_model<'m>(
     alloc: Global,
@@ -43,7 +52,7 @@ pub(super) fn bare_model<'m>(
     requires { AreObjects meta.now classes.now ids.now }
     ensures { IfOk result (λ m. m ≡ bare_model meta.now classes.now ids.now) }
 {
-    let mut model = Model::new(alloc, meta);
+    let mut model = Model::keyed(alloc, meta, key_of(ids));
     for (o, id) in ids.iter().enumerate() {
         add(&mut model, classes[o], id.duplicate(alloc)?)?;
     }
