@@ -2,7 +2,7 @@
 -- A tree of elements that is a model has no fault.
 use Rattle.std.proofs.Common.{◌≡◌, ℕ, ◌≤◌, Bool, true, false, List, refl, sym, ◌∙◌, subst, arith, true≢false, Option, None, Some}
 use Rattle.std.specs.Option.{option_map}
-use Rattle.mof_metamodel.specs.declared.limits.TheConstants.{MAX_OBJECTS}
+use Rattle.object_tables.specs.declared.limit.TheConstants.{MAX_OBJECTS}
 use Rattle.object_tables.specs.declared.breach.Breach.{Breach}
 use Rattle.object_tables.specs.declared.breach.BreachKind.{BreachKind}
 use Rattle.object_tables.specs.declared.breach.BreachKind.TheVariants as kinds

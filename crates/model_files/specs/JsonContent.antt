@@ -7,7 +7,7 @@ use Rattle.std.specs.List.{list_any}
 use Rattle.std.specs.Option.{option_map, option_and_then, option_or, unwrap_or}
 use Rattle.serde_json.specs.Data.{Data, boolean, number, string, array, object, Items, no_items, item, Members, no_members, member}
 use Rattle.serde_json.specs.Find.{get_member, as_i64}
-use Rattle.mof_metamodel.specs.declared.limits.TheConstants.{MAX_OBJECTS}
+use Rattle.object_tables.specs.declared.limit.TheConstants.{MAX_OBJECTS}
 use Rattle.object_tables.specs.declared.limit.LimitKind.{LimitKind}
 use Rattle.object_tables.specs.declared.limit.LimitKind.TheVariants as limits
 use Rattle.mof_metamodel.specs.declared.desc.MetaDesc.{MetaDesc}

@@ -1,7 +1,7 @@
 //! Laws on what files are and what is told of them, each the contract of a function that does nothing.
 ghost use Rattle.std.specs.Prelude.{◌≡◌, ◌⊎◌, ◌≤◌, ℕ, List};
 ghost use Rattle.mof_metamodel.specs.declared.desc.MetaDesc.{MetaDesc};
-ghost use Rattle.mof_metamodel.specs.declared.limits.TheConstants.{MAX_DEPTH, MAX_OBJECTS};
+ghost use Rattle.object_tables.specs.declared.limit.TheConstants.{MAX_DEPTH, MAX_OBJECTS};
 ghost use Rattle.mof_metamodel.specs.WellMeta.{WellMeta};
 ghost use Rattle.object_tables.specs.Containment.{IsDepth};
 ghost use Rattle.object_tables.specs.Models.{ModelData, IsLive, live_count};

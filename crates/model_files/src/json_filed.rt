@@ -2,7 +2,7 @@
 ghost use Rattle.std.specs.Prelude.{◌≡◌, ◌<◌, ◌≤◌, ℕ, List, [], All, map, length, chars, codes, is_some, true, Some, IfOk, OnOk};
 ghost use Rattle.serde_json.specs.Find.{get};
 ghost use Rattle.serde_json.specs.View.{view, items_view, members_view};
-ghost use Rattle.mof_metamodel.specs.declared.limits.TheConstants.{MAX_OBJECTS as max_objects};
+ghost use Rattle.object_tables.specs.declared.limit.TheConstants.{MAX_OBJECTS as max_objects};
 ghost use Rattle.mof_metamodel.specs.Metamodels.{class_count, enum_count, prop_count, IsTypeOf};
 ghost use Rattle.xmi_profile.specs.Elements.{concrete_class};
 ghost use Rattle.model_files.specs.JsonContent as content;

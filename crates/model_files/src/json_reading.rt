@@ -9,8 +9,8 @@ ghost use Rattle.model_files.specs.JsonFaults.{HasShape, HasObjects, IsUnshaped,
 use crate::fault::{FileError, JsonFault};
 use crate::json_faults::first_wrong;
 use crate::shape::first_amiss;
-use mof_metamodel::{MAX_OBJECTS, MetaModel, NoMemory, or_drop};
-use object_tables::LimitKind;
+use mof_metamodel::{MetaModel, NoMemory, or_drop};
+use object_tables::{LimitKind, MAX_OBJECTS};
 use serde_json::Value;
 use std::alloc::Global;
 use xmi_profile::ModelFault;

@@ -32,10 +32,7 @@ pub use desc::{
 };
 pub use fault::{MetaError, MetaFault, MetaKind};
 pub use laws::{first_fault_stands, well_where_no_fault};
-pub use limits::{
-    MAX_CALLS, MAX_CLASSES, MAX_DEPTH, MAX_ENUMS, MAX_FILE, MAX_LITERALS, MAX_NESTING, MAX_OBJECTS,
-    MAX_PROPS, MAX_RESULT, MAX_SCRIPT, MAX_XMI_NESTING,
-};
+pub use limits::{MAX_CLASSES, MAX_ENUMS, MAX_LITERALS, MAX_PROPS};
 pub use memory::NoMemory;
 pub use meta::MetaModel;
 pub use name_table::NameTable;

@@ -1,7 +1,7 @@
 -- A new object, other values of an object, and identifiers by their bytes.
 use Rattle.std.proofs.Common.{◌≡◌, ◌≢◌, ℕ, ◌+◌, ◌<◌, ◌≤◌, ◌^◌, ◌⊎◌, zero, suc, List, [], ◌∷◌, ◌++◌, length, get_or, map, replicate, refl, ap, sym, ◌∙◌, arith, subst, Option, Some, None, Bool, true, false, cond, inl, inr}
 use Rattle.std.specs.Prelude.{Contains, option_map, is_some, count_by, encode_utf8_all, Result, Ok, Err, IfOk, IfErr}
-use Rattle.mof_metamodel.specs.declared.limits.TheConstants.{MAX_OBJECTS}
+use Rattle.object_tables.specs.declared.limit.TheConstants.{MAX_OBJECTS}
 use Rattle.object_tables.specs.declared.limit.TheConstants.{MAX_ADDED}
 use Rattle.object_tables.specs.declared.fault.AddFault.{AddFault}
 use Rattle.object_tables.specs.declared.fault.AddFault.TheVariants as faults

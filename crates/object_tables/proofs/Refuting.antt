@@ -4,7 +4,7 @@ use Rattle.std.specs.Prelude.{◌≡◌, ℕ, Bool, true, false, List, [], ◌�
 use Rattle.std.proofs.Common.{inl, refl, arith}
 use Rattle.mof_metamodel.specs.declared.desc.MetaDesc.{MetaDesc}
 use Rattle.mof_metamodel.specs.declared.desc.PropDesc.{PropDesc}
-use Rattle.mof_metamodel.specs.declared.limits.TheConstants.{MAX_OBJECTS}
+use Rattle.object_tables.specs.declared.limit.TheConstants.{MAX_OBJECTS}
 use Rattle.object_tables.specs.Objects.{Object}
 use Rattle.object_tables.specs.Models.{ModelData, object_at, id_at, partners_at, linked, deleted, live_count, IsAddable}
 use Rattle.object_tables.specs.Validity.{Valid}

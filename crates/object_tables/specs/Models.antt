@@ -5,7 +5,7 @@ use Rattle.mof_metamodel.specs.declared.desc.MetaDesc.{MetaDesc}
 use Rattle.mof_metamodel.specs.declared.desc.PropType.{PropType}
 use Rattle.mof_metamodel.specs.declared.desc.PropType.TheVariants as types
 use Rattle.mof_metamodel.specs.Metamodels.{props_of, prop_at, type_of, opposite_of, enum_at, Conforms, class_at as meta_class}
-use Rattle.mof_metamodel.specs.declared.limits.TheConstants.{MAX_OBJECTS}
+use Rattle.object_tables.specs.declared.limit.TheConstants.{MAX_OBJECTS}
 use Rattle.mof_metamodel.specs.Characters.{is_storable_text}
 use Rattle.object_tables.specs.declared.limit.TheConstants.{MAX_ADDED}
 use Rattle.object_tables.specs.declared.value.Value.{Value}

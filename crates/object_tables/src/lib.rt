@@ -35,7 +35,7 @@ mod value;
 pub use breach::{Breach, BreachKind};
 pub use fault::AddFault;
 pub use keys::HashKey;
-pub use limit::{LimitKind, MAX_ADDED};
+pub use limit::{LimitKind, MAX_ADDED, MAX_DEPTH, MAX_OBJECTS};
 pub use model::Model;
 pub use partners::Partners;
 pub use sameness::{same_back, same_through};

@@ -23,3 +23,9 @@ impl LimitKind {
 
 /// How many objects may be added to a model, those that are gone again among them: the numbers of objects are below it.
 pub const MAX_ADDED: usize = 4_000_000_000;
+
+/// The greatest number of live objects of a model.
+pub const MAX_OBJECTS: u32 = 200_000;
+
+/// The greatest depth of containment of a model, a top object having depth 1.
+pub const MAX_DEPTH: u32 = 200;

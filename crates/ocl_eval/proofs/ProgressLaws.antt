@@ -5,7 +5,7 @@ use Rattle.std.specs.Option.{option_map}
 use Rattle.std.specs.List.{fold, items_where_true, count_by}
 use Rattle.std.proofs.lemmas.List.{drop_all, append_assoc}
 use Rattle.std.proofs.lemmas.Bool.{lt-leb, leb-false}
-use Rattle.mof_metamodel.specs.declared.limits.TheConstants.{MAX_RESULT}
+use Rattle.qvtr_semantics.specs.declared.limits.TheConstants.{MAX_RESULT}
 use Rattle.qv_syntax.specs.declared.type_tree.Kind.{Kind}
 use Rattle.qv_syntax.specs.declared.type_tree.Kind.TheVariants.{Set, Bag, Sequence, OrderedSet}
 use Rattle.qv_syntax.specs.declared.operation.IteratorKind.{IteratorKind}

@@ -1,7 +1,7 @@
 -- An iterator on its way over a collection: what it keeps of the values of its body so far, and what these give in the end.
 use Rattle.std.specs.Prelude.{Bool, true, false, ◌&&◌, ◌==◌, not, nat_le, List, [], ◌∷◌, ◌++◌, length, map, Option, None, Some, if◌then◌else◌}
 use Rattle.std.specs.List.{items_where_true, count_by, list_any}
-use Rattle.mof_metamodel.specs.declared.limits.TheConstants.{MAX_RESULT}
+use Rattle.qvtr_semantics.specs.declared.limits.TheConstants.{MAX_RESULT}
 use Rattle.qv_syntax.specs.declared.operation.IteratorKind.{IteratorKind}
 use Rattle.qv_syntax.specs.declared.operation.IteratorKind.TheVariants.{Select, Reject, Collect, Exists, ForAll, One, IsUnique}
 use Rattle.qvtr_semantics.specs.declared.datum.Datum.{Datum}

@@ -7,9 +7,9 @@ ghost use Rattle.qvtr_semantics.specs.Collections.{bounded, is_ordered, without,
 use crate::datum::{duplicate_datum, same_datum};
 use crate::integers::integer;
 use crate::outs::boolean;
-use mof_metamodel::{MAX_RESULT, NoMemory, Seq};
+use mof_metamodel::{NoMemory, Seq};
 use qv_syntax::Kind;
-use qvtr_semantics::{Datum, Out};
+use qvtr_semantics::{Datum, MAX_RESULT, Out};
 use std::alloc::Global;
 
 /// Whether the datum stands in the list.

@@ -58,8 +58,8 @@ pub use ordering::{in_order, set_in_order};
 pub use outs::{
     boolean, boolean_of, collection_of, datum_of, integer_of, integer_of_datum, string_of, truth,
 };
-pub use qvtr_semantics::{Binding, Datum, Out};
 pub use progress::{Progress, iterator_result};
+pub use qvtr_semantics::{Binding, Datum, Out};
 pub use running::Running;
 pub use spelling::to_integer;
 pub use strings::{boolean_text, integer_text, size, string, substring};

@@ -12,9 +12,9 @@ use crate::equality::is_defined;
 use crate::kinds::{collection, joined};
 use crate::met_outs::MetOuts;
 use crate::outs::{boolean, boolean_of, truth};
-use mof_metamodel::{MAX_RESULT, NoMemory, Seq};
+use mof_metamodel::{NoMemory, Seq};
 use qv_syntax::{IteratorKind, Kind};
-use qvtr_semantics::{Datum, Out};
+use qvtr_semantics::{Datum, MAX_RESULT, Out};
 use std::alloc::Global;
 
 /// An iterator on its way over a collection: what it keeps of the values of its body (OCL 2.4, section 11.9).

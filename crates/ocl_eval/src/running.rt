@@ -7,9 +7,9 @@ ghost use Rattle.ocl_eval.specs.Counted.{IsCounted};
 use crate::integers::plus;
 use crate::outs::{integer_of, string_of};
 use crate::strings::character_count;
-use mof_metamodel::{MAX_RESULT, NoMemory, Text};
+use mof_metamodel::{NoMemory, Text};
 use object_tables::Value;
-use qvtr_semantics::{Datum, Out};
+use qvtr_semantics::{Datum, MAX_RESULT, Out};
 
 /// A value to which `+` or `concat` may add more. It knows how many characters it has, if it is a String, so that a chain of them counts
 /// none twice. Contracts see it as the value.

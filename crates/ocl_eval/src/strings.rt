@@ -3,9 +3,9 @@ ghost use Rattle.qvtr_semantics.specs.Outs.{string};
 ghost use Rattle.qvtr_semantics.specs.Strings.{size, part_between, substring, integer_text, boolean_text};
 
 use crate::integers::integer;
-use mof_metamodel::{MAX_RESULT, NoMemory, Text};
+use mof_metamodel::{NoMemory, Text};
 use object_tables::Value;
-use qvtr_semantics::{Datum, Out};
+use qvtr_semantics::{Datum, MAX_RESULT, Out};
 use std::alloc::Global;
 
 /// How many characters a text has.

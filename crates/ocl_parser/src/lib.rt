@@ -11,6 +11,7 @@ mod error;
 mod expecting;
 mod frame;
 mod halt;
+mod limits;
 mod local_laws;
 mod moves;
 mod names;
@@ -31,6 +32,7 @@ pub use completion_laws::{answers_are_exact, open_constructs_end, readings_begin
 pub use error::ParseError;
 pub use expecting::{is_sign_at, is_word_at, read_opening, read_sign, read_word, span_between};
 pub use halt::{Halt, Stop};
+pub use limits::MAX_NESTING;
 pub use local_laws::{expressions_end, one_tree_between, own_tokens_spell};
 pub use names::{read_name, read_path};
 pub use parsing::{error_of, parse_expr, read_expr};

@@ -11,10 +11,11 @@ ghost use Rattle.ql_lex.specs.Symbols.{terminal_of};
 
 use crate::error::ParseError;
 use crate::halt::{Halt, Stop};
+use crate::limits::MAX_NESTING;
 use crate::moves::move_on;
 use crate::stack::Stack;
 use crate::state::{Action, State};
-use mof_metamodel::{MAX_NESTING, NoMemory};
+use mof_metamodel::NoMemory;
 use ql_lex::{Tokens, peek, symbol_at};
 use qv_syntax::Expr;
 use std::alloc::Global;

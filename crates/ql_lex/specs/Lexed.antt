@@ -2,7 +2,7 @@
 use Rattle.std.specs.Prelude.{◌≡◌, ◌<◌, ◌≤◌, ℕ, zero, suc, ◌+◌, ◌-◌, if◌then◌else◌, nat_lt, nat_eq, List, [], ◌∷◌, ◌++◌, length, take, drop, slice_range, Result, Ok, Err}
 use Rattle.std.specs.List.{starts_with}
 use Rattle.std.specs.Option.{option_map_or}
-use Rattle.mof_metamodel.specs.declared.limits.TheConstants.{MAX_SCRIPT}
+use Rattle.ql_lex.specs.declared.limits.TheConstants.{MAX_SCRIPT}
 use Rattle.ql_lex.specs.declared.token.Token.{Token}
 use Rattle.ql_lex.specs.declared.fault.LexKind.TheVariants.{Limit}
 use Rattle.ql_lex.specs.declared.fault.LexFault.{LexFault}

@@ -7,7 +7,7 @@ use Rattle.std.specs.Char.{is_ascii_digit}
 use Rattle.std.specs.Str.{IsUtf8, all_scalars}
 use Rattle.unicode_ident.specs.Ident.{is_xid_start, is_xid_continue}
 use Rattle.mof_metamodel.specs.Characters.{is_blank}
-use Rattle.mof_metamodel.specs.declared.limits.TheConstants.{MAX_SCRIPT}
+use Rattle.ql_lex.specs.declared.limits.TheConstants.{MAX_SCRIPT}
 use Rattle.ql_lex.specs.declared.limits.TheConstants.{MAX_INTEGER}
 use Rattle.ql_lex.specs.declared.token.TokenKind.{TokenKind}
 use Rattle.ql_lex.specs.declared.token.TokenKind.TheVariants as kinds

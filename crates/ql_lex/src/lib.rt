@@ -23,7 +23,7 @@ mod unquoting;
 mod word;
 
 pub use fault::{LexError, LexFault, LexKind};
-pub use limits::MAX_INTEGER;
+pub use limits::{MAX_INTEGER, MAX_SCRIPT};
 pub use look::peek;
 pub use reading::lex;
 pub use symbol::{PlainType, Symbol, Terminal};

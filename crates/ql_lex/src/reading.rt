@@ -11,11 +11,12 @@ ghost use Rattle.ql_lex.specs.Places.{IsUtf8Place, IsMalformedAt};
 use crate::cuts::bytes_behind;
 use crate::fault::{LexError, LexFault, LexKind};
 use crate::forms::read_form;
+use crate::limits::MAX_SCRIPT;
 use crate::piece::Piece;
 use crate::token::Token;
 use crate::tokens::Tokens;
 use crate::word::Word;
-use mof_metamodel::{MAX_SCRIPT, Span};
+use mof_metamodel::Span;
 use std::alloc::Global;
 
 /// The first `len` bytes, if they are whole characters.

@@ -4,7 +4,7 @@ use Rattle.std.specs.FinMap.{get}
 use Rattle.std.proofs.lemmas.Bool.{cases_lt}
 use Rattle.vault_io.specs.Files.{Files}
 use Rattle.mof_metamodel.specs.declared.desc.MetaDesc.{MetaDesc}
-use Rattle.mof_metamodel.specs.declared.limits.TheConstants.{MAX_FILE}
+use Rattle.qvtr_engine.specs.declared.limits.TheConstants.{MAX_FILE}
 use Rattle.mof_metamodel.specs.WellMeta.{WellMeta}
 use Rattle.object_tables.specs.Models.{ModelData}
 use Rattle.xmi_profile.specs.declared.fault.Externs.TheVariants as externs

@@ -3,7 +3,7 @@ use Rattle.std.proofs.Common.{◌≡◌, ℕ, ◌≤◌, ◌⊎◌, inl, inr, Bo
 use Rattle.std.specs.Prelude.{IfSome, IsSomeAnd, IfOk, IfErr}
 use Rattle.std.specs.FinMap.{insert}
 use Rattle.vault_io.specs.Files.{Files, bound}
-use Rattle.mof_metamodel.specs.declared.limits.TheConstants.{MAX_FILE}
+use Rattle.qvtr_engine.specs.declared.limits.TheConstants.{MAX_FILE}
 use Rattle.object_tables.specs.Models.{ModelData}
 use Rattle.qvtr_engine.specs.declared.status.Status.{Status}
 use Rattle.qvtr_engine.specs.declared.status.Status.TheVariants.{Done, No, Usage, Fault, Refused, Chain, Limit, NoMemory}

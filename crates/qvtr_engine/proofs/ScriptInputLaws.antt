@@ -2,7 +2,7 @@
 use Rattle.std.proofs.Common.{◌≡◌, ◌⊎◌, inl, inr, ℕ, ◌<◌, ◌≤◌, true, List, [], ◌∷◌, length, refl, Option, Some, None, Result, Ok, Err}
 use Rattle.std.specs.Prelude.{IfSome, IsSomeAnd, IfOk, IfErr}
 use Rattle.std.specs.FinMap.{get}
-use Rattle.mof_metamodel.specs.declared.limits.TheConstants.{MAX_SCRIPT}
+use Rattle.ql_lex.specs.declared.limits.TheConstants.{MAX_SCRIPT}
 use Rattle.vault_io.specs.Counts.{Rose}
 use Rattle.vault_io.specs.Files.{Files, MayFail, OfFile}
 use Rattle.qv_syntax.specs.declared.script.Script.{Script}

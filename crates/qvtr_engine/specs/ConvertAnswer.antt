@@ -2,7 +2,7 @@
 use Rattle.std.specs.Prelude.{◌<◌, ◌≤◌, ℕ, List, length}
 use Rattle.vault_io.specs.Files.{Files}
 use Rattle.mof_metamodel.specs.declared.desc.MetaDesc.{MetaDesc}
-use Rattle.mof_metamodel.specs.declared.limits.TheConstants.{MAX_FILE}
+use Rattle.qvtr_engine.specs.declared.limits.TheConstants.{MAX_FILE}
 use Rattle.object_tables.specs.Models.{ModelData}
 use Rattle.xmi_profile.specs.declared.fault.Externs.TheVariants as externs
 use Rattle.xmi_profile.specs.Canon.{canon_bytes}

@@ -2,7 +2,7 @@
 use Rattle.std.specs.Prelude.{◌≡◌, ◌<◌, ◌≤◌, ℕ, List, length, None}
 use Rattle.std.specs.FinMap.{get}
 use Rattle.vault_io.specs.Files.{Files}
-use Rattle.mof_metamodel.specs.declared.limits.TheConstants.{MAX_SCRIPT}
+use Rattle.ql_lex.specs.declared.limits.TheConstants.{MAX_SCRIPT}
 use Rattle.qv_syntax.specs.declared.script.Script.{Script}
 use Rattle.script_files.specs.declared.error.ScriptError.{ScriptError}
 use Rattle.script_files.specs.ScriptErrors.{is_limit}

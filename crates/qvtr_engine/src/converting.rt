@@ -4,7 +4,7 @@ ghost use Rattle.vault_io.specs.Counts.{Rose};
 ghost use Rattle.object_tables.specs.Containment.{IsDepth};
 ghost use Rattle.object_tables.specs.Models.{IsLive};
 ghost use Rattle.object_tables.specs.Validity.{Valid};
-ghost use Rattle.mof_metamodel.specs.declared.limits.TheConstants.{MAX_DEPTH};
+ghost use Rattle.object_tables.specs.declared.limit.TheConstants.{MAX_DEPTH};
 ghost use Rattle.xmi_profile.specs.declared.fault.Externs.TheVariants as externs;
 ghost use Rattle.model_files.specs.Emof.{emof};
 ghost use Rattle.model_files.specs.FaultTexts.{IsKnownError};
@@ -18,6 +18,7 @@ ghost use Rattle.qvtr_engine.specs.Reply as spec;
 ghost use Rattle.qvtr_engine.specs.Stops.{StoppedBy};
 
 use crate::convert_words::ConvertRequest;
+use crate::limits::MAX_FILE;
 use crate::outcome::Stop;
 use crate::rendering::{DONE, fault_text};
 use crate::reporting::{finish, report_stop};
@@ -26,7 +27,7 @@ use model_files::{
     FileError, Form, fault_text as error_text, metamodel_fault_text, read_any, read_metamodel,
     write_json,
 };
-use mof_metamodel::{MAX_FILE, MetaModel, NoMemory, Seq};
+use mof_metamodel::{MetaModel, NoMemory, Seq};
 use object_tables::Model;
 use std::alloc::Global;
 use vault_io::{Failed, LoadError, Sink, Vault, load};

@@ -11,6 +11,7 @@ mod convert_words;
 mod converting;
 mod input_names;
 mod judging;
+mod limits;
 mod numbering_inputs;
 mod outcome;
 mod paths;
@@ -23,5 +24,6 @@ mod status;
 mod telling;
 mod top;
 
+pub use limits::MAX_FILE;
 pub use status::Status;
 pub use top::{one_answer, run};

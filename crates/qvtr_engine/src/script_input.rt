@@ -9,7 +9,8 @@ ghost use Rattle.qvtr_engine.specs.ScriptFile.{HasShortScript, IsMisspelled, IsS
 ghost use Rattle.qvtr_engine.specs.Stops.{OnStop, StoppedBy};
 
 use crate::outcome::Stop;
-use mof_metamodel::{MAX_SCRIPT, NoMemory, Seq};
+use mof_metamodel::{NoMemory, Seq};
+use ql_lex::MAX_SCRIPT;
 use qv_syntax::Script;
 use script_files::{ScriptError, read_script, script_fault_text};
 use std::alloc::Global;

@@ -1,6 +1,6 @@
 ghost use Rattle.std.specs.Prelude.{◌≡◌, ◌≤◌, ◌⊎◌, List, ℕ, length, map, string_bytes, IfSome, IsSomeAnd};
 ghost use Rattle.vault_io.specs.Counts.{Rose};
-ghost use Rattle.mof_metamodel.specs.declared.limits.TheConstants.{MAX_FILE};
+ghost use Rattle.qvtr_engine.specs.declared.limits.TheConstants.{MAX_FILE};
 ghost use Rattle.object_tables.specs.Models.{ModelData};
 ghost use Rattle.qvtr_engine.specs.Answer.{Answer, AreAlikeAnswers, HasOneAnswer};
 ghost use Rattle.qvtr_engine.specs.CheckWords.{CheckWords};

@@ -2,7 +2,7 @@
 -- production. Expressions, types and paths are those of OCL.
 use Rattle.std.specs.Prelude.{◌≡◌, ℕ, ◌+◌, Bool, if◌then◌else◌, nat_lt, List, [], ◌∷◌, map, length, Option, Some, codes}
 use Rattle.std.specs.Option.{option_map_or}
-use Rattle.mof_metamodel.specs.declared.limits.TheConstants.{MAX_NESTING}
+use Rattle.ocl_parser.specs.declared.limits.TheConstants.{MAX_NESTING}
 use Rattle.qv_syntax.specs.declared.name.Name.{Name}
 use Rattle.qv_syntax.specs.declared.expr.Expr.{Expr}
 use Rattle.qv_syntax.specs.declared.query.QueryTree.{QueryTree}

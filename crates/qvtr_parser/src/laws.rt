@@ -1,5 +1,5 @@
 ghost use Rattle.std.specs.Prelude.{◌≡◌, ◌≤◌, ◌↔◌, ℕ, List, Result};
-ghost use Rattle.mof_metamodel.specs.declared.limits.TheConstants.{MAX_NESTING};
+ghost use Rattle.ocl_parser.specs.declared.limits.TheConstants.{MAX_NESTING};
 ghost use Rattle.ql_lex.specs.Lexed.{Lexeme, LexedText};
 ghost use Rattle.qv_syntax.specs.declared.script.Script.{Script};
 ghost use Rattle.ocl_parser.specs.declared.error.ParseError.{ParseError};

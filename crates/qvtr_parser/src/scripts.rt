@@ -9,10 +9,10 @@ ghost use Rattle.qvtr_parser.specs.ScriptReadings.{begins_declaration as begins,
 use crate::names::read_model;
 use crate::queries::{read_key, read_query};
 use crate::relations::read_relation;
-use mof_metamodel::{MAX_NESTING, Seq};
+use mof_metamodel::Seq;
 use ocl_parser::{
-    Halt, ParseError, Stop, error_of, is_sign_at, is_word_at, read_name, read_opening, read_sign,
-    read_word, span_between,
+    Halt, MAX_NESTING, ParseError, Stop, error_of, is_sign_at, is_word_at, read_name, read_opening,
+    read_sign, read_word, span_between,
 };
 use ql_lex::Tokens;
 use qv_syntax::{Declaration, ModelTree, Script};

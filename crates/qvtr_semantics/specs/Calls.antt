@@ -2,7 +2,7 @@
 -- relation has these roots. In a where clause it asks that the called relation holds for these roots. By recursion on the calls in
 -- when clauses that may still be made within one another (the strata), and on the calls in where clauses.
 use Rattle.std.specs.Prelude.{ℕ, zero, suc, List, [], ◌∷◌, map, length, replicate, Option, None, Some, slice_get, slice_set}
-use Rattle.mof_metamodel.specs.declared.limits.TheConstants.{MAX_CALLS}
+use Rattle.qvtr_semantics.specs.declared.limits.TheConstants.{MAX_CALLS}
 use Rattle.object_tables.specs.Models.{ModelData}
 use Rattle.qv_syntax.specs.declared.program.Program.{Program}
 use Rattle.qv_syntax.specs.declared.program.Rel.{Rel}

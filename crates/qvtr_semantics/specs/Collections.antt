@@ -2,7 +2,7 @@
 -- operation gives is told by a list, of which the kind keeps what it keeps.
 use Rattle.std.specs.Prelude.{ℕ, Bool, true, false, ◌==◌, ◌-◌, not, nat_le, pos, ℤ, List, [], ◌∷◌, ◌++◌, length, Option, None, slice_get, if◌then◌else◌}
 use Rattle.std.specs.List.{filter, list_all, last_or, count_by}
-use Rattle.mof_metamodel.specs.declared.limits.TheConstants.{MAX_RESULT}
+use Rattle.qvtr_semantics.specs.declared.limits.TheConstants.{MAX_RESULT}
 use Rattle.qv_syntax.specs.declared.type_tree.Kind.{Kind}
 use Rattle.qv_syntax.specs.declared.type_tree.Kind.TheVariants.{Set, Bag, Sequence, OrderedSet}
 use Rattle.qvtr_semantics.specs.declared.datum.Datum.{Datum}

@@ -5,6 +5,7 @@
 mod binding;
 mod datum;
 mod laws;
+mod limits;
 mod out;
 
 pub use binding::Binding;
@@ -13,4 +14,5 @@ pub use laws::{
     calls_have_values_of_bodies, small_models_are_told, small_program_is_well_formed,
     strata_are_enough,
 };
+pub use limits::{MAX_CALLS, MAX_RESULT};
 pub use out::Out;

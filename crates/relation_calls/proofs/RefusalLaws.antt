@@ -5,7 +5,7 @@ use Rattle.std.proofs.Common.{refl, sym, ap, subst, ◌∙◌, arith, inl, inr}
 use Rattle.std.proofs.Math.Seq.{get_or-append_seam}
 use Rattle.std.proofs.lemmas.List.{get_or_append_left, length-append}
 use Rattle.std.proofs.lemmas.Bool.Decides.{eqb_tells}
-use Rattle.mof_metamodel.specs.declared.limits.TheConstants.{MAX_CALLS}
+use Rattle.qvtr_semantics.specs.declared.limits.TheConstants.{MAX_CALLS}
 use Rattle.qvtr_semantics.specs.Calls.{RelationCall}
 use Rattle.qvtr_semantics.specs.Chains.{IsCyclic, IsDeep}
 use Rattle.relation_calls.specs.declared.name.CallName.{CallName}

@@ -2,7 +2,7 @@
 -- code would answer. A contract says that the code's result is what the definition gives, so it refuses that code.
 use Rattle.std.specs.Prelude.{◌≡◌, ℕ, zero, suc, List, [], ◌∷◌, ◌++◌, codes, length, Option, None, Some, Contains}
 use Rattle.std.proofs.Common.{refl, ap, arith}
-use Rattle.mof_metamodel.specs.declared.limits.TheConstants.{MAX_CALLS}
+use Rattle.qvtr_semantics.specs.declared.limits.TheConstants.{MAX_CALLS}
 use Rattle.qvtr_semantics.specs.declared.datum.Datum.{Datum}
 use Rattle.qvtr_semantics.specs.declared.datum.Datum.TheVariants.{Obj, Val}
 use Rattle.qvtr_semantics.specs.Templates.{Values, value_at}

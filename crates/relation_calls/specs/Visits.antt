@@ -1,6 +1,6 @@
 -- A visit to a relation by a call, and the chains that are come to by parts of it.
 use Rattle.std.specs.Prelude.{◌≡◌, ◌≢◌, ◌⊎◌, ◌≤◌, ◌-◌, ℕ, List, [], Option, Some, length, Contains, AllPairs}
-use Rattle.mof_metamodel.specs.declared.limits.TheConstants.{MAX_CALLS}
+use Rattle.qvtr_semantics.specs.declared.limits.TheConstants.{MAX_CALLS}
 use Rattle.qv_syntax.specs.declared.program.Rel.{Rel}
 use Rattle.qvtr_semantics.specs.Templates.{Values}
 use Rattle.qvtr_semantics.specs.Bindings.{Target}

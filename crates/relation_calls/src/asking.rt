@@ -1,6 +1,6 @@
 ghost use Rattle.std.specs.Prelude.{◌≡◌, ◌↔◌, ◌-◌, List, [], ◌∷◌, ◌++◌, Some, suc, length, slice_get, Contains, IfOk, IfErr, IsTrue};
 ghost use Rattle.std.specs.Option.{option_map};
-ghost use Rattle.mof_metamodel.specs.declared.limits.TheConstants.{MAX_CALLS};
+ghost use Rattle.qvtr_semantics.specs.declared.limits.TheConstants.{MAX_CALLS};
 ghost use Rattle.qv_syntax.specs.declared.program.Rel.{Rel};
 ghost use Rattle.qvtr_semantics.specs.Templates.{Values};
 ghost use Rattle.qvtr_semantics.specs.Calls.{RelationCall, AllAsked, TargetHolds, Match};

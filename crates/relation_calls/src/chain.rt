@@ -1,5 +1,5 @@
 ghost use Rattle.std.specs.Prelude.{◌≡◌, ◌-◌, [], ◌∷◌, ◌++◌, length, IfOk, IfErr};
-ghost use Rattle.mof_metamodel.specs.declared.limits.TheConstants.{MAX_CALLS};
+ghost use Rattle.qvtr_semantics.specs.declared.limits.TheConstants.{MAX_CALLS};
 ghost use Rattle.relation_calls.specs.Names.{call_named, chain_named};
 ghost use Rattle.relation_calls.specs.Faults.{IsFault};
 ghost use Rattle.relation_calls.specs.Visits.{IsChain};
@@ -7,7 +7,8 @@ ghost use Rattle.relation_calls.specs.Visits.{IsChain};
 use crate::copying::{chain_with, is_among};
 use crate::error::CallError;
 use crate::name::CallName;
-use mof_metamodel::{MAX_CALLS, Seq};
+use mof_metamodel::Seq;
+use qvtr_semantics::MAX_CALLS;
 use std::alloc::Global;
 
 /// How many calls a chain may still have.

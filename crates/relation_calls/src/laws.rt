@@ -1,5 +1,5 @@
 ghost use Rattle.std.specs.Prelude.{◌≤◌, ◌<◌, ◌≡◌, ◌↔◌, ℕ, List, [], Some, length, slice_get};
-ghost use Rattle.mof_metamodel.specs.declared.limits.TheConstants.{MAX_CALLS};
+ghost use Rattle.qvtr_semantics.specs.declared.limits.TheConstants.{MAX_CALLS};
 ghost use Rattle.object_tables.specs.Models.{ModelData};
 ghost use Rattle.qv_syntax.specs.declared.program.Program.{Program};
 ghost use Rattle.qv_syntax.specs.declared.program.Rel.{Rel};

@@ -1,7 +1,7 @@
 -- A text is one script, or one error is told of it.
 use Rattle.std.proofs.Common.{◌≡◌, ◌⊎◌, inl, inr, ℕ, List, length, Result, Ok, Err, ap, sym, ◌∙◌, refl, subst, arith}
 use Rattle.std.specs.Prelude.{IfErr, IsOkUnless}
-use Rattle.mof_metamodel.specs.declared.limits.TheConstants.{MAX_NESTING}
+use Rattle.ocl_parser.specs.declared.limits.TheConstants.{MAX_NESTING}
 use Rattle.ocl_parser.specs.declared.error.ParseError.{ParseError}
 use Rattle.ocl_parser.specs.declared.error.ParseError.TheVariants as parser
 use Rattle.ocl_parser.specs.declared.halt.Stop.TheVariants as stops

@@ -1,7 +1,7 @@
 -- What the text of a script is (QVT 1.3, section 7.13, the concrete syntax): the script that its tokens spell, or the fault that is told
 -- of it.
 use Rattle.std.specs.Prelude.{◌≡◌, ◌≢◌, ℕ, List, length, Err}
-use Rattle.mof_metamodel.specs.declared.limits.TheConstants.{MAX_NESTING}
+use Rattle.ocl_parser.specs.declared.limits.TheConstants.{MAX_NESTING}
 use Rattle.ocl_parser.specs.declared.error.ParseError.TheVariants as parser
 use Rattle.ql_lex.specs.Lexed.{Lexeme, LexedText, lexed}
 use Rattle.ql_lex.specs.Tokens.{IsLexed}

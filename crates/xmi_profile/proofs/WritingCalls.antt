@@ -7,7 +7,7 @@ use Rattle.std.proofs.lemmas.Bool.{lt-ltb}
 use Rattle.std.proofs.lemmas.Grind.{common_steps}
 use Rattle.std.proofs.lemmas.List.Folds.{list_any-append}
 use Rattle.mof_metamodel.specs.Characters.{is_storable_text}
-use Rattle.mof_metamodel.specs.declared.limits.TheConstants.{MAX_XMI_NESTING}
+use Rattle.xmi_text.specs.declared.limits.TheConstants.{MAX_XMI_NESTING}
 use Rattle.xmi_text.specs.Names.{is_name}
 use Rattle.xmi_text.specs.Writing.{Written, has, is_new, is_inside, may_open, may_attr, opened, with_attr, with_data, more_names, tag_end, is_tag, escaped}
 use Rattle.xmi_text.specs.Calls.{Call, Open, Attr, Data, Close, Line, after_call, wrote}

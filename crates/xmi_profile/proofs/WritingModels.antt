@@ -14,7 +14,8 @@ use Rattle.mof_metamodel.specs.WellMeta.{is_name_character, is_prop_name, is_nam
 use Rattle.mof_metamodel.specs.declared.desc.MetaDesc.{MetaDesc}
 use Rattle.mof_metamodel.specs.declared.desc.PropType.{PropType}
 use Rattle.mof_metamodel.specs.declared.desc.PropType.TheVariants as types
-use Rattle.mof_metamodel.specs.declared.limits.TheConstants.{MAX_DEPTH, MAX_XMI_NESTING}
+use Rattle.object_tables.specs.declared.limit.TheConstants.{MAX_DEPTH}
+use Rattle.xmi_text.specs.declared.limits.TheConstants.{MAX_XMI_NESTING}
 use Rattle.mof_metamodel.specs.Metamodels.{class_count, prop_count, props_of, prop_at, type_of, opposite_of, enum_at, no_enum, enum_count, literal_at}
 use Rattle.mof_metamodel.proofs.MetaLaws.{has_exactly}
 use Rattle.mof_metamodel.proofs.OnceLemmas.{props_of_once}

@@ -2,7 +2,7 @@
 -- MOF 2.5.1, 12.4).
 use Rattle.std.specs.Prelude.{◌≤◌, length, Result, Ok, Err}
 use Rattle.mof_metamodel.specs.declared.desc.MetaDesc.{MetaDesc}
-use Rattle.mof_metamodel.specs.declared.limits.TheConstants.{MAX_OBJECTS}
+use Rattle.object_tables.specs.declared.limit.TheConstants.{MAX_OBJECTS}
 use Rattle.object_tables.specs.Models.{ModelData}
 use Rattle.xmi_profile.specs.declared.assembly.check.AssemblyError.{AssemblyError}
 use Rattle.xmi_profile.specs.declared.assembly.check.AssemblyError.TheVariants as errors

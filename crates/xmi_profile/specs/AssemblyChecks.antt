@@ -1,6 +1,6 @@
 -- What a model must be besides: valid (MOF 2.5.1, 12.4 and UML 2.5.1, 7.5.3), and within the limit on its depth.
 use Rattle.std.specs.Prelude.{◌≡◌, ℕ, ◌<◌, ◌≤◌, List, Option, None, Some}
-use Rattle.mof_metamodel.specs.declared.limits.TheConstants.{MAX_DEPTH}
+use Rattle.object_tables.specs.declared.limit.TheConstants.{MAX_DEPTH}
 use Rattle.object_tables.specs.declared.breach.Breach.{Breach}
 use Rattle.object_tables.specs.declared.limit.LimitKind.TheVariants as limits
 use Rattle.object_tables.specs.Containment.{IsDepth}

@@ -2,7 +2,7 @@
 -- kind; else the first dangling reference, the first object that is contained twice, the first mismatch of ends; else the model isn't
 -- valid; else it nests too deeply.
 use Rattle.std.specs.Prelude.{◌≡◌, ◌⊎◌, ℕ, ◌<◌, ◌≤◌, List, Some}
-use Rattle.mof_metamodel.specs.declared.limits.TheConstants.{MAX_OBJECTS, MAX_DEPTH}
+use Rattle.object_tables.specs.declared.limit.TheConstants.{MAX_OBJECTS, MAX_DEPTH}
 use Rattle.object_tables.specs.declared.breach.Breach.{Breach}
 use Rattle.object_tables.specs.declared.limit.LimitKind.{LimitKind}
 use Rattle.object_tables.specs.declared.limit.LimitKind.TheVariants as limits

@@ -4,7 +4,7 @@ use Rattle.std.specs.Prelude.{◌≡◌, ◌≤◌, ℕ, true, List, Contains, S
 use Rattle.std.specs.Int.{w64}
 use Rattle.std.specs.Str.{all_scalars}
 use Rattle.mof_metamodel.specs.declared.desc.MetaDesc.{MetaDesc}
-use Rattle.mof_metamodel.specs.declared.limits.TheConstants.{MAX_DEPTH, MAX_OBJECTS}
+use Rattle.object_tables.specs.declared.limit.TheConstants.{MAX_DEPTH, MAX_OBJECTS}
 use Rattle.mof_metamodel.specs.Metamodels.{class_at, prop_at, literal_at}
 use Rattle.object_tables.specs.declared.value.Value.{Value}
 use Rattle.object_tables.specs.declared.value.Value.TheVariants as values

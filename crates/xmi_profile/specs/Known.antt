@@ -1,7 +1,7 @@
 -- The elements and objects of a file of which no object, by itself, has a fault.
 use Rattle.std.specs.Prelude.{◌≡◌, ℕ, ◌≤◌, nat_lt, List, length, map, position, Option, None, Some, Result, Ok, Err, if◌then◌else◌, All}
 use Rattle.mof_metamodel.specs.declared.desc.MetaDesc.{MetaDesc}
-use Rattle.mof_metamodel.specs.declared.limits.TheConstants.{MAX_OBJECTS}
+use Rattle.object_tables.specs.declared.limit.TheConstants.{MAX_OBJECTS}
 use Rattle.mof_metamodel.specs.Characters.{same_name}
 use Rattle.mof_metamodel.specs.NameTables.{value_of}
 use Rattle.object_tables.specs.declared.limit.LimitKind.TheVariants as limits

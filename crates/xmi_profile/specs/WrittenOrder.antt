@@ -2,7 +2,7 @@
 -- number, each followed by its parts in the order of its class's properties and of its partners.
 use Rattle.std.specs.Prelude.{ℕ, zero, suc, List, [], ◌∷◌}
 use Rattle.std.specs.List.{flat_map}
-use Rattle.mof_metamodel.specs.declared.limits.TheConstants.{MAX_DEPTH}
+use Rattle.object_tables.specs.declared.limit.TheConstants.{MAX_DEPTH}
 use Rattle.object_tables.specs.Models.{ModelData, partners_at}
 use Rattle.xmi_profile.specs.declared.form.Form.{Form}
 use Rattle.xmi_profile.specs.declared.form.Form.TheVariants as forms

@@ -12,8 +12,8 @@ use crate::listing::Listing;
 use crate::numbering::{Numbers, numbered};
 use crate::reading::read_listing;
 use crate::roles::Profile;
-use mof_metamodel::{MAX_OBJECTS, NoMemory, Text, or_drop};
-use object_tables::LimitKind;
+use mof_metamodel::{NoMemory, Text, or_drop};
+use object_tables::{LimitKind, MAX_OBJECTS};
 
 /// The elements of a file, and its objects, none of which has a fault by itself.
 #[derive(Drop)]

@@ -17,8 +17,8 @@ mod words;
 use crate::writing::lines::{write_foot, write_head};
 use crate::writing::objects::write_object;
 use crate::writing::tags::typed_name;
-use mof_metamodel::{MAX_DEPTH, NoMemory, Seq};
-use object_tables::{Model, ObjId};
+use mof_metamodel::{NoMemory, Seq};
+use object_tables::{MAX_DEPTH, Model, ObjId};
 use std::alloc::Global;
 use xmi_text::Writer;
 

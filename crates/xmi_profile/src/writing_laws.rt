@@ -6,7 +6,7 @@ ghost use Rattle.mof_metamodel.specs.Metamodels.{class_count, class_at, props_of
 ghost use Rattle.mof_metamodel.specs.WellMeta.{WellMeta};
 ghost use Rattle.object_tables.specs.declared.value.Value.{Value};
 ghost use Rattle.object_tables.specs.Kept.{Kept};
-ghost use Rattle.mof_metamodel.specs.declared.limits.TheConstants.{MAX_DEPTH, MAX_OBJECTS};
+ghost use Rattle.object_tables.specs.declared.limit.TheConstants.{MAX_DEPTH, MAX_OBJECTS};
 ghost use Rattle.object_tables.specs.Containment.{IsDepth};
 ghost use Rattle.object_tables.specs.Models.{ModelData, IsLive, is_value_of, live_count};
 ghost use Rattle.object_tables.specs.Sameness.{IsSame};

@@ -2,7 +2,7 @@
 -- code would answer. A contract says that the code's result is what the definition gives, so it refuses that code.
 use Rattle.std.specs.Prelude.{◌≡◌, ℕ, true, false, not, nat_lt, [], ◌∷◌, codes, length, if◌then◌else◌, None, Ok}
 use Rattle.std.proofs.Common.{refl, ap, sym, subst, arith}
-use Rattle.mof_metamodel.specs.declared.limits.TheConstants.{MAX_XMI_NESTING}
+use Rattle.xmi_text.specs.declared.limits.TheConstants.{MAX_XMI_NESTING}
 use Rattle.xmi_text.specs.declared.error.TextKind.TheVariants as kinds
 use Rattle.xmi_text.specs.declared.mark.Mark.TheVariants as marks
 use Rattle.xmi_text.specs.declared.mark.Step.TheVariants as answers

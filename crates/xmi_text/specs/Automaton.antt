@@ -1,6 +1,6 @@
 -- One more byte of a text, in any place of the grammar, and the faults that the bytes so far have.
 use Rattle.std.specs.Prelude.{ℕ, Bool, true, false, ◌+◌, ◌-◌, ◌==◌, ◌&&◌, ◌||◌, not, nat_lt, List, [], ◌∷◌, ◌++◌, length, slice_get, encode_utf8_all, Option, Some, None, if◌then◌else◌}
-use Rattle.mof_metamodel.specs.declared.limits.TheConstants.{MAX_XMI_NESTING}
+use Rattle.xmi_text.specs.declared.limits.TheConstants.{MAX_XMI_NESTING}
 use Rattle.xmi_text.specs.ByteClass.{holds_in_name, within}
 use Rattle.xmi_text.specs.UtfEight as utf
 use Rattle.xmi_text.specs.References as refs

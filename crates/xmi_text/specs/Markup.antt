@@ -6,7 +6,7 @@ use Rattle.std.specs.Char.{digit_value}
 use Rattle.std.specs.List.{list_all}
 use Rattle.std.specs.Str.{all_scalars}
 use Rattle.mof_metamodel.specs.Characters.{is_blank, is_storable_character, is_storable_text}
-use Rattle.mof_metamodel.specs.declared.limits.TheConstants.{MAX_XMI_NESTING}
+use Rattle.xmi_text.specs.declared.limits.TheConstants.{MAX_XMI_NESTING}
 use Rattle.xmi_text.specs.ByteClass.{within, continues_name}
 use Rattle.xmi_text.specs.Names.{is_far, is_name}
 use Rattle.xmi_text.specs.Trees.{Event, Opens, Says, Closes, Tree, events}

@@ -2,7 +2,7 @@
 use Rattle.std.specs.Prelude.{ℕ, Bool, true, false, ◌==◌, ◌-◌, ◌*◌, ◌&&◌, not, nat_lt, nat_eq, List, [], ◌∷◌, ◌++◌, length, replicate, codes, slice_get, Option, None, Some, if◌then◌else◌}
 use Rattle.std.specs.List.{list_any}
 use Rattle.std.specs.Cmp.Lexicographic.{pointwise}
-use Rattle.mof_metamodel.specs.declared.limits.TheConstants.{MAX_XMI_NESTING}
+use Rattle.xmi_text.specs.declared.limits.TheConstants.{MAX_XMI_NESTING}
 use Rattle.xmi_text.specs.States.{front}
 
 -- the characters so far, whether the root element was begun, the names of the open elements, the root first, and the

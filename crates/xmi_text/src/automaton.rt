@@ -3,10 +3,11 @@ ghost use Rattle.xmi_text.specs.Automaton as automaton;
 
 use crate::byte_class::holds_in_name;
 use crate::error::{TextFault, TextKind};
+use crate::limits::MAX_XMI_NESTING;
 use crate::reference::{Reference, character, extended};
 use crate::state::{Brackets, Mode, Quote, State, Within};
 use crate::utf_eight::{Growth, Partial, Rest, begun, extended as grown};
-use mof_metamodel::{MAX_XMI_NESTING, NoMemory, Text};
+use mof_metamodel::{NoMemory, Text};
 use std::alloc::Global;
 
 impl State {

@@ -17,6 +17,7 @@ mod fault_laws;
 mod first_fault_laws;
 mod fixed_laws;
 mod laws;
+mod limits;
 mod mark;
 mod names;
 mod reader;
@@ -37,6 +38,7 @@ pub use laws::{
     completions_end, documents_are_read, documents_begin, faultless_bytes_are_documents,
     faults_have_places, faults_stay, marks_stay, one_tree, trees_are_documents,
 };
+pub use limits::MAX_XMI_NESTING;
 pub use mark::{Attr, Mark, Step};
 pub use names::is_name;
 pub use reader::Reader;

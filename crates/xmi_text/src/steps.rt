@@ -3,9 +3,10 @@ ghost use Rattle.xmi_text.specs.Steps as steps;
 
 use crate::byte_class::{begins_name, continues_name, is_blank, is_storable_byte};
 use crate::error::TextKind;
+use crate::limits::MAX_XMI_NESTING;
 use crate::reference::Reference;
 use crate::state::{Brackets, Mode, Quote, State, Within};
-use mof_metamodel::{MAX_XMI_NESTING, NoMemory};
+use mof_metamodel::NoMemory;
 use std::alloc::Global;
 
 impl State {

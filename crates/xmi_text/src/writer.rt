@@ -8,7 +8,8 @@ ghost use Rattle.xmi_text.specs.Names.{is_name};
 ghost use Rattle.mof_metamodel.specs.Characters.{is_storable_text};
 
 use crate::attributes::empty_text;
-use mof_metamodel::{MAX_XMI_NESTING, NoMemory, Seq, Text};
+use crate::limits::MAX_XMI_NESTING;
+use mof_metamodel::{NoMemory, Seq, Text};
 use std::alloc::Global;
 use std::marker::Model;
 

@@ -7,7 +7,7 @@ use Rattle.std.proofs.lemmas.List.{get_or_past, length-map}
 use Rattle.std.proofs.lemmas.List.FromFn.{length-range_with_len, get_or-range_with_len}
 use Rattle.serde_json.specs.Data.{Data, array, object, member, Members, no_members, number, unsigned}
 use Rattle.serde_json.specs.View.{items_of}
-use Rattle.mof_metamodel.specs.declared.limits.TheConstants.{MAX_DEPTH, MAX_OBJECTS}
+use Rattle.object_tables.specs.declared.limit.TheConstants.{MAX_DEPTH, MAX_OBJECTS}
 use Rattle.object_tables.specs.declared.value.Value.{Value}
 use Rattle.object_tables.specs.Containment.{IsDepth}
 use Rattle.object_tables.specs.Models.{ModelData, object_at, class_at, id_at, values_at, partners_at, slot_in, index_of, live_count, IsLive}

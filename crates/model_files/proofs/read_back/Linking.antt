@@ -8,7 +8,7 @@ use Rattle.std.proofs.lemmas.List.{get_or-map, get_or_past, length-map}
 use Rattle.std.proofs.lemmas.List.FromFn.{length-range_with_len, get_or-range_with_len}
 use Rattle.std.proofs.lemmas.Option.{slice_get-get_or}
 use Rattle.serde_json.specs.Data.{Data}
-use Rattle.mof_metamodel.specs.declared.limits.TheConstants.{MAX_DEPTH, MAX_OBJECTS}
+use Rattle.object_tables.specs.declared.limit.TheConstants.{MAX_DEPTH, MAX_OBJECTS}
 use Rattle.mof_metamodel.specs.Characters.{same_name}
 use Rattle.mof_metamodel.specs.Metamodels.{prop_at, type_of, united}
 use Rattle.mof_metamodel.proofs.SearchLemmas.{position_alone}

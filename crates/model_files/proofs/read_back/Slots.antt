@@ -14,7 +14,7 @@ use Rattle.serde_json.proofs.Views.{get_member-put, get_member-put_other}
 use Rattle.mof_metamodel.specs.declared.desc.MetaDesc.{MetaDesc}
 use Rattle.mof_metamodel.specs.declared.desc.PropType.{PropType}
 use Rattle.mof_metamodel.specs.declared.desc.PropType.TheVariants as types
-use Rattle.mof_metamodel.specs.declared.limits.TheConstants.{MAX_DEPTH}
+use Rattle.object_tables.specs.declared.limit.TheConstants.{MAX_DEPTH}
 use Rattle.mof_metamodel.specs.Characters.{is_storable_text, is_identifier_text}
 use Rattle.mof_metamodel.specs.Metamodels.{prop_number, type_of, literal_at, literal_number}
 use Rattle.mof_metamodel.specs.WellMeta.{WellMeta}

@@ -5,12 +5,12 @@ ghost use Rattle.object_tables.specs.Models.{IsAttributeOf, IsSlotOf, IsLive, wi
 ghost use Rattle.object_tables.specs.AddFaults.{IsAddFault};
 
 use crate::fault::AddFault;
-use crate::limit::MAX_ADDED;
+use crate::limit::{MAX_ADDED, MAX_OBJECTS};
 use crate::model::Model;
 use crate::places::{near_place, place_count};
 use crate::tables::Named;
 use crate::value::{ObjId, Value};
-use mof_metamodel::{ClassId, MAX_OBJECTS, PropId, Seq, Text};
+use mof_metamodel::{ClassId, PropId, Seq, Text};
 
 impl<'m> Model<'m> {
     /// Adds an object of a class, with no values and no partners. After a refusal, and without memory, the model stays as it was.

@@ -6,7 +6,7 @@ use Rattle.std.proofs.lemmas.Bool.{cases_lt}
 use Rattle.std.proofs.lemmas.List.{get_or_past}
 use Rattle.mof_metamodel.specs.declared.desc.MetaDesc.{MetaDesc}
 use Rattle.mof_metamodel.specs.declared.desc.ClassId.{ClassId}
-use Rattle.mof_metamodel.specs.declared.limits.TheConstants.{MAX_OBJECTS}
+use Rattle.object_tables.specs.declared.limit.TheConstants.{MAX_OBJECTS}
 use Rattle.mof_metamodel.specs.Metamodels.{props_of, type_of}
 use Rattle.mof_metamodel.specs.WellMeta.{WellMeta}
 use Rattle.object_tables.specs.Kept.{Kept}

@@ -6,7 +6,7 @@ use Rattle.std.specs.Option.{option_map}
 use Rattle.std.proofs.lemmas.Bool.{and_parts, cases_lt, cases_order, eqb-true, true≢false}
 use Rattle.std.proofs.lemmas.List.{length-map, get_or-map}
 use Rattle.mof_metamodel.specs.declared.desc.PropId.{PropId}
-use Rattle.mof_metamodel.specs.declared.limits.TheConstants.{MAX_DEPTH}
+use Rattle.object_tables.specs.declared.limit.TheConstants.{MAX_DEPTH}
 use Rattle.mof_metamodel.specs.Metamodels.{props_of, prop_at}
 use Rattle.mof_metamodel.specs.Tables.{prop_numbers}
 use Rattle.object_tables.specs.declared.breach.Breach.{Breach}

@@ -4,7 +4,7 @@ use Rattle.std.specs.Prelude.{All, Option, Result, nat_lt, if◌then◌else◌}
 use Rattle.std.proofs.lemmas.Bool.{ltb-true, ltb-false}
 use Rattle.std.proofs.lemmas.List.Elements.{All-nil, All-cons, All-head, All-tail}
 use Rattle.mof_metamodel.specs.declared.desc.MetaDesc.{MetaDesc}
-use Rattle.mof_metamodel.specs.declared.limits.TheConstants.{MAX_OBJECTS}
+use Rattle.object_tables.specs.declared.limit.TheConstants.{MAX_OBJECTS}
 use Rattle.mof_metamodel.specs.Giving.{Gives}
 use Rattle.mof_metamodel.specs.NameTables.{NamesWith, value_of}
 use Rattle.object_tables.specs.declared.limit.LimitKind.TheVariants as limits

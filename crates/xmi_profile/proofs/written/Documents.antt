@@ -7,7 +7,7 @@ use Rattle.std.specs.Fmt.{signed_decimal}
 use Rattle.std.specs.Str.{all_scalars}
 use Rattle.std.proofs.lemmas.Str.{chars-IsAscii, IsUtf8-from_ascii, scalars-chars}
 use Rattle.std.proofs.lemmas.Fmt.{IsAscii-signed}
-use Rattle.mof_metamodel.specs.declared.limits.TheConstants.{MAX_DEPTH}
+use Rattle.object_tables.specs.declared.limit.TheConstants.{MAX_DEPTH}
 use Rattle.object_tables.specs.declared.value.Value.{Value}
 use Rattle.object_tables.specs.declared.value.Value.TheVariants as values
 use Rattle.object_tables.specs.Models.{ModelData, class_at, id_at, values_at, partners_at}

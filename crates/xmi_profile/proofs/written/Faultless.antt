@@ -6,7 +6,7 @@ use Rattle.std.specs.Option.{option_map, unwrap_or}
 use Rattle.std.proofs.lemmas.Bool.{and_parts, cases_lt, cond-false, true≢false}
 use Rattle.std.proofs.lemmas.List.{length-map, get_or_past}
 use Rattle.std.proofs.lemmas.Option.{slice_get_within}
-use Rattle.mof_metamodel.specs.declared.limits.TheConstants.{MAX_DEPTH}
+use Rattle.object_tables.specs.declared.limit.TheConstants.{MAX_DEPTH}
 use Rattle.mof_metamodel.specs.Characters.{is_identifier_text}
 use Rattle.mof_metamodel.specs.Metamodels.{prop_number, type_of}
 use Rattle.mof_metamodel.specs.WellMeta.{is_prop_name}

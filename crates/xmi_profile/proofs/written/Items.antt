@@ -8,7 +8,7 @@ use Rattle.std.proofs.lemmas.List.{map-append}
 use Rattle.std.proofs.lemmas.List.Concat.{flat_map-append}
 use Rattle.std.proofs.lemmas.List.Elements.{filter-append}
 use Rattle.mof_metamodel.specs.declared.desc.MetaDesc.{MetaDesc}
-use Rattle.mof_metamodel.specs.declared.limits.TheConstants.{MAX_DEPTH}
+use Rattle.object_tables.specs.declared.limit.TheConstants.{MAX_DEPTH}
 use Rattle.mof_metamodel.specs.Metamodels.{class_count, class_at as meta_class, prop_at, prop_number, type_of}
 use Rattle.mof_metamodel.specs.WellMeta.{is_prop_name}
 use Rattle.mof_metamodel.proofs.PropLemmas.{prop_known}

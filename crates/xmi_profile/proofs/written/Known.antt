@@ -1,7 +1,7 @@
 -- Each element of the tree of a model is the document, an object or a value.
 use Rattle.std.proofs.Common.{◌≡◌, ℕ, zero, suc, List, refl, sym, arith, Option, None, Some}
 use Rattle.std.specs.Prelude.{Contains}
-use Rattle.mof_metamodel.specs.declared.limits.TheConstants.{MAX_DEPTH}
+use Rattle.object_tables.specs.declared.limit.TheConstants.{MAX_DEPTH}
 use Rattle.mof_metamodel.proofs.PropLemmas.{from_flat_map}
 use Rattle.object_tables.specs.declared.value.Value.{Value}
 use Rattle.object_tables.specs.Kept.{Kept}

@@ -3,7 +3,7 @@ use Rattle.std.proofs.Common.{◌≡◌, ℕ, zero, suc, ◌<◌, Bool, true, fa
 use Rattle.std.specs.Prelude.{◌==◌, codes}
 use Rattle.std.specs.List.{flat_map}
 use Rattle.std.proofs.lemmas.Bool.{eqb-true, eqb-false, cases_lt}
-use Rattle.mof_metamodel.specs.declared.limits.TheConstants.{MAX_DEPTH}
+use Rattle.object_tables.specs.declared.limit.TheConstants.{MAX_DEPTH}
 use Rattle.object_tables.specs.declared.value.Value.{Value}
 use Rattle.object_tables.specs.Models.{ModelData, values_at, partners_at}
 use Rattle.xmi_text.specs.Calls.{Call, Open, Attr, Data, Close, Line, leading, meant_in, meant}

@@ -3,7 +3,7 @@ use Rattle.std.proofs.Common.{length-append, ◌≡◌, ◌≢◌, ◌⊎◌, �
 use Rattle.std.specs.Prelude.{not, nat_eq, Contains, is_some}
 use Rattle.std.specs.List.{flat_map, list_any, range_with_len}
 use Rattle.std.proofs.lemmas.Bool.{and_parts, eqb-true, not-true, true≢false}
-use Rattle.mof_metamodel.specs.declared.limits.TheConstants.{MAX_DEPTH}
+use Rattle.object_tables.specs.declared.limit.TheConstants.{MAX_DEPTH}
 use Rattle.mof_metamodel.specs.Metamodels.{prop_at, type_of, opposite_of}
 use Rattle.mof_metamodel.proofs.DistinctLemmas.{IsOnce, once_nil, once_append, once_range}
 use Rattle.mof_metamodel.proofs.OnceLemmas.{filter-once, props_of_once}

@@ -2,7 +2,7 @@
 use Rattle.std.proofs.Common.{◌≡◌, ℕ, zero, suc, ◌+◌, ◌<◌, ◌≤◌, List, [], ◌∷◌, length, get_or, map, sym, ◌∙◌, ap, arith}
 use Rattle.std.specs.Prelude.{Contains, is_some, not}
 use Rattle.std.specs.List.{flat_map, range_with_len}
-use Rattle.mof_metamodel.specs.declared.limits.TheConstants.{MAX_DEPTH}
+use Rattle.object_tables.specs.declared.limit.TheConstants.{MAX_DEPTH}
 use Rattle.mof_metamodel.proofs.DistinctLemmas.{IsOnce}
 use Rattle.object_tables.specs.Containment.{IsDepth}
 use Rattle.object_tables.specs.Kept.{Kept}

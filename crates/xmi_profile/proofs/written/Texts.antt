@@ -6,7 +6,7 @@ use Rattle.std.proofs.lemmas.Bool.{and_parts, ne_eqb, eqb-true, cond-false}
 use Rattle.std.proofs.lemmas.Bool.Decides.{Decides-int_eq}
 use Rattle.std.proofs.lemmas.List.Elements.{All-contains}
 use Rattle.mof_metamodel.specs.declared.desc.EnumId.{EnumId}
-use Rattle.mof_metamodel.specs.declared.limits.TheConstants.{MAX_DEPTH}
+use Rattle.object_tables.specs.declared.limit.TheConstants.{MAX_DEPTH}
 use Rattle.mof_metamodel.specs.Metamodels.{props_of, prop_at, type_of, opposite_of}
 use Rattle.mof_metamodel.proofs.SearchLemmas.{same_true}
 use Rattle.object_tables.specs.declared.value.Value.{Value}

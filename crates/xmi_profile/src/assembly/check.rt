@@ -3,8 +3,8 @@ ghost use Rattle.object_tables.specs.Validity.{IsFirstBreach, Valid};
 ghost use Rattle.xmi_profile.specs.AssemblyChecks as checks;
 
 use crate::fault::ModelFault;
-use mof_metamodel::{MAX_DEPTH, NoMemory, Text};
-use object_tables::{Breach, LimitKind, Model};
+use mof_metamodel::{NoMemory, Text};
+use object_tables::{Breach, LimitKind, MAX_DEPTH, Model};
 use std::alloc::Global;
 
 /// Why what a file writes is no model.

@@ -9,8 +9,8 @@ use crate::form::Form;
 use crate::writing::lines::{write_each, write_end};
 use crate::writing::tags::write_tag;
 use crate::writing::values::{form_of, prop_name};
-use mof_metamodel::{MAX_DEPTH, NoMemory, PropId};
-use object_tables::{Model, ObjId};
+use mof_metamodel::{NoMemory, PropId};
+use object_tables::{MAX_DEPTH, Model, ObjId};
 use std::alloc::Global;
 use xmi_text::Writer;
 

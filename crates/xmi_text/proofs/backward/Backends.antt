@@ -5,7 +5,7 @@ use Rattle.std.specs.Prelude.{slice_get, ◌==◌, nat_lt}
 use Rattle.std.specs.List.{list_all}
 use lib.Utf8.{encodes, scalar, scalars, low_scalar}
 use Rattle.mof_metamodel.specs.Characters.{is_blank}
-use Rattle.mof_metamodel.specs.declared.limits.TheConstants.{MAX_XMI_NESTING}
+use Rattle.xmi_text.specs.declared.limits.TheConstants.{MAX_XMI_NESTING}
 use Rattle.xmi_text.specs.ByteClass as bytes
 use Rattle.xmi_text.specs.ByteClass.{within}
 use Rattle.xmi_text.specs.States as states

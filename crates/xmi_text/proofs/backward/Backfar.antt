@@ -4,7 +4,7 @@ use Rattle.std.proofs.lemmas.Bool.{and_from, or_parts, or_right, ltb-true, and_l
 use Rattle.std.specs.Prelude.{◌==◌, ◌||◌, ◌&&◌, not, nat_lt, nat_le}
 use lib.Utf8.{scalar}
 use Rattle.mof_metamodel.specs.Characters.{is_storable_character}
-use Rattle.mof_metamodel.specs.declared.limits.TheConstants.{MAX_XMI_NESTING}
+use Rattle.xmi_text.specs.declared.limits.TheConstants.{MAX_XMI_NESTING}
 use Rattle.xmi_text.specs.ByteClass as bytes
 use Rattle.xmi_text.specs.ByteClass.{within}
 use Rattle.xmi_text.specs.UtfEight as utf

@@ -4,7 +4,7 @@ use Rattle.std.proofs.Math.Bool.{and-true}
 use Rattle.std.proofs.lemmas.Bool.{and_parts, and_from, or_from, or_left, or_right, eqb-true, and_left, and_right, lt-leb, not-false}
 use Rattle.std.specs.Prelude.{◌==◌, ◌||◌, ◌&&◌, not, nat_le}
 use Rattle.mof_metamodel.specs.Characters.{is_storable_character}
-use Rattle.mof_metamodel.specs.declared.limits.TheConstants.{MAX_XMI_NESTING}
+use Rattle.xmi_text.specs.declared.limits.TheConstants.{MAX_XMI_NESTING}
 use Rattle.xmi_text.specs.ByteClass as bytes
 use Rattle.xmi_text.specs.ByteClass.{within}
 use Rattle.xmi_text.specs.States as states

@@ -6,7 +6,7 @@ use Rattle.std.proofs.lemmas.Bool.{ltb-true, ltb-false, lt-ltb, le-ltb, eq-eqb, 
 use Rattle.std.specs.Prelude.{nat_lt, nat_le, nat_eq, ◌==◌, ◌&&◌, ◌||◌, not, slice_get}
 use Rattle.std.specs.Cmp.Lexicographic.{pointwise}
 use Rattle.mof_metamodel.specs.Characters.{is_storable_character}
-use Rattle.mof_metamodel.specs.declared.limits.TheConstants.{MAX_XMI_NESTING}
+use Rattle.xmi_text.specs.declared.limits.TheConstants.{MAX_XMI_NESTING}
 use Rattle.xmi_text.specs.ByteClass.{within}
 use Rattle.xmi_text.specs.AttrNames.{has_name}
 use Rattle.xmi_text.specs.UtfEight as utf

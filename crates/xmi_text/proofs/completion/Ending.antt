@@ -2,7 +2,7 @@
 use Rattle.std.proofs.Common.{◌≡◌, ℕ, ◌+◌, ◌*◌, ◌%◌, ◌≤◌, ◌⊎◌, Bool, true, false, cond, List, [], ◌∷◌, ◌++◌, length, refl, sym, ◌∙◌, ap, subst, arith, Option, Some, None, inl, inr, true≢false}
 use Rattle.std.proofs.lemmas.Bool.{or_parts, ltb-false, ne_eqb, eqb-false, cases_Bool}
 use Rattle.std.specs.Prelude.{nat_lt, ◌==◌, ◌||◌, not}
-use Rattle.mof_metamodel.specs.declared.limits.TheConstants.{MAX_XMI_NESTING}
+use Rattle.xmi_text.specs.declared.limits.TheConstants.{MAX_XMI_NESTING}
 use Rattle.xmi_text.specs.ByteClass.{within}
 use Rattle.xmi_text.specs.UtfEight as utf
 use Rattle.xmi_text.specs.States.{is_inside, cleared, cleared_by}

@@ -4,7 +4,7 @@ use Rattle.std.proofs.Math.Seq.{take-length}
 use Rattle.std.proofs.lemmas.List.{length-take-le, take_more}
 use Rattle.std.proofs.lemmas.Bool.{or_parts, ltb-false, eqb-false, cases_eq, eq-eqb, ne_eqb, le-leb, cases_lt, and_from, both_ways, false_from_ne_true, cond-false}
 use Rattle.std.specs.Prelude.{nat_lt, nat_le, ◌==◌, ◌||◌, ◌&&◌, not}
-use Rattle.mof_metamodel.specs.declared.limits.TheConstants.{MAX_XMI_NESTING}
+use Rattle.xmi_text.specs.declared.limits.TheConstants.{MAX_XMI_NESTING}
 use Rattle.xmi_text.specs.ByteClass.{within, is_storable_byte, is_blank, begins_name, continues_name, holds_in_name}
 use Rattle.xmi_text.specs.AttrNames.{has_name}
 use Rattle.xmi_text.specs.UtfEight as utf

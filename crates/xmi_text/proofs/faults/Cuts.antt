@@ -6,7 +6,7 @@ use Rattle.std.proofs.Math.Seq.{take-append_seam}
 use Rattle.std.specs.Prelude.{◌==◌, ◌||◌, nat_lt, slice_get, slice_index}
 use Rattle.std.specs.Str.{IsUtf8}
 use lib.Utf8.{encode, encodes, scalar}
-use Rattle.mof_metamodel.specs.declared.limits.TheConstants.{MAX_XMI_NESTING}
+use Rattle.xmi_text.specs.declared.limits.TheConstants.{MAX_XMI_NESTING}
 use Rattle.xmi_text.specs.ByteClass.{within, continues_name, holds_in_name}
 use Rattle.xmi_text.specs.AttrNames.{has_name}
 use Rattle.xmi_text.specs.States as states

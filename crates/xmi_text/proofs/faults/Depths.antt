@@ -6,7 +6,7 @@ use Rattle.std.specs.Prelude.{nat_lt, nat_le}
 use Rattle.std.specs.Str.{all_scalars}
 use lib.Utf8.{encode, scalar}
 use Rattle.mof_metamodel.specs.Characters.{is_storable_character}
-use Rattle.mof_metamodel.specs.declared.limits.TheConstants.{MAX_XMI_NESTING}
+use Rattle.xmi_text.specs.declared.limits.TheConstants.{MAX_XMI_NESTING}
 use Rattle.xmi_text.specs.ByteClass.{begins_name}
 use Rattle.xmi_text.specs.Names.{is_far}
 use Rattle.xmi_text.specs.States as states

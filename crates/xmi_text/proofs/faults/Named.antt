@@ -3,7 +3,7 @@ use Rattle.std.proofs.Common.{◌≡◌, ℕ, zero, suc, ◌+◌, ◌*◌, ◌%�
 use Rattle.std.proofs.lemmas.Bool.{and_from, or_left, le-leb, ltb-true, cond-false}
 use Rattle.std.specs.Prelude.{nat_lt, nat_le, ◌==◌, ◌&&◌, ◌||◌}
 use lib.Utf8.{scalar, scalars, low_scalar}
-use Rattle.mof_metamodel.specs.declared.limits.TheConstants.{MAX_XMI_NESTING}
+use Rattle.xmi_text.specs.declared.limits.TheConstants.{MAX_XMI_NESTING}
 use Rattle.xmi_text.specs.ByteClass.{within, is_blank, is_storable_byte, begins_name, continues_name, holds_in_name}
 use Rattle.xmi_text.specs.Names.{is_far, is_name, goes_on}
 use Rattle.xmi_text.specs.AttrNames.{has_name}

@@ -7,7 +7,7 @@ use Rattle.std.proofs.lemmas.Bool.{and_parts, not-true, true≢false, lt-ltb}
 use Rattle.std.proofs.lemmas.Str.{encode_ascii, encodes-append}
 use lib.Utf8.{encode, encodes, scalars}
 use Rattle.mof_metamodel.specs.Characters.{is_blank}
-use Rattle.mof_metamodel.specs.declared.limits.TheConstants.{MAX_XMI_NESTING}
+use Rattle.xmi_text.specs.declared.limits.TheConstants.{MAX_XMI_NESTING}
 use Rattle.xmi_text.specs.States.{start, complete, cleared, around, front}
 use Rattle.xmi_text.specs.Automaton.{step, innermost, end_fault}
 use Rattle.xmi_text.specs.Reading.{state_from, marks_from, state_of, marks_of, end_fault_of}

@@ -9,7 +9,7 @@ use Rattle.std.proofs.lemmas.Option.{slice_get_past}
 use lib.Utf8.{encode, encodes, scalars}
 use lib.Utf8 as utf8
 use Rattle.mof_metamodel.specs.Characters.{is_blank}
-use Rattle.mof_metamodel.specs.declared.limits.TheConstants.{MAX_XMI_NESTING}
+use Rattle.xmi_text.specs.declared.limits.TheConstants.{MAX_XMI_NESTING}
 use Rattle.xmi_text.specs.ByteClass.{begins_name}
 use Rattle.xmi_text.specs.AttrNames.{has_name, emptied}
 use Rattle.xmi_text.specs.Names.{is_far, is_name, goes_on}

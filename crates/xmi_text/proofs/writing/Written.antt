@@ -6,7 +6,7 @@ use Rattle.std.proofs.lemmas.Bool.{and_parts, and_from, not-true, true≢false, 
 use lib.Utf8.{scalars}
 use lib.Utf8 as utf8
 use Rattle.mof_metamodel.specs.Characters.{is_blank, is_storable_text}
-use Rattle.mof_metamodel.specs.declared.limits.TheConstants.{MAX_XMI_NESTING}
+use Rattle.xmi_text.specs.declared.limits.TheConstants.{MAX_XMI_NESTING}
 use Rattle.xmi_text.specs.Names.{is_name}
 use Rattle.xmi_text.specs.Trees.{Tree, Event, Opens, Says, Closes, events}
 use Rattle.xmi_text.specs.Writing.{Written, nothing, is_empty, is_inside, is_tag, is_whole, may_open, may_attr, is_new, has, opened, with_attr, with_data, closed, escaped, escaped_character, attr_text, tag_end, element_end, named, more_names, declaration, declared, line_end, with_line}

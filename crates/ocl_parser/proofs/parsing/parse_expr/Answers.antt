@@ -1,4 +1,4 @@
-use Rattle.mof_metamodel.specs.declared.limits.TheConstants.{MAX_NESTING}
+use Rattle.ocl_parser.specs.declared.limits.TheConstants.{MAX_NESTING}
 use Rattle.ocl_parser.proofs.AnswerLaws.{tree_given, stuck_given, deep_given}
 use Rattle.ocl_parser.proofs.parsing.parse_expr.Goals as goal
 

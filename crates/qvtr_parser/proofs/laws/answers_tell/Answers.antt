@@ -1,5 +1,5 @@
 use Rattle.std.proofs.Common.{arith}
-use Rattle.mof_metamodel.specs.declared.limits.TheConstants.{MAX_NESTING}
+use Rattle.ocl_parser.specs.declared.limits.TheConstants.{MAX_NESTING}
 use Rattle.qvtr_parser.proofs.OneAnswer.{answer_tells_exactly}
 use Rattle.qvtr_parser.proofs.laws.answers_tell.Goals as goal
 

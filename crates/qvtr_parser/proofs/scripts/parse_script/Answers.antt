@@ -1,5 +1,5 @@
 use Rattle.std.proofs.Common.{arith}
-use Rattle.mof_metamodel.specs.declared.limits.TheConstants.{MAX_NESTING}
+use Rattle.ocl_parser.specs.declared.limits.TheConstants.{MAX_NESTING}
 use Rattle.qvtr_parser.proofs.AnswerFound.{answered_found}
 use Rattle.qvtr_parser.proofs.AnswerComplete.{answered_complete}
 use Rattle.qvtr_parser.proofs.Tells.{answer_tells}

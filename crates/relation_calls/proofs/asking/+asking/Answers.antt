@@ -23,7 +23,7 @@ use Rattle.std.proofs.lemmas.List.{length-map}
 use Rattle.std.proofs.lemmas.Bool.{true≢false}
 use Rattle.relation_calls.proofs.CallLaws.{below_whens, below_wheres}
 use Rattle.std.specs.List.{list_any}
-use Rattle.mof_metamodel.specs.declared.limits.TheConstants.{MAX_CALLS}
+use Rattle.qvtr_semantics.specs.declared.limits.TheConstants.{MAX_CALLS}
 use Rattle.relation_calls.specs.declared.name.CallName.{CallName}
 use Rattle.relation_calls.specs.Founds.{IsFound}
 use Rattle.relation_calls.proofs.ChainLaws.{match_chains}

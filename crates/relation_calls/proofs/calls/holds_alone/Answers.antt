@@ -2,7 +2,7 @@ use Rattle.std.proofs.Common.{◌≡◌, ◌∙◌, ◌-◌, List, [], length, n
 use Rattle.std.specs.Prelude.{◌↔◌, IsTrue}
 use Rattle.std.specs.List.{list_any}
 use Rattle.std.proofs.lemmas.Result.{err_from_is_err_and}
-use Rattle.mof_metamodel.specs.declared.limits.TheConstants.{MAX_CALLS}
+use Rattle.qvtr_semantics.specs.declared.limits.TheConstants.{MAX_CALLS}
 use Rattle.qvtr_semantics.specs.Calls.{Holds}
 use Rattle.qvtr_semantics.specs.Chains.{HoldsChain}
 use Rattle.relation_calls.specs.declared.name.CallName.{CallName}

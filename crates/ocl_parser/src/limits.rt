@@ -1,0 +1,2 @@
+/// The greatest nesting in a script.
+pub const MAX_NESTING: usize = 128;
