@@ -1,0 +1,11 @@
+pub mod DataLaws
+pub mod OperationLaws
+pub mod SettingLaws
+pub mod ValueLaws
+pub mod QueryLaws
+pub mod TemplateLaws
+pub mod BindingLaws
+pub mod AnswerLaws
+pub mod CallLaws
+pub mod TypingLaws
+pub mod RuleLaws

@@ -1,0 +1,5 @@
+pub mod Agreement
+pub mod SourceValues
+pub mod SourceExpressions
+pub mod SourceRelations
+pub mod TargetRule
