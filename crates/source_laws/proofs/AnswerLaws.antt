@@ -1,17 +1,25 @@
--- Two lists in the order of bindings with the same members are one.
-use Rattle.std.specs.Prelude.{◌≡◌, ◌⊎◌, ◌<◌, ◌↔◌, ℕ, zero, suc, Bool, true, false, List, [], ◌∷◌, length, Option, None, Some, Contains, AllPairs, IsTrue, slice_index_or}
+-- Two lists in the order of bindings with the same members are one; so the bindings of the source are one list.
+use Rattle.std.specs.Prelude.{◌≡◌, ◌⊎◌, ◌<◌, ◌↔◌, ℕ, zero, suc, Bool, true, false, List, [], ◌∷◌, length, Option, None, Some, Contains, AllPairs, IsTrue, slice_get, slice_index_or}
 use Rattle.std.specs.Ordering.{is_lt, ordering_reverse}
 use Rattle.std.specs.declared.cmp.Ordering.{Ordering}
 use Rattle.std.specs.declared.cmp.Ordering.TheVariants.{Less, Equal, Greater}
 use Rattle.std.proofs.Common.{refl, sym, ap, subst, ◌∙◌, arith, inl, inr}
 use Rattle.std.proofs.lemmas.Bool.{true≢false}
+use Rattle.object_tables.specs.Models.{ModelData}
+use Rattle.qv_syntax.specs.declared.program.Program.{Program}
+use Rattle.qv_syntax.specs.declared.program.Rel.{Rel}
+use Rattle.qv_syntax.specs.Directions.{AreMeant}
 use Rattle.qvtr_semantics.specs.declared.datum.Datum.{Datum}
 use Rattle.qvtr_semantics.specs.Data.{is_before}
 use Rattle.qvtr_semantics.specs.Templates.{Values, value_at}
 use Rattle.qvtr_semantics.specs.Satisfaction.{comes_before, IsLess}
 use Rattle.ocl_eval.specs.Order.{datum_order}
 use Rattle.ocl_eval.specs.OrderLaws.{before_by_order, order_total}
+use Rattle.template_match.specs.Sources.{source_variables}
 use Rattle.template_match.proofs.ListLaws.{contains_first, contains_later}
+use Rattle.source_laws.specs.Agreement.{AgreeBut}
+use Rattle.source_laws.specs.SourceRelations.{KeepsToSources, AreSourceBindings}
+use Rattle.source_laws.proofs.BindingLaws.{source_kept, opposite}
 
 -- ---- the order
 
@@ -85,3 +93,12 @@ module _ (vars : List ℕ) where
   pub same_lists : (xs ys : List Values) → AllPairs (IsLess vars) xs → AllPairs (IsLess vars) ys → ((b : Values) → Contains xs b → Contains ys b)
       → ((b : Values) → Contains ys b → Contains xs b) → xs ≡ ys
   same_lists xs ys p q f g = same_by xs ys (sorted_of xs p) (sorted_of ys q) f g
+
+-- what the source of a relation gives over models that agree but for the target is one list
+pub same_bindings : (program : Program) (ms ns : List ModelData) (agree : AgreeBut program.target ms ns) (number : ℕ) (rel : Rel) → AreMeant program
+    → slice_get program.rels number ≡ Some rel → KeepsToSources program rel → (roots : Values) (xs ys : List Values)
+    → AreSourceBindings program ms rel roots xs → AreSourceBindings program ns rel roots ys → xs ≡ ys
+same_bindings program ms ns agree number rel meant found keeps roots xs ys one other =
+    same_lists (source_variables program rel) xs ys one.sorted other.sorted
+    (λ b c. (other.exact b).1 (source_kept program ms ns agree number rel meant found keeps roots b ((one.exact b).0 c)))
+    (λ b c. (one.exact b).1 (source_kept program ns ms (opposite program.target ms ns agree) number rel meant found keeps roots b ((other.exact b).0 c)))

@@ -63,6 +63,10 @@ guarded : (x a c d e : Bool) → (x ≡ true → a ≡ c) → (x ≡ true → d 
 guarded true a c d e f g = ap (λ y. y && d) (f refl) ∙ ap (λ y. c && y) (g refl)
 guarded false a c d e f g = refl
 
+-- lists of models agree both ways
+pub opposite : (t : ℕ) (ms ns : List ModelData) → AgreeBut t ms ns → AgreeBut t ns ms
+opposite t ms ns agree m other = sym (agree m other)
+
 -- ---- models of variables
 
 -- a source variable is none for objects of the target

@@ -1,14 +1,23 @@
-ghost use Rattle.std.specs.Prelude.{◌≡◌, ℕ, List, Some};
+ghost use Rattle.std.specs.Prelude.{◌≡◌, ◌↔◌, ℕ, List, Some, length, slice_get};
+ghost use Rattle.mof_metamodel.specs.declared.desc.MetaDesc.{MetaDesc};
 ghost use Rattle.object_tables.specs.Models.{ModelData};
 ghost use Rattle.qv_syntax.specs.declared.program.Program.{Program};
+ghost use Rattle.qv_syntax.specs.declared.program.Rel.{Rel};
+ghost use Rattle.qv_syntax.specs.declared.program.Conj.{Conj};
 ghost use Rattle.qv_syntax.specs.declared.typed.Typed.{Typed};
 ghost use Rattle.qv_syntax.specs.Parts.{Names};
+ghost use Rattle.qv_syntax.specs.Directions.{AreMeant};
+ghost use Rattle.qv_syntax.specs.WellFormed.{IsWellFormed};
 ghost use Rattle.qvtr_semantics.specs.declared.datum.Datum.{Datum};
 ghost use Rattle.qvtr_semantics.specs.Expressions.{value_for};
 ghost use Rattle.qvtr_semantics.specs.Templates.{Values, value_at};
+ghost use Rattle.qvtr_semantics.specs.Calls.{calls_of};
+ghost use Rattle.template_match.specs.Sources.{meets_without_target, NamesNoTarget, SourceWithoutTarget};
 ghost use Rattle.source_laws.specs.Agreement.{AgreeBut};
 ghost use Rattle.source_laws.specs.SourceValues.{IsOfSources, HasNoTarget};
 ghost use Rattle.source_laws.specs.SourceExpressions.{SpeaksOfSources};
+ghost use Rattle.source_laws.specs.SourceRelations.{KeepsToSources, AreSourceBindings, HavePlainArguments, IsApart};
+ghost use Rattle.source_laws.specs.TargetRule.{HandsTargetOn};
 
 /// An expression that speaks of sources has one value over models that agree but for the target, and no object of the target in it, where
 /// the variables that it names have none (QVT 1.3, section 7.10.2).
@@ -19,4 +28,40 @@ pub fn values_are_of_sources()
     ensures apart { (program : Program) (ms ns : List ModelData) (e : Typed) (b : Values) → AgreeBut program.target ms ns → SpeaksOfSources program e
         → ((v : ℕ) (d : Datum) → Names e v → value_at b v ≡ Some d → IsOfSources program.target d)
         → HasNoTarget program.target (value_for program ms e b) }
+{}
+
+/// Where the source of a relation speaks of no object of the target, the same bindings meet it over models that agree but for the target
+/// (QVT 1.3, sections 7.10.1 and 7.10.2). So what `source_bindings` gives is one list for all target models. In a binding only the variables
+/// for objects of the target have such objects, where this holds of the roots.
+pub fn bindings_are_of_sources()
+    ensures meets { (program : Program) (ms ns : List ModelData) (number : ℕ) (rel : Rel) (b : Values) → AreMeant program → slice_get program.rels number ≡ Some rel
+        → KeepsToSources program rel → AgreeBut program.target ms ns → length b ≡ length rel.vars
+        → meets_without_target program ms rel b ≡ meets_without_target program ns rel b }
+    ensures same { (program : Program) (ms ns : List ModelData) (number : ℕ) (rel : Rel) (roots b : Values) → AreMeant program → slice_get program.rels number ≡ Some rel
+        → KeepsToSources program rel → AgreeBut program.target ms ns
+        → SourceWithoutTarget program ms rel roots b ↔ SourceWithoutTarget program ns rel roots b }
+    ensures answers { (program : Program) (ms ns : List ModelData) (number : ℕ) (rel : Rel) (roots : Values) (xs ys : List Values) → AreMeant program → slice_get program.rels number ≡ Some rel
+        → KeepsToSources program rel → AgreeBut program.target ms ns
+        → AreSourceBindings program ms rel roots xs → AreSourceBindings program ns rel roots ys → xs ≡ ys }
+    ensures apart { (program : Program) (models : List ModelData) (rel : Rel) (roots b : Values) → IsApart program rel roots → SourceWithoutTarget program models rel roots b
+        → IsApart program rel b }
+{}
+
+/// The calls of a clause are the same over models that agree but for the target, where each argument is a variable alone or speaks of sources,
+/// and only the variables for objects of the target have such objects (QVT 1.3, sections 7.3 and 7.10.2).
+pub fn calls_are_of_sources()
+    ensures { (program : Program) (ms ns : List ModelData) (rel : Rel) (clause : List Conj) (b : Values) → AgreeBut program.target ms ns → HavePlainArguments program rel clause
+        → IsApart program rel b → calls_of program ms b clause ≡ calls_of program ns b clause }
+{}
+
+/// In a well-formed program a relation that hands objects of the target only on keeps to the sources, no condition and no equation of its when
+/// clause names a variable for such objects, and each argument of its calls is a variable alone or speaks of sources (QVT 1.3, section 7.10.2).
+pub fn rule_keeps_to_sources()
+    ensures keeps { (metas : List MetaDesc) (program : Program) (number : ℕ) (rel : Rel) → IsWellFormed metas program → slice_get program.rels number ≡ Some rel
+        → HandsTargetOn program rel → KeepsToSources program rel }
+    ensures names { (program : Program) (rel : Rel) → KeepsToSources program rel → NamesNoTarget program rel }
+    ensures whens { (metas : List MetaDesc) (program : Program) (number : ℕ) (rel : Rel) → IsWellFormed metas program → slice_get program.rels number ≡ Some rel
+        → HandsTargetOn program rel → HavePlainArguments program rel rel.whens }
+    ensures wheres { (metas : List MetaDesc) (program : Program) (number : ℕ) (rel : Rel) → IsWellFormed metas program → slice_get program.rels number ≡ Some rel
+        → HandsTargetOn program rel → HavePlainArguments program rel rel.wheres }
 {}
