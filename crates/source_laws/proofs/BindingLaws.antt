@@ -40,12 +40,12 @@ use Rattle.source_laws.specs.Agreement.{AgreeBut}
 use Rattle.source_laws.specs.SourceValues.{IsOfSources, HasNoTarget}
 use Rattle.source_laws.specs.SourceRelations.{IsSourceExpression, KeepsToSources, IsApart}
 use Rattle.source_laws.proofs.SettingLaws.{class_same}
-use Rattle.source_laws.proofs.QueryLaws.{value_alike}
+use Rattle.source_laws.proofs.QueryLaws.{value_of_sources}
 use Rattle.source_laws.proofs.TemplateLaws.{template_same}
 
 -- ---- lists
 
-all_same : {X : Type 0} (p q : X → Bool) (xs : List X) → ((x : X) → Contains xs x → p x ≡ q x) → list_all p xs ≡ list_all q xs
+pub all_same : {X : Type 0} (p q : X → Bool) (xs : List X) → ((x : X) → Contains xs x → p x ≡ q x) → list_all p xs ≡ list_all q xs
 all_same p q [] h = refl
 all_same p q (x ∷ xs) h = ap (λ y. y && list_all p xs) (h x (contains_first x xs)) ∙ ap (λ y. q x && y) (all_same p q xs (λ y c. h y (contains_later y x xs c)))
 
@@ -168,7 +168,7 @@ module _ (program : Program) (ms ns : List ModelData) (agree : AgreeBut program.
 
     expression_same : (e : Typed) → IsSourceExpression program rel e → value_for program ms e b ≡ value_for program ns e b
     expression_same e is =
-        (value_alike program ms ns e b agree (keeps.speaks e is) (λ v d names at. universal v d (named e v is names) (keeps.names e is v names) at)).0
+        (value_of_sources program ms ns e b agree (keeps.speaks e is) (λ v d names at. universal v d (named e v is names) (keeps.names e is v names) at)).0
 
     domain_template : (dom : Dom) (o : Option Tmpl) → dom.template ≡ o → IsSourceDomain program rel dom → template_meets program ms o b ≡ template_meets program ns o b
     domain_template dom None is source = refl

@@ -22,7 +22,7 @@ use Rattle.qvtr_semantics.proofs.ExpressionLaws.{typed_is, variable_is, node_of}
 use Rattle.template_match.proofs.ListLaws.{contains_first, contains_later}
 use Rattle.source_laws.specs.Agreement.{AgreeBut}
 use Rattle.source_laws.specs.SourceRelations.{IsPlainArgument, HavePlainArguments, IsApart}
-use Rattle.source_laws.proofs.QueryLaws.{value_alike}
+use Rattle.source_laws.proofs.QueryLaws.{value_of_sources}
 
 -- a variable alone has the value of the variable, whatever the models are
 alone_meaning : (s : Setting) (q : Queries) (ty : Ty) (v : ℕ) (x : Scope) → meaning s q (record { ty = ty; node = nodes.Variable v }) x ≡ variable x v
@@ -36,7 +36,7 @@ module _ (program : Program) (ms ns : List ModelData) (agree : AgreeBut program.
   pub argument_same : (e : Typed) → IsPlainArgument program rel e → value_for program ms e b ≡ value_for program ns e b
   argument_same e (IsPlainArgument.alone ty v is) =
       ap (λ x. value_for program ms x b) is ∙ alone_value program ms ty v b ∙ sym (alone_value program ns ty v b) ∙ sym (ap (λ x. value_for program ns x b) is)
-  argument_same e (IsPlainArgument.of_sources speaks names) = (value_alike program ms ns e b agree speaks (λ v d is at. apart v d (names v is) at)).0
+  argument_same e (IsPlainArgument.of_sources speaks names) = (value_of_sources program ms ns e b agree speaks (λ v d is at. apart v d (names v is) at)).0
 
   arguments_same : (args : List Typed) → ((e : Typed) → Contains args e → IsPlainArgument program rel e)
       → map (λ e. datum_of (value_for program ms e b)) args ≡ map (λ e. datum_of (value_for program ns e b)) args

@@ -9,3 +9,4 @@ pub mod AnswerLaws
 pub mod CallLaws
 pub mod TypingLaws
 pub mod RuleLaws
+pub mod RelationLaws

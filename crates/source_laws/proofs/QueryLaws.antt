@@ -43,7 +43,7 @@ module _ (t : ℕ) (slots : List ModelSlot) (ms ns : List ModelData) (agree : Ag
   called_alike q (Some query) found comes a b same args free =
       same_meaning t slots ms ns agree a b Any query.body (apart q query comes found) (λ v names. tt)
       (λ n calls. same n (ComesTo.through q n comes (record { query = query; found = found; calls = calls })))
-      args (λ n any. argument_apart t args n free)
+      args args refl (λ n any. (refl, argument_apart t args n free))
 
   pub queries_alike : (n q : ℕ) → ComesTo queries e q → (args : List Out) → AllApart t args → Alike (queries_within queries s n q args) (queries_within queries u n q args)
   queries_alike zero q comes args free = (refl, tt)
@@ -61,16 +61,31 @@ variable_is [] v = refl
 variable_is (o ∷ b) zero = refl
 variable_is (o ∷ b) (suc v) = variable_is b v
 
--- An expression that speaks of sources has one value over models that agree but for the target, and that value has no object of the target,
--- where the values of the variables that it names are none.
-pub value_alike : (program : Program) (ms ns : List ModelData) (e : Typed) (b : Values) → AgreeBut program.target ms ns → SpeaksOfSources program e
+length_scope : (b : Values) → length (scope_of b) ≡ length b
+length_scope [] = refl
+length_scope (o ∷ b) = ap suc (length_scope b)
+
+-- An expression that speaks of sources has one value over models that agree but for the target, in bindings that agree on the variables
+-- that it names, where these have no objects of the target; and the value has none.
+pub value_alike : (program : Program) (ms ns : List ModelData) (e : Typed) (b c : Values) → AgreeBut program.target ms ns → SpeaksOfSources program e
+    → length b ≡ length c → ((v : ℕ) → Names e v → value_at b v ≡ value_at c v)
     → ((v : ℕ) (d : Datum) → Names e v → value_at b v ≡ Some d → IsOfSources program.target d)
-    → (value_for program ms e b ≡ value_for program ns e b) × HasNoTarget program.target (value_for program ms e b)
-value_alike program ms ns e b agree speaks named =
+    → (value_for program ms e b ≡ value_for program ns e c) × HasNoTarget program.target (value_for program ms e b)
+value_alike program ms ns e b c agree speaks long same named =
     let t = program.target in
     let one : Setting = record { slots = program.models; models = ms } in
     let other : Setting = record { slots = program.models; models = ns } in
     let n = length program.queries in
     same_meaning t program.models ms ns agree (queries_within program.queries one n) (queries_within program.queries other n) (Names e) e speaks.own (λ v names. names)
     (λ q calls. queries_alike t program.models ms ns agree program.queries e speaks.called n q (ComesTo.itself q calls))
-    (scope_of b) (λ v names. subst (HasNoTarget t) (sym (variable_is b v)) (bound_apart t (value_at b v) (λ d at. named v d names at)))
+    (scope_of b) (scope_of c) (length_scope b ∙ long ∙ sym (length_scope c))
+    (λ v names. (
+      variable_is b v ∙ ap bound_value (same v names) ∙ sym (variable_is c v),
+      subst (HasNoTarget t) (sym (variable_is b v)) (bound_apart t (value_at b v) (λ d at. named v d names at)),
+    ))
+
+-- the same in one binding
+pub value_of_sources : (program : Program) (ms ns : List ModelData) (e : Typed) (b : Values) → AgreeBut program.target ms ns → SpeaksOfSources program e
+    → ((v : ℕ) (d : Datum) → Names e v → value_at b v ≡ Some d → IsOfSources program.target d)
+    → (value_for program ms e b ≡ value_for program ns e b) × HasNoTarget program.target (value_for program ms e b)
+value_of_sources program ms ns e b agree speaks named = value_alike program ms ns e b b agree speaks refl (λ v names. refl) named

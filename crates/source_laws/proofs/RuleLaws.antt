@@ -54,6 +54,17 @@ mapped f (x ∷ xs) zero y h = (x, refl, same (f x) y h)
     same a b k = cc
 mapped f (x ∷ xs) (suc i) y h = mapped f xs i y h
 
+-- an argument or an item that names a variable for objects of the target is this alone
+pub plain_by : (program : Program) (rel : Rel) (e : Typed) (o : Option ℕ) → is_in e.node ≡ o → HandsTargetOn program rel → MayBeTarget rel e → SpeaksOfSources program e → IsPlainArgument program rel e
+plain_by program rel e (Some v) is rule may speaks = IsPlainArgument.alone e.ty v (ap (λ (n : Node). let x : Typed = record { ty = e.ty; node = n } in x) (variable_from e.node v is))
+plain_by program rel e None is rule may speaks = IsPlainArgument.of_sources speaks (λ v names. by v names (is_target_variable program rel v) refl)
+  where
+    by : (v : ℕ) → Names e v → (x : Bool) → is_target_variable program rel v ≡ x → x ≡ false
+    by v names true target =
+        let alone = rule.alone e v may names target in
+        absurd (none_some e.node v is (ap (λ (x : Typed). is_in x.node) alone.1 ∙ variable_is_in v))
+    by v names false none = refl
+
 module _ (metas : List MetaDesc) (program : Program) (formed : IsWellFormed metas program) (number : ℕ) (rel : Rel) (found : slice_get program.rels number ≡ Some rel) where
   among : {X : Type 0} (xs : List X) (i : ℕ) (x : X) → slice_get xs i ≡ Some x → Contains xs x
   among [] i x h = absurd (cc)
@@ -173,16 +184,6 @@ module _ (metas : List MetaDesc) (program : Program) (formed : IsWellFormed meta
       → Contains clause (conjuncts.Call n args) → Contains args e → SpeaksOfSources program e
   speaks_in clause there rule n args e c among = rule.conjuncts (conjuncts.Call n args) e (there (conjuncts.Call n args) c) among
 
-  plain_by : (e : Typed) (o : Option ℕ) → is_in e.node ≡ o → HandsTargetOn program rel → MayBeTarget rel e → SpeaksOfSources program e → IsPlainArgument program rel e
-  plain_by e (Some v) is rule may speaks = IsPlainArgument.alone e.ty v (ap (λ (n : Node). let x : Typed = record { ty = e.ty; node = n } in x) (variable_from e.node v is))
-  plain_by e None is rule may speaks = IsPlainArgument.of_sources speaks (λ v names. by v names (is_target_variable program rel v) refl)
-    where
-      by : (v : ℕ) → Names e v → (x : Bool) → is_target_variable program rel v ≡ x → x ≡ false
-      by v names true target =
-          let alone = rule.alone e v may names target in
-          absurd (none_some e.node v is (ap (λ (x : Typed). is_in x.node) alone.1 ∙ variable_is_in v))
-      by v names false none = refl
-
   pub rule_plain : (clause : List Conj) → ((c : Conj) → Contains clause c → HasConjunct rel c) → HandsTargetOn program rel → HavePlainArguments program rel clause
   rule_plain clause there rule n args e c among =
-      plain_by e (is_in e.node) refl rule (MayBeTarget.argument n args (there (conjuncts.Call n args) c) among) (speaks_in clause there rule n args e c among)
+      plain_by program rel e (is_in e.node) refl rule (MayBeTarget.argument n args (there (conjuncts.Call n args) c) among) (speaks_in clause there rule n args e c among)

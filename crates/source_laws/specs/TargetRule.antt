@@ -23,6 +23,11 @@ pub data MayBeTarget (rel : Rel) (e : Typed) : Type 0 where
   item : (dom : Dom) → Contains rel.domains dom → IsItemExpression dom e → MayBeTarget rel e
   argument : (number : ℕ) (args : List Typed) → HasConjunct rel (conjuncts.Call number args) → Contains args e → MayBeTarget rel e
 
+-- an expression of the relation: the value of an item of a domain, a condition, the value of an equation, or an argument of a call
+pub data IsExpressionOf (rel : Rel) (e : Typed) : Type 0 where
+  item : (dom : Dom) → Contains rel.domains dom → IsItemExpression dom e → IsExpressionOf rel e
+  conjunct : (c : Conj) → HasConjunct rel c → InConjunct c e → IsExpressionOf rel e
+
 -- the expression is the variable
 abbrev pub IsVariable : Typed → ℕ → Type 0
 IsVariable e v = (ty : Ty) × (e ≡ record { ty = ty; node = nodes.Variable v })

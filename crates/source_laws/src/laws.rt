@@ -1,14 +1,18 @@
 ghost use Rattle.std.specs.Prelude.{◌≡◌, ◌↔◌, ℕ, List, Some, length, slice_get};
+ghost use Rattle.std.specs.List.{list_all};
 ghost use Rattle.mof_metamodel.specs.declared.desc.MetaDesc.{MetaDesc};
 ghost use Rattle.object_tables.specs.Models.{ModelData};
 ghost use Rattle.qv_syntax.specs.declared.program.Program.{Program};
 ghost use Rattle.qv_syntax.specs.declared.program.Rel.{Rel};
 ghost use Rattle.qv_syntax.specs.declared.program.Conj.{Conj};
+ghost use Rattle.qv_syntax.specs.declared.program.Conj.TheVariants.{Equation};
 ghost use Rattle.qv_syntax.specs.declared.typed.Typed.{Typed};
 ghost use Rattle.qv_syntax.specs.Parts.{Names};
 ghost use Rattle.qv_syntax.specs.Directions.{AreMeant};
 ghost use Rattle.qv_syntax.specs.WellFormed.{IsWellFormed};
 ghost use Rattle.qvtr_semantics.specs.declared.datum.Datum.{Datum};
+ghost use Rattle.qvtr_semantics.specs.Outs.{datum_of};
+ghost use Rattle.qvtr_semantics.specs.Bindings.{conjunct_holds};
 ghost use Rattle.qvtr_semantics.specs.Expressions.{value_for};
 ghost use Rattle.qvtr_semantics.specs.Templates.{Values, value_at};
 ghost use Rattle.qvtr_semantics.specs.Calls.{calls_of};
@@ -17,7 +21,7 @@ ghost use Rattle.source_laws.specs.Agreement.{AgreeBut};
 ghost use Rattle.source_laws.specs.SourceValues.{IsOfSources, HasNoTarget};
 ghost use Rattle.source_laws.specs.SourceExpressions.{SpeaksOfSources};
 ghost use Rattle.source_laws.specs.SourceRelations.{KeepsToSources, AreSourceBindings, HavePlainArguments, IsApart};
-ghost use Rattle.source_laws.specs.TargetRule.{HandsTargetOn};
+ghost use Rattle.source_laws.specs.TargetRule.{HasConjunct, IsExpressionOf, HandsTargetOn};
 
 /// An expression that speaks of sources has one value over models that agree but for the target, and no object of the target in it, where
 /// the variables that it names have none (QVT 1.3, section 7.10.2).
@@ -64,4 +68,16 @@ pub fn rule_keeps_to_sources()
         → HandsTargetOn program rel → HavePlainArguments program rel rel.whens }
     ensures wheres { (metas : List MetaDesc) (program : Program) (number : ℕ) (rel : Rel) → IsWellFormed metas program → slice_get program.rels number ≡ Some rel
         → HandsTargetOn program rel → HavePlainArguments program rel rel.wheres }
+{}
+
+/// Where a relation hands objects of the target only on, each of its expressions has one value over models that agree but for the target, for
+/// a binding in which only the variables for objects of the target have such objects; so conditions and equations hold alike, and what an
+/// equation gives its variable is no object of the target (QVT 1.3, section 7.10.2).
+pub fn expressions_are_of_sources()
+    ensures same { (program : Program) (ms ns : List ModelData) (rel : Rel) (e : Typed) (b : Values) → AgreeBut program.target ms ns → HandsTargetOn program rel
+        → IsApart program rel b → IsExpressionOf rel e → value_for program ms e b ≡ value_for program ns e b }
+    ensures wheres { (program : Program) (ms ns : List ModelData) (rel : Rel) (b : Values) → AgreeBut program.target ms ns → HandsTargetOn program rel
+        → IsApart program rel b → list_all (conjunct_holds program ms b) rel.wheres ≡ list_all (conjunct_holds program ns b) rel.wheres }
+    ensures equations { (program : Program) (models : List ModelData) (rel : Rel) (v : ℕ) (e : Typed) (d : Datum) (b : Values) → HandsTargetOn program rel
+        → IsApart program rel b → HasConjunct rel (Equation v e) → datum_of (value_for program models e b) ≡ Some d → IsOfSources program.target d }
 {}

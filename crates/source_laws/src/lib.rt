@@ -6,5 +6,6 @@
 mod laws;
 
 pub use laws::{
-    bindings_are_of_sources, calls_are_of_sources, rule_keeps_to_sources, values_are_of_sources,
+    bindings_are_of_sources, calls_are_of_sources, expressions_are_of_sources,
+    rule_keeps_to_sources, values_are_of_sources,
 };

@@ -1,8 +1,8 @@
-use Rattle.source_laws.proofs.QueryLaws.{value_alike}
+use Rattle.source_laws.proofs.QueryLaws.{value_of_sources}
 use Rattle.source_laws.proofs.laws.values_are_of_sources.Goals as goal
 
 pub returns-clause-same : goal.returns-clause-same
-returns-clause-same c = λ program ms ns e b agree speaks named. (value_alike program ms ns e b agree speaks named).0
+returns-clause-same c = λ program ms ns e b agree speaks named. (value_of_sources program ms ns e b agree speaks named).0
 
 pub returns-clause-apart : goal.returns-clause-apart
-returns-clause-apart c = λ program ms ns e b agree speaks named. (value_alike program ms ns e b agree speaks named).1
+returns-clause-apart c = λ program ms ns e b agree speaks named. (value_of_sources program ms ns e b agree speaks named).1

@@ -1,0 +1,68 @@
+-- Of a relation that hands objects of the target only on each expression has one value over models that agree but for the target.
+use Rattle.std.specs.Prelude.{◌≡◌, ◌⊎◌, ℕ, Bool, true, false, ◌&&◌, List, [], ◌∷◌, Option, None, Some, Contains}
+use Rattle.std.specs.List.{list_all}
+use Rattle.std.proofs.Common.{refl, sym, ap, subst, ◌∙◌, inl, inr}
+use Rattle.object_tables.specs.Models.{ModelData}
+use Rattle.qv_syntax.specs.declared.program.Program.{Program}
+use Rattle.qv_syntax.specs.declared.program.Rel.{Rel}
+use Rattle.qv_syntax.specs.declared.program.Dom.{Dom}
+use Rattle.qv_syntax.specs.declared.program.Conj.{Conj}
+use Rattle.qv_syntax.specs.declared.program.Conj.TheVariants as conjuncts
+use Rattle.qv_syntax.specs.declared.typed.Typed.{Typed}
+use Rattle.qv_syntax.specs.Relations.{IsItemExpression, InConjunct}
+use Rattle.qvtr_semantics.specs.declared.datum.Datum.{Datum}
+use Rattle.qvtr_semantics.specs.declared.out.Out.{Out}
+use Rattle.qvtr_semantics.specs.Outs.{datum_of, boolean_of}
+use Rattle.qvtr_semantics.specs.Equality.{is_known_true}
+use Rattle.qvtr_semantics.specs.Expressions.{value_for}
+use Rattle.qvtr_semantics.specs.Templates.{Values, value_at}
+use Rattle.qvtr_semantics.specs.Bindings.{are_one, conjunct_holds}
+use Rattle.template_match.specs.Sources.{IsAsked, is_target_variable}
+use Rattle.source_laws.specs.Agreement.{AgreeBut}
+use Rattle.source_laws.specs.SourceValues.{IsOfSources, HasNoTarget}
+use Rattle.source_laws.specs.SourceExpressions.{SpeaksOfSources}
+use Rattle.source_laws.specs.SourceRelations.{IsApart}
+use Rattle.source_laws.specs.TargetRule.{HasConjunct, MayBeTarget, HandsTargetOn, IsExpressionOf}
+use Rattle.source_laws.proofs.DataLaws.{IfOfSources}
+use Rattle.source_laws.proofs.OperationLaws.{datum_apart}
+use Rattle.source_laws.proofs.QueryLaws.{value_of_sources}
+use Rattle.source_laws.proofs.CallLaws.{argument_same}
+use Rattle.source_laws.proofs.RuleLaws.{plain_by}
+use Rattle.source_laws.proofs.TypingLaws.{is_in}
+use Rattle.source_laws.proofs.BindingLaws.{all_same}
+
+module _ (program : Program) (ms ns : List ModelData) (agree : AgreeBut program.target ms ns) (rel : Rel) (rule : HandsTargetOn program rel) (b : Values) (apart : IsApart program rel b) where
+  -- a condition, or the value of an equation
+  asked_alike : (c : Conj) (e : Typed) → HasConjunct rel c → IsAsked c e → InConjunct c e → (value_for program ms e b ≡ value_for program ns e b) × HasNoTarget program.target (value_for program ms e b)
+  asked_alike c e there asked within =
+      value_of_sources program ms ns e b agree (rule.conjuncts c e there within) (λ v d names at. apart v d (rule.named c e there asked v names) at)
+
+  handed_same : (e : Typed) → MayBeTarget rel e → SpeaksOfSources program e → value_for program ms e b ≡ value_for program ns e b
+  handed_same e may speaks = argument_same program ms ns agree rel b apart e (plain_by program rel e (is_in e.node) refl rule may speaks)
+
+  conjunct_by : (c : Conj) (e : Typed) → HasConjunct rel c → InConjunct c e → value_for program ms e b ≡ value_for program ns e b
+  conjunct_by (conjuncts.Cond x) e there within = (asked_alike (conjuncts.Cond x) e there within within).0
+  conjunct_by (conjuncts.Equation v x) e there within = (asked_alike (conjuncts.Equation v x) e there within within).0
+  conjunct_by (conjuncts.Call n args) e there within = handed_same e (MayBeTarget.argument n args there within) (rule.conjuncts (conjuncts.Call n args) e there within)
+
+  pub expression_same : (e : Typed) → IsExpressionOf rel e → value_for program ms e b ≡ value_for program ns e b
+  expression_same e (IsExpressionOf.item dom c is) = handed_same e (MayBeTarget.item dom c is) (rule.items dom e c is)
+  expression_same e (IsExpressionOf.conjunct c there within) = conjunct_by c e there within
+
+  conjunct_same : (c : Conj) → HasConjunct rel c → conjunct_holds program ms b c ≡ conjunct_holds program ns b c
+  conjunct_same (conjuncts.Cond e) there = ap (λ o. is_known_true (boolean_of o)) (conjunct_by (conjuncts.Cond e) e there refl)
+  conjunct_same (conjuncts.Equation v e) there = ap (λ o. are_one (value_at b v) (datum_of o)) (conjunct_by (conjuncts.Equation v e) e there refl)
+  conjunct_same (conjuncts.Call n args) there = refl
+
+  -- the conditions and equations of a clause hold alike
+  pub clause_same : (clause : List Conj) → ((c : Conj) → Contains clause c → HasConjunct rel c) → list_all (conjunct_holds program ms b) clause ≡ list_all (conjunct_holds program ns b) clause
+  clause_same clause there = all_same (conjunct_holds program ms b) (conjunct_holds program ns b) clause (λ c within. conjunct_same c (there c within))
+
+  datum_by : (o : Option Datum) (d : Datum) → IfOfSources program.target o → o ≡ Some d → IsOfSources program.target d
+  datum_by None d p is = absurd (cc)
+  datum_by (Some x) d p is = let same : x ≡ d = cc in subst (IsOfSources program.target) same p
+
+  -- what an equation gives its variable is no object of the target
+  pub equation_apart : (v : ℕ) (e : Typed) (d : Datum) → HasConjunct rel (conjuncts.Equation v e) → datum_of (value_for program ms e b) ≡ Some d → IsOfSources program.target d
+  equation_apart v e d there is =
+      datum_by (datum_of (value_for program ms e b)) d (datum_apart program.target (value_for program ms e b) (asked_alike (conjuncts.Equation v e) e there refl refl).1) is
