@@ -38,9 +38,9 @@ use Rattle.template_match.proofs.ValueLaws.{some_datum, within_values}
 use Rattle.template_match.proofs.SideLaws.{Valued, valued}
 use Rattle.source_laws.specs.Agreement.{AgreeBut}
 use Rattle.source_laws.specs.SourceValues.{IsOfSources, HasNoTarget}
-use Rattle.source_laws.specs.SourceRelations.{IsSourceExpression, KeepsToSources, IsApart}
+use Rattle.source_laws.specs.SourceRelations.{IsSourceExpression, KeepsToSources, AgreeOnSources, IsApart}
 use Rattle.source_laws.proofs.SettingLaws.{class_same}
-use Rattle.source_laws.proofs.QueryLaws.{value_of_sources}
+use Rattle.source_laws.proofs.QueryLaws.{value_alike}
 use Rattle.source_laws.proofs.TemplateLaws.{template_same}
 
 -- ---- lists
@@ -62,6 +62,16 @@ not_true false h = refl
 guarded : (x a c d e : Bool) → (x ≡ true → a ≡ c) → (x ≡ true → d ≡ e) → (x && a && d) ≡ (x && c && e)
 guarded true a c d e f g = ap (λ y. y && d) (f refl) ∙ ap (λ y. c && y) (g refl)
 guarded false a c d e f g = refl
+
+pub among : {X : Type 0} (xs : List X) (i : ℕ) (x : X) → slice_get xs i ≡ Some x → Contains xs x
+among [] i x h = absurd (cc)
+among (y ∷ ys) zero x h = let same : y ≡ x = cc in (0, omega arith, same)
+among (y ∷ ys) (suc i) x h = let (k, within, is) = among ys i x h in (suc k, omega (arith, within), is)
+
+found_at : {X : Type 0} (xs : List X) (x : X) → Contains xs x → (i : ℕ) × (slice_get xs i ≡ Some x)
+found_at [] x (k, within, is) = absurd (omega (arith, within))
+found_at (y ∷ ys) x (zero, within, is) = (0, ap (λ z. Some z) is)
+found_at (y ∷ ys) x (suc k, within, is) = let more = found_at ys x (k, omega (arith, within), is) in (suc more.0, more.1)
 
 -- lists of models agree both ways
 pub opposite : (t : ℕ) (ms ns : List ModelData) → AgreeBut t ms ns → AgreeBut t ns ms
@@ -113,10 +123,14 @@ module _ (program : Program) (ms ns : List ModelData) (agree : AgreeBut program.
   value_same (Some var) (Some (Obj m o)) outside =
       subst (λ ty. is_object_for (setting program ms) var ty m (Obj m o) ≡ is_object_for (setting program ns) var ty m (Obj m o)) (roll-out-Ty var.ty) (object_by var (out-Ty var.ty) m o outside)
 
-  pub values_same : (rel : Rel) (b : Values) → have_values program ms rel (source_variables program rel) b ≡ have_values program ns rel (source_variables program rel) b
-  values_same rel b =
-      all_same (λ v. is_value_for (setting program ms) (slice_get rel.vars v) (value_at b v)) (λ v. is_value_for (setting program ns) (slice_get rel.vars v) (value_at b v))
-      (source_variables program rel) (λ v c. value_same (slice_get rel.vars v) (value_at b v) (source_variable program rel v c))
+  pub values_same : (rel : Rel) (b c : Values) → AgreeOnSources program rel b c
+      → have_values program ms rel (source_variables program rel) b ≡ have_values program ns rel (source_variables program rel) c
+  values_same rel b c both =
+      all_same (λ v. is_value_for (setting program ms) (slice_get rel.vars v) (value_at b v)) (λ v. is_value_for (setting program ns) (slice_get rel.vars v) (value_at c v))
+      (source_variables program rel)
+      (λ v within.
+      value_same (slice_get rel.vars v) (value_at b v) (source_variable program rel v within)
+      ∙ ap (is_value_for (setting program ns) (slice_get rel.vars v)) (both.same v (source_variable program rel v within)))
 
   -- ---- values that are no objects of the target
 
@@ -147,7 +161,7 @@ module _ (program : Program) (ms ns : List ModelData) (agree : AgreeBut program.
       subst (IsOfSources program.target) same (fits_sources x.var x.value (target_of rel v x.var x.found (source_variable program rel v c)) x.fits)
 
   module _ (number : ℕ) (rel : Rel) (meant : AreMeant program) (found : slice_get program.rels number ≡ Some rel) (keeps : KeepsToSources program rel)
-      (b : Values) (places : length b ≡ length rel.vars) (have : have_values program ms rel (source_variables program rel) b ≡ true) where
+      (b c : Values) (both : AgreeOnSources program rel b c) (places : length b ≡ length rel.vars) (have : have_values program ms rel (source_variables program rel) b ≡ true) where
     abbrev variables : HasVariables program rel
     variables = (meant number rel found).variables
 
@@ -157,23 +171,25 @@ module _ (program : Program) (ms ns : List ModelData) (agree : AgreeBut program.
         let var = found_within rel.vars v within in
         had rel b v d have (Contains-to_filter (λ w. not (is_target_variable program rel w)) rel.universal v (ap not outside) ((variables.universal v var.0 var.1).1 is)) at
 
-    asked_in : (c : Conj) (e : Typed) → IsAsked c e → InConjunct c e
-    asked_in (conjuncts.Cond x) e h = h
-    asked_in (conjuncts.Equation v x) e h = h
+    asked_in : (x : Conj) (e : Typed) → IsAsked x e → InConjunct x e
+    asked_in (conjuncts.Cond y) e h = h
+    asked_in (conjuncts.Equation v y) e h = h
     asked_in (conjuncts.Call n args) e h = absurd h
 
     named : (e : Typed) (v : ℕ) → IsSourceExpression program rel e → Names e v → IsUniversal program rel v
     named e v (IsSourceExpression.item dom source of) names = IsUniversal.domain dom source (OccursInTemplates.item e of names)
-    named e v (IsSourceExpression.asked c within asked) names = IsUniversal.when (OccursInClause.expression c e within (asked_in c e asked) names)
+    named e v (IsSourceExpression.asked x within asked) names = IsUniversal.when (OccursInClause.expression x e within (asked_in x e asked) names)
 
-    expression_same : (e : Typed) → IsSourceExpression program rel e → value_for program ms e b ≡ value_for program ns e b
+    expression_same : (e : Typed) → IsSourceExpression program rel e → value_for program ms e b ≡ value_for program ns e c
     expression_same e is =
-        (value_of_sources program ms ns e b agree (keeps.speaks e is) (λ v d names at. universal v d (named e v is names) (keeps.names e is v names) at)).0
+        (value_alike program ms ns e b c agree (keeps.speaks e is) both.places (λ v names. both.same v (keeps.names e is v names))
+        (λ v d names at. universal v d (named e v is names) (keeps.names e is v names) at)).0
 
-    domain_template : (dom : Dom) (o : Option Tmpl) → dom.template ≡ o → IsSourceDomain program rel dom → template_meets program ms o b ≡ template_meets program ns o b
+    domain_template : (dom : Dom) (o : Option Tmpl) → dom.template ≡ o → IsSourceDomain program rel dom → template_meets program ms o b ≡ template_meets program ns o c
     domain_template dom None is source = refl
     domain_template dom (Some t) is source =
-        template_same program ms ns agree b t
+        template_same program ms ns agree b c t
+        (λ inner nested. both.same (out-Tmpl inner).var (keeps.templates dom inner source (record { root = t; has = is; nested = nested })))
         (λ inner d nested at.
         let of : IsTemplateOf dom inner = record { root = t; has = is; nested = nested } in
         universal (out-Tmpl inner).var d (IsUniversal.domain dom source (OccursInTemplates.template inner of refl)) (keeps.templates dom inner source of) at)
@@ -184,28 +200,39 @@ module _ (program : Program) (ms ns : List ModelData) (agree : AgreeBut program.
     other_model dom outside is = absurd (true≢false (sym (eq-eqb program.target program.target refl) ∙ sym (ap (λ m. is_model m program.target) is) ∙ outside))
 
     domain_by : (dom : Dom) (x : Bool) → is_target_domain program dom ≡ x → Contains rel.domains dom
-        → (x || template_meets program ms dom.template b) ≡ (x || template_meets program ns dom.template b)
+        → (x || template_meets program ms dom.template b) ≡ (x || template_meets program ns dom.template c)
     domain_by dom true is within = refl
     domain_by dom false is within = domain_template dom dom.template refl (record { is = within; source = other_model dom is })
 
-    conjunct_same : (c : Conj) → Contains rel.whens c → conjunct_holds program ms b c ≡ conjunct_holds program ns b c
+    -- the variable of an equation is one of a data type
+    subject_same : (v : ℕ) (e : Typed) → Contains rel.whens (conjuncts.Equation v e) → value_at b v ≡ value_at c v
+    subject_same v e within =
+        let place = found_at rel.whens (conjuncts.Equation v e) within in
+        let (data_variable, sought, other, first) = (meant number rel found).whens.are place.0 v e place.1 in
+        let model : data_variable.var.model ≡ None = (variables.models data_variable.var (among rel.vars v data_variable.var data_variable.found)).data_value data_variable.data_type in
+        both.same v (ap (is_of_target program) data_variable.found ∙ ap (λ m. is_model m program.target) model)
+
+    conjunct_same : (x : Conj) → Contains rel.whens x → conjunct_holds program ms b x ≡ conjunct_holds program ns c x
     conjunct_same (conjuncts.Cond e) within = ap (λ o. is_known_true (boolean_of o)) (expression_same e (IsSourceExpression.asked (conjuncts.Cond e) within refl))
-    conjunct_same (conjuncts.Equation v e) within = ap (λ o. are_one (value_at b v) (datum_of o)) (expression_same e (IsSourceExpression.asked (conjuncts.Equation v e) within refl))
+    conjunct_same (conjuncts.Equation v e) within =
+        ap (λ o. are_one (value_at b v) (datum_of o)) (expression_same e (IsSourceExpression.asked (conjuncts.Equation v e) within refl))
+        ∙ ap (λ o. are_one o (datum_of (value_for program ns e c))) (subject_same v e within)
     conjunct_same (conjuncts.Call n args) within = refl
 
-    pub domains_same : list_all (source_meets program ms b) rel.domains ≡ list_all (source_meets program ns b) rel.domains
-    domains_same = all_same (source_meets program ms b) (source_meets program ns b) rel.domains (λ dom within. domain_by dom (is_target_domain program dom) refl within)
+    pub domains_same : list_all (source_meets program ms b) rel.domains ≡ list_all (source_meets program ns c) rel.domains
+    domains_same = all_same (source_meets program ms b) (source_meets program ns c) rel.domains (λ dom within. domain_by dom (is_target_domain program dom) refl within)
 
-    pub whens_same : list_all (conjunct_holds program ms b) rel.whens ≡ list_all (conjunct_holds program ns b) rel.whens
-    whens_same = all_same (conjunct_holds program ms b) (conjunct_holds program ns b) rel.whens conjunct_same
+    pub whens_same : list_all (conjunct_holds program ms b) rel.whens ≡ list_all (conjunct_holds program ns c) rel.whens
+    whens_same = all_same (conjunct_holds program ms b) (conjunct_holds program ns c) rel.whens conjunct_same
 
-  pub meets_same : (number : ℕ) (rel : Rel) → AreMeant program → slice_get program.rels number ≡ Some rel → KeepsToSources program rel → (b : Values) → length b ≡ length rel.vars
-      → meets_without_target program ms rel b ≡ meets_without_target program ns rel b
-  meets_same number rel meant found keeps b places =
-      guarded (have_values program ms rel (source_variables program rel) b) (list_all (source_meets program ms b) rel.domains) (list_all (source_meets program ns b) rel.domains)
-      (list_all (conjunct_holds program ms b) rel.whens) (list_all (conjunct_holds program ns b) rel.whens)
-      (λ have. domains_same number rel meant found keeps b places have) (λ have. whens_same number rel meant found keeps b places have)
-      ∙ ap (λ x. x && list_all (source_meets program ns b) rel.domains && list_all (conjunct_holds program ns b) rel.whens) (values_same rel b)
+  -- bindings that have the same values but for objects of the target meet the source alike
+  pub meets_same : (number : ℕ) (rel : Rel) → AreMeant program → slice_get program.rels number ≡ Some rel → KeepsToSources program rel → (b c : Values)
+      → AgreeOnSources program rel b c → length b ≡ length rel.vars → meets_without_target program ms rel b ≡ meets_without_target program ns rel c
+  meets_same number rel meant found keeps b c both places =
+      guarded (have_values program ms rel (source_variables program rel) b) (list_all (source_meets program ms b) rel.domains) (list_all (source_meets program ns c) rel.domains)
+      (list_all (conjunct_holds program ms b) rel.whens) (list_all (conjunct_holds program ns c) rel.whens)
+      (λ have. domains_same number rel meant found keeps b c both places have) (λ have. whens_same number rel meant found keeps b c both places have)
+      ∙ ap (λ x. x && list_all (source_meets program ns c) rel.domains && list_all (conjunct_holds program ns c) rel.whens) (values_same rel b c both)
 
   -- a binding of the source is one over the other models too
   pub source_kept : (number : ℕ) (rel : Rel) → AreMeant program → slice_get program.rels number ≡ Some rel → KeepsToSources program rel → (roots b : Values)
@@ -214,7 +241,7 @@ module _ (program : Program) (ms ns : List ModelData) (agree : AgreeBut program.
     places = source.places;
     extends = source.extends;
     no_others = source.no_others;
-    meets = subst IsTrue (meets_same number rel meant found keeps b source.places) source.meets;
+    meets = subst IsTrue (meets_same number rel meant found keeps b b (record { places = refl; same = λ v outside. refl }) source.places) source.meets;
   }
 
   have_of : (rel : Rel) (b : Values) → IsTrue (meets_without_target program ms rel b) → have_values program ms rel (source_variables program rel) b ≡ true

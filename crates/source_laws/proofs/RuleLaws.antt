@@ -31,7 +31,7 @@ use Rattle.source_laws.specs.SourceExpressions.{SpeaksOfSources}
 use Rattle.source_laws.specs.SourceRelations.{IsSourceExpression, NamesSources, KeepsToSources, IsPlainArgument, HavePlainArguments}
 use Rattle.source_laws.specs.TargetRule.{HasConjunct, MayBeTarget, IsVariable, HandsTargetOn}
 use Rattle.source_laws.proofs.TypingLaws.{is_in, none_some, variable_from, variable_is_in, variable_typing}
-use Rattle.source_laws.proofs.BindingLaws.{found_within}
+use Rattle.source_laws.proofs.BindingLaws.{among, found_within}
 
 -- ---- models of variables
 
@@ -66,14 +66,6 @@ plain_by program rel e None is rule may speaks = IsPlainArgument.of_sources spea
     by v names false none = refl
 
 module _ (metas : List MetaDesc) (program : Program) (formed : IsWellFormed metas program) (number : ℕ) (rel : Rel) (found : slice_get program.rels number ≡ Some rel) where
-  among : {X : Type 0} (xs : List X) (i : ℕ) (x : X) → slice_get xs i ≡ Some x → Contains xs x
-  among [] i x h = absurd (cc)
-  among (y ∷ ys) zero x h = (0, omega arith, same y x h)
-    where
-      same : {Z : Type 0} (a b : Z) → Some a ≡ Some b → a ≡ b
-      same a b k = cc
-  among (y ∷ ys) (suc i) x h = let (k, within, is) = among ys i x h in (suc k, omega (arith, within), is)
-
   abbrev within : Contains program.rels rel
   within = among program.rels number rel found
 

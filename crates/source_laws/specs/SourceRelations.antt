@@ -1,5 +1,5 @@
 -- Relations whose source speaks of no object of the target model (QVT 1.3, sections 7.10.2 and 7.11.1.4).
-use Rattle.std.specs.Prelude.{◌≡◌, ◌↔◌, ℕ, false, List, Some, Contains, AllPairs}
+use Rattle.std.specs.Prelude.{◌≡◌, ◌↔◌, ℕ, false, List, Some, length, Contains, AllPairs}
 use Rattle.object_tables.specs.Models.{ModelData}
 use Rattle.qv_syntax.specs.declared.program.Program.{Program}
 use Rattle.qv_syntax.specs.declared.program.Rel.{Rel}
@@ -33,6 +33,11 @@ pub record KeepsToSources (program : Program) (rel : Rel) : Type 0 where
   pub speaks : (e : Typed) → IsSourceExpression program rel e → SpeaksOfSources program e
   pub names : (e : Typed) → IsSourceExpression program rel e → NamesSources program rel e
   pub templates : (dom : Dom) (t : Tmpl) → IsSourceDomain program rel dom → IsTemplateOf dom t → is_target_variable program rel (out-Tmpl t).var ≡ false
+
+-- two bindings have the same values but at the variables for objects of the target
+pub record AgreeOnSources (program : Program) (rel : Rel) (b c : Values) : Type 0 where
+  pub places : length b ≡ length c
+  pub same : (v : ℕ) → is_target_variable program rel v ≡ false → value_at b v ≡ value_at c v
 
 -- the bindings of the source of a relation without objects of the target, in the order of their values, each once: what `source_bindings` gives
 pub record AreSourceBindings (program : Program) (models : List ModelData) (rel : Rel) (roots : Values) (bs : List Values) : Type 0 where

@@ -20,7 +20,7 @@ ghost use Rattle.template_match.specs.Sources.{meets_without_target, NamesNoTarg
 ghost use Rattle.source_laws.specs.Agreement.{AgreeBut};
 ghost use Rattle.source_laws.specs.SourceValues.{IsOfSources, HasNoTarget};
 ghost use Rattle.source_laws.specs.SourceExpressions.{SpeaksOfSources};
-ghost use Rattle.source_laws.specs.SourceRelations.{KeepsToSources, AreSourceBindings, HavePlainArguments, IsApart};
+ghost use Rattle.source_laws.specs.SourceRelations.{KeepsToSources, AgreeOnSources, AreSourceBindings, HavePlainArguments, IsApart};
 ghost use Rattle.source_laws.specs.TargetRule.{HasConjunct, IsExpressionOf, HandsTargetOn};
 
 /// An expression that speaks of sources has one value over models that agree but for the target, and no object of the target in it, where
@@ -38,9 +38,9 @@ pub fn values_are_of_sources()
 /// (QVT 1.3, sections 7.10.1 and 7.10.2). So what `source_bindings` gives is one list for all target models. In a binding only the variables
 /// for objects of the target have such objects, where this holds of the roots.
 pub fn bindings_are_of_sources()
-    ensures meets { (program : Program) (ms ns : List ModelData) (number : ℕ) (rel : Rel) (b : Values) → AreMeant program → slice_get program.rels number ≡ Some rel
-        → KeepsToSources program rel → AgreeBut program.target ms ns → length b ≡ length rel.vars
-        → meets_without_target program ms rel b ≡ meets_without_target program ns rel b }
+    ensures meets { (program : Program) (ms ns : List ModelData) (number : ℕ) (rel : Rel) (b c : Values) → AreMeant program → slice_get program.rels number ≡ Some rel
+        → KeepsToSources program rel → AgreeBut program.target ms ns → AgreeOnSources program rel b c → length b ≡ length rel.vars
+        → meets_without_target program ms rel b ≡ meets_without_target program ns rel c }
     ensures same { (program : Program) (ms ns : List ModelData) (number : ℕ) (rel : Rel) (roots b : Values) → AreMeant program → slice_get program.rels number ≡ Some rel
         → KeepsToSources program rel → AgreeBut program.target ms ns
         → SourceWithoutTarget program ms rel roots b ↔ SourceWithoutTarget program ns rel roots b }

@@ -5,7 +5,7 @@ use Rattle.source_laws.proofs.BindingLaws.{meets_same, source_kept, source_apart
 use Rattle.source_laws.proofs.laws.bindings_are_of_sources.Goals as goal
 
 pub returns-clause-meets : goal.returns-clause-meets
-returns-clause-meets c = λ program ms ns number rel b meant found keeps agree places. meets_same program ms ns agree number rel meant found keeps b places
+returns-clause-meets c = λ program ms ns number rel b d meant found keeps agree both places. meets_same program ms ns agree number rel meant found keeps b d both places
 
 pub returns-clause-same : goal.returns-clause-same
 returns-clause-same c = λ program ms ns number rel roots b meant found keeps agree. (
