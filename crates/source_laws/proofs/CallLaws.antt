@@ -29,7 +29,7 @@ alone_meaning : (s : Setting) (q : Queries) (ty : Ty) (v : ℕ) (x : Scope) → 
 alone_meaning s q ty v x =
     ap (λ (m : Scope → Out). m x) (typed_is s q ty (nodes.Variable v)) ∙ ap (λ n. node_of s q n x) (sym (nodes.rolls-Variable v)) ∙ ap (λ (m : Scope → Out). m x) (variable_is s q v)
 
-alone_value : (program : Program) (models : List ModelData) (ty : Ty) (v : ℕ) (b : Values) → value_for program models (record { ty = ty; node = nodes.Variable v }) b ≡ variable (scope_of b) v
+pub alone_value : (program : Program) (models : List ModelData) (ty : Ty) (v : ℕ) (b : Values) → value_for program models (record { ty = ty; node = nodes.Variable v }) b ≡ variable (scope_of b) v
 alone_value program models ty v b = alone_meaning (setting program models) (queries_within program.queries (setting program models) (length program.queries)) ty v (scope_of b)
 
 module _ (program : Program) (ms ns : List ModelData) (agree : AgreeBut program.target ms ns) (rel : Rel) (b : Values) (apart : IsApart program rel b) where

@@ -10,3 +10,5 @@ pub mod CallLaws
 pub mod TypingLaws
 pub mod RuleLaws
 pub mod RelationLaws
+pub mod RootLaws
+pub mod AlikeLaws

@@ -31,6 +31,10 @@ use Rattle.source_laws.proofs.RuleLaws.{plain_by}
 use Rattle.source_laws.proofs.TypingLaws.{is_in}
 use Rattle.source_laws.proofs.BindingLaws.{all_same}
 
+pub datum_by : (t : ℕ) (o : Option Datum) (d : Datum) → IfOfSources t o → o ≡ Some d → IsOfSources t d
+datum_by t None d p is = absurd (cc)
+datum_by t (Some x) d p is = let same : x ≡ d = cc in subst (IsOfSources t) same p
+
 module _ (program : Program) (ms ns : List ModelData) (agree : AgreeBut program.target ms ns) (rel : Rel) (rule : HandsTargetOn program rel) (b : Values) (apart : IsApart program rel b) where
   -- a condition, or the value of an equation
   asked_alike : (c : Conj) (e : Typed) → HasConjunct rel c → IsAsked c e → InConjunct c e → (value_for program ms e b ≡ value_for program ns e b) × HasNoTarget program.target (value_for program ms e b)
@@ -58,11 +62,7 @@ module _ (program : Program) (ms ns : List ModelData) (agree : AgreeBut program.
   pub clause_same : (clause : List Conj) → ((c : Conj) → Contains clause c → HasConjunct rel c) → list_all (conjunct_holds program ms b) clause ≡ list_all (conjunct_holds program ns b) clause
   clause_same clause there = all_same (conjunct_holds program ms b) (conjunct_holds program ns b) clause (λ c within. conjunct_same c (there c within))
 
-  datum_by : (o : Option Datum) (d : Datum) → IfOfSources program.target o → o ≡ Some d → IsOfSources program.target d
-  datum_by None d p is = absurd (cc)
-  datum_by (Some x) d p is = let same : x ≡ d = cc in subst (IsOfSources program.target) same p
-
   -- what an equation gives its variable is no object of the target
   pub equation_apart : (v : ℕ) (e : Typed) (d : Datum) → HasConjunct rel (conjuncts.Equation v e) → datum_of (value_for program ms e b) ≡ Some d → IsOfSources program.target d
   equation_apart v e d there is =
-      datum_by (datum_of (value_for program ms e b)) d (datum_apart program.target (value_for program ms e b) (asked_alike (conjuncts.Equation v e) e there refl refl).1) is
+      datum_by program.target (datum_of (value_for program ms e b)) d (datum_apart program.target (value_for program ms e b) (asked_alike (conjuncts.Equation v e) e there refl refl).1) is

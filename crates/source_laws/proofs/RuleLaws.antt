@@ -42,11 +42,11 @@ not_model n t h = by (n == t) refl
     by true is = absurd (h (eqb-true n t is))
     by false is = refl
 
-target_is : (t : ℕ) (model : Option ℕ) → is_model model t ≡ true → model ≡ Some t
+pub target_is : (t : ℕ) (model : Option ℕ) → is_model model t ≡ true → model ≡ Some t
 target_is t None h = absurd (true≢false (sym h))
 target_is t (Some n) h = ap (λ x. Some x) (eqb-true n t h)
 
-mapped : {X Y : Type 0} (f : X → Y) (xs : List X) (i : ℕ) (y : Y) → slice_get (map f xs) i ≡ Some y → (x : X) × (slice_get xs i ≡ Some x) × (f x ≡ y)
+pub mapped : {X Y : Type 0} (f : X → Y) (xs : List X) (i : ℕ) (y : Y) → slice_get (map f xs) i ≡ Some y → (x : X) × (slice_get xs i ≡ Some x) × (f x ≡ y)
 mapped f [] i y h = absurd (cc)
 mapped f (x ∷ xs) zero y h = (x, refl, same (f x) y h)
   where

@@ -3,3 +3,4 @@ pub mod SourceValues
 pub mod SourceExpressions
 pub mod SourceRelations
 pub mod TargetRule
+pub mod CallsAlike

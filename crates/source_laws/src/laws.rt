@@ -1,4 +1,4 @@
-ghost use Rattle.std.specs.Prelude.{◌≡◌, ◌↔◌, ℕ, List, Some, length, slice_get};
+ghost use Rattle.std.specs.Prelude.{◌≡◌, ◌↔◌, ℕ, List, Some, length, slice_get, Contains};
 ghost use Rattle.std.specs.List.{list_all};
 ghost use Rattle.mof_metamodel.specs.declared.desc.MetaDesc.{MetaDesc};
 ghost use Rattle.object_tables.specs.Models.{ModelData};
@@ -15,12 +15,13 @@ ghost use Rattle.qvtr_semantics.specs.Outs.{datum_of};
 ghost use Rattle.qvtr_semantics.specs.Bindings.{conjunct_holds};
 ghost use Rattle.qvtr_semantics.specs.Expressions.{value_for};
 ghost use Rattle.qvtr_semantics.specs.Templates.{Values, value_at};
-ghost use Rattle.qvtr_semantics.specs.Calls.{calls_of};
+ghost use Rattle.qvtr_semantics.specs.Calls.{RelationCall, calls_of};
 ghost use Rattle.template_match.specs.Sources.{meets_without_target, NamesNoTarget, SourceWithoutTarget};
 ghost use Rattle.source_laws.specs.Agreement.{AgreeBut};
 ghost use Rattle.source_laws.specs.SourceValues.{IsOfSources, HasNoTarget};
 ghost use Rattle.source_laws.specs.SourceExpressions.{SpeaksOfSources};
 ghost use Rattle.source_laws.specs.SourceRelations.{KeepsToSources, AgreeOnSources, AreSourceBindings, HavePlainArguments, IsApart};
+ghost use Rattle.source_laws.specs.CallsAlike.{DifferInTargets, AllMadeAlike};
 ghost use Rattle.source_laws.specs.TargetRule.{HasConjunct, IsExpressionOf, HandsTargetOn};
 
 /// An expression that speaks of sources has one value over models that agree but for the target, and no object of the target in it, where
@@ -52,10 +53,19 @@ pub fn bindings_are_of_sources()
 {}
 
 /// The calls of a clause are the same over models that agree but for the target, where each argument is a variable alone or speaks of sources,
-/// and only the variables for objects of the target have such objects (QVT 1.3, sections 7.3 and 7.10.2).
+/// and only the variables for objects of the target have such objects; where the relation hands these only on, this holds of the roots of the
+/// called relation too. From two bindings that differ in objects of the target alone, calls are made that differ in these alone (QVT 1.3,
+/// sections 7.3 and 7.10.2).
 pub fn calls_are_of_sources()
-    ensures { (program : Program) (ms ns : List ModelData) (rel : Rel) (clause : List Conj) (b : Values) → AgreeBut program.target ms ns → HavePlainArguments program rel clause
+    ensures same { (program : Program) (ms ns : List ModelData) (rel : Rel) (clause : List Conj) (b : Values) → AgreeBut program.target ms ns → HavePlainArguments program rel clause
         → IsApart program rel b → calls_of program ms b clause ≡ calls_of program ns b clause }
+    ensures roots { (metas : List MetaDesc) (program : Program) (models : List ModelData) (number : ℕ) (rel : Rel) (clause : List Conj) (b : Values) (call : RelationCall) (called : Rel)
+        → IsWellFormed metas program → slice_get program.rels number ≡ Some rel → ((c : Conj) → Contains clause c → HasConjunct rel c) → HandsTargetOn program rel
+        → IsApart program rel b → Contains (calls_of program models b clause) (Some call) → slice_get program.rels call.rel ≡ Some called → IsApart program called call.roots }
+    ensures alike { (metas : List MetaDesc) (program : Program) (ms ns : List ModelData) (number : ℕ) (rel : Rel) (clause : List Conj) (b c : Values)
+        → IsWellFormed metas program → slice_get program.rels number ≡ Some rel → ((x : Conj) → Contains clause x → HasConjunct rel x) → HandsTargetOn program rel
+        → AgreeBut program.target ms ns → IsApart program rel b → DifferInTargets program rel b c
+        → AllMadeAlike program (calls_of program ms b clause) (calls_of program ns c clause) }
 {}
 
 /// In a well-formed program a relation that hands objects of the target only on keeps to the sources, no condition and no equation of its when
