@@ -244,6 +244,29 @@ module _ (program : Program) (ms ns : List ModelData) (agree : AgreeBut program.
     meets = subst IsTrue (meets_same number rel meant found keeps b b (record { places = refl; same = λ v outside. refl }) source.places) source.meets;
   }
 
+  -- and a binding that has the same values but for objects of the target, which it has from other roots
+  pub source_moved : (number : ℕ) (rel : Rel) → AreMeant program → slice_get program.rels number ≡ Some rel → KeepsToSources program rel → (roots others b c : Values)
+      → AgreeOnSources program rel roots others → AgreeOnSources program rel b c
+      → ((v : ℕ) → is_target_variable program rel v ≡ true → value_at c v ≡ value_at others v)
+      → SourceWithoutTarget program ms rel roots b → SourceWithoutTarget program ns rel others c
+  source_moved number rel meant found keeps roots others b c given both handed source = record {
+    places = sym both.places ∙ source.places;
+    extends = λ v d at. extends v d (is_target_variable program rel v) refl at;
+    no_others = λ v d at. none v d (is_target_variable program rel v) refl at;
+    meets = subst IsTrue (meets_same number rel meant found keeps b c both source.places) source.meets;
+  }
+    where
+      extends : (v : ℕ) (d : Datum) (x : Bool) → is_target_variable program rel v ≡ x → value_at others v ≡ Some d → value_at c v ≡ Some d
+      extends v d true target at = handed v target ∙ at
+      extends v d false outside at = sym (both.same v outside) ∙ source.extends v d (given.same v outside ∙ at)
+      by : (v : ℕ) (d : Datum) → is_target_variable program rel v ≡ false → Contains (source_variables program rel) v ⊎ (value_at roots v ≡ Some d)
+          → Contains (source_variables program rel) v ⊎ (value_at others v ≡ Some d)
+      by v d outside (inl within) = inl within
+      by v d outside (inr at) = inr (sym (given.same v outside) ∙ at)
+      none : (v : ℕ) (d : Datum) (x : Bool) → is_target_variable program rel v ≡ x → value_at c v ≡ Some d → Contains (source_variables program rel) v ⊎ (value_at others v ≡ Some d)
+      none v d true target at = inr (sym (handed v target) ∙ at)
+      none v d false outside at = by v d outside (source.no_others v d (both.same v outside ∙ at))
+
   have_of : (rel : Rel) (b : Values) → IsTrue (meets_without_target program ms rel b) → have_values program ms rel (source_variables program rel) b ≡ true
   have_of rel b h =
       let outer = and_parts (have_values program ms rel (source_variables program rel) b && list_all (source_meets program ms b) rel.domains) (list_all (conjunct_holds program ms b) rel.whens) h in

@@ -39,7 +39,7 @@ module _ (program : Program) (ms ns : List ModelData) (agree : AgreeBut program.
   -- a condition, or the value of an equation
   asked_alike : (c : Conj) (e : Typed) → HasConjunct rel c → IsAsked c e → InConjunct c e → (value_for program ms e b ≡ value_for program ns e b) × HasNoTarget program.target (value_for program ms e b)
   asked_alike c e there asked within =
-      value_of_sources program ms ns e b agree (rule.conjuncts c e there within) (λ v d names at. apart v d (rule.named c e there asked v names) at)
+      value_of_sources program ms ns e b agree (rule.speaks e (IsExpressionOf.conjunct c there within)) (λ v d names at. apart v d (rule.named c e there asked v names) at)
 
   handed_same : (e : Typed) → MayBeTarget rel e → SpeaksOfSources program e → value_for program ms e b ≡ value_for program ns e b
   handed_same e may speaks = argument_same program ms ns agree rel b apart e (plain_by program rel e (is_in e.node) refl rule may speaks)
@@ -47,10 +47,10 @@ module _ (program : Program) (ms ns : List ModelData) (agree : AgreeBut program.
   conjunct_by : (c : Conj) (e : Typed) → HasConjunct rel c → InConjunct c e → value_for program ms e b ≡ value_for program ns e b
   conjunct_by (conjuncts.Cond x) e there within = (asked_alike (conjuncts.Cond x) e there within within).0
   conjunct_by (conjuncts.Equation v x) e there within = (asked_alike (conjuncts.Equation v x) e there within within).0
-  conjunct_by (conjuncts.Call n args) e there within = handed_same e (MayBeTarget.argument n args there within) (rule.conjuncts (conjuncts.Call n args) e there within)
+  conjunct_by (conjuncts.Call n args) e there within = handed_same e (MayBeTarget.argument n args there within) (rule.speaks e (IsExpressionOf.conjunct (conjuncts.Call n args) there within))
 
   pub expression_same : (e : Typed) → IsExpressionOf rel e → value_for program ms e b ≡ value_for program ns e b
-  expression_same e (IsExpressionOf.item dom c is) = handed_same e (MayBeTarget.item dom c is) (rule.items dom e c is)
+  expression_same e (IsExpressionOf.item dom c is) = handed_same e (MayBeTarget.item dom c is) (rule.speaks e (IsExpressionOf.item dom c is))
   expression_same e (IsExpressionOf.conjunct c there within) = conjunct_by c e there within
 
   conjunct_same : (c : Conj) → HasConjunct rel c → conjunct_holds program ms b c ≡ conjunct_holds program ns b c

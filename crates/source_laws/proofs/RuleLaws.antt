@@ -27,10 +27,10 @@ use Rattle.qv_syntax.specs.Directions.{IsDomainShaped, IsDeclared, HasDomains}
 use Rattle.qv_syntax.specs.WellFormed.{IsWellFormed}
 use Rattle.qvtr_semantics.specs.Bindings.{is_model}
 use Rattle.template_match.specs.Sources.{is_of_target, is_target_variable, IsAsked}
-use Rattle.source_laws.specs.SourceExpressions.{SpeaksOfSources}
+use Rattle.source_laws.specs.SourceExpressions.{AsksNoTargetExtent, AsksNoTargetClass, SpeaksOfSources}
 use Rattle.source_laws.specs.SourceRelations.{IsSourceExpression, NamesSources, KeepsToSources, IsPlainArgument, HavePlainArguments}
-use Rattle.source_laws.specs.TargetRule.{HasConjunct, MayBeTarget, IsVariable, HandsTargetOn}
-use Rattle.source_laws.proofs.TypingLaws.{is_in, none_some, variable_from, variable_is_in, variable_typing}
+use Rattle.source_laws.specs.TargetRule.{HasConjunct, MayBeTarget, IsExpressionOf, HandsTargetOn}
+use Rattle.source_laws.proofs.TypingLaws.{is_in, none_some, variable_from, variable_is_in, alone_names, typed_alone}
 use Rattle.source_laws.proofs.BindingLaws.{among, found_within}
 
 -- ---- models of variables
@@ -62,8 +62,14 @@ plain_by program rel e None is rule may speaks = IsPlainArgument.of_sources spea
     by : (v : ℕ) → Names e v → (x : Bool) → is_target_variable program rel v ≡ x → x ≡ false
     by v names true target =
         let alone = rule.alone e v may names target in
-        absurd (none_some e.node v is (ap (λ (x : Typed). is_in x.node) alone.1 ∙ variable_is_in v))
+        absurd (none_some e.node alone.1 is (ap (λ (x : Typed). is_in x.node) alone.2 ∙ variable_is_in alone.1))
     by v names false none = refl
+
+-- an `allInstances` of the target model is one of a class of its metamodel
+pub no_target_extent : (metas : List MetaDesc) (program : Program) (e : Typed) → IsWellFormed metas program → AsksNoTargetClass program e → AsksNoTargetExtent program.target e
+no_target_extent metas program e formed asks ty model class within is =
+    let slot = found_within program.models program.target formed.numbers.target in
+    asks ty model class slot.0 slot.0 within (ap (slice_get program.models) is ∙ slot.1) slot.1 refl
 
 module _ (metas : List MetaDesc) (program : Program) (formed : IsWellFormed metas program) (number : ℕ) (rel : Rel) (found : slice_get program.rels number ≡ Some rel) where
   abbrev within : Contains program.rels rel
@@ -99,11 +105,11 @@ module _ (metas : List MetaDesc) (program : Program) (formed : IsWellFormed meta
 
   -- where an object of one model is asked for, no variable for objects of another stands alone
   not_given : (model : ℕ) (ty : Ty) (e : Typed) (v : ℕ) → model ≢ program.target → IsGiven metas program rel (record { ty = ty; model = Some model }) e
-      → IsVariable e v → is_target_variable program rel v ≡ true → ⊥
+      → is_in e.node ≡ Some v → is_target_variable program rel v ≡ true → ⊥
   not_given model ty e v other given alone target =
       let typing : Typing = given.typing in
       let at : slice_get (variables_of rel) v ≡ Some typing =
-      variable_typing (context_of metas program) (variables_of rel) alone.0 v typing (subst (λ x. IsTyped (context_of metas program) (variables_of rel) x typing) alone.1 given.typed) in
+      typed_alone (context_of metas program) (variables_of rel) e typing v given.typed alone in
       let var = mapped typing_of rel.vars v typing at in
       let is : typing.model ≡ Some program.target = sym (ap (λ (p : Typing). p.model) var.2) ∙ target_is program.target var.0.model (sym (ap (is_of_target program) var.1) ∙ target) in
       by typing.model is given.fits.model
@@ -152,7 +158,7 @@ module _ (metas : List MetaDesc) (program : Program) (formed : IsWellFormed meta
           let d = model_domain dom t source.is is.of.of in
           let typed = (formed.typed.relations rel within).items dom d t is.item is.of.of is.of.has in
           absurd (not_given d.model typed.of e v (other_model dom d source) (value_given d.model d.slot.meta typed.of dom e is typed.value)
-          (rule.alone e v (MayBeTarget.item dom source.is is) names target) target)
+          (alone_names e v (rule.alone e v (MayBeTarget.item dom source.is is) names target) names) target)
       by false none = refl
 
   asked_in : (c : Conj) (e : Typed) → IsAsked c e → InConjunct c e
@@ -164,8 +170,8 @@ module _ (metas : List MetaDesc) (program : Program) (formed : IsWellFormed meta
   rule_keeps rule = record { speaks = speaks; names = names; templates = template_of }
     where
       speaks : (e : Typed) → IsSourceExpression program rel e → SpeaksOfSources program e
-      speaks e (IsSourceExpression.item dom source is) = rule.items dom e source.is is
-      speaks e (IsSourceExpression.asked c there asked) = rule.conjuncts c e (inl there) (asked_in c e asked)
+      speaks e (IsSourceExpression.item dom source is) = rule.speaks e (IsExpressionOf.item dom source.is is)
+      speaks e (IsSourceExpression.asked c there asked) = rule.speaks e (IsExpressionOf.conjunct c (inl there) (asked_in c e asked))
       names : (e : Typed) → IsSourceExpression program rel e → NamesSources program rel e
       names e (IsSourceExpression.item dom source is) = item_names dom e rule source is
       names e (IsSourceExpression.asked c there asked) = rule.named c e (inl there) asked
@@ -174,7 +180,7 @@ module _ (metas : List MetaDesc) (program : Program) (formed : IsWellFormed meta
 
   speaks_in : (clause : List Conj) → ((c : Conj) → Contains clause c → HasConjunct rel c) → HandsTargetOn program rel → (n : ℕ) (args : List Typed) (e : Typed)
       → Contains clause (conjuncts.Call n args) → Contains args e → SpeaksOfSources program e
-  speaks_in clause there rule n args e c among = rule.conjuncts (conjuncts.Call n args) e (there (conjuncts.Call n args) c) among
+  speaks_in clause there rule n args e c among = rule.speaks e (IsExpressionOf.conjunct (conjuncts.Call n args) (there (conjuncts.Call n args) c) among)
 
   pub rule_plain : (clause : List Conj) → ((c : Conj) → Contains clause c → HasConjunct rel c) → HandsTargetOn program rel → HavePlainArguments program rel clause
   rule_plain clause there rule n args e c among =

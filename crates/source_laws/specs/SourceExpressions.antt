@@ -4,6 +4,7 @@ use Rattle.mof_metamodel.specs.declared.desc.ClassId.{ClassId}
 use Rattle.qv_syntax.specs.declared.ty.Ty.{Ty}
 use Rattle.qv_syntax.specs.declared.typed.Typed.{Typed}
 use Rattle.qv_syntax.specs.declared.typed.Node.TheVariants as nodes
+use Rattle.qv_syntax.specs.declared.query.ModelSlot.{ModelSlot}
 use Rattle.qv_syntax.specs.declared.query.Query.{Query}
 use Rattle.qv_syntax.specs.declared.program.Program.{Program}
 use Rattle.qv_syntax.specs.Parts.{IsWithin, CallsQuery}
@@ -12,6 +13,11 @@ use Rattle.qv_syntax.specs.QueryCalls.{Calls}
 -- no `allInstances` within the expression is of the target model
 abbrev pub AsksNoTargetExtent : ℕ → Typed → Type 0
 AsksNoTargetExtent target e = (ty : Ty) (model : ℕ) (class : ClassId) → IsWithin e (record { ty = ty; node = nodes.Extent model class }) → model ≢ target
+
+-- no `allInstances` within the expression is of a class of the target's metamodel
+abbrev pub AsksNoTargetClass : Program → Typed → Type 0
+AsksNoTargetClass program e = (ty : Ty) (model : ℕ) (class : ClassId) (own target : ModelSlot) → IsWithin e (record { ty = ty; node = nodes.Extent model class })
+    → slice_get program.models model ≡ Some own → slice_get program.models program.target ≡ Some target → own.meta ≢ target.meta
 
 -- the expression calls the query, itself or through other queries
 pub data ComesTo (queries : List Query) (e : Typed) : ℕ → Type 0 where

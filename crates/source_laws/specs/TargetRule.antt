@@ -28,14 +28,14 @@ pub data IsExpressionOf (rel : Rel) (e : Typed) : Type 0 where
   item : (dom : Dom) → Contains rel.domains dom → IsItemExpression dom e → IsExpressionOf rel e
   conjunct : (c : Conj) → HasConjunct rel c → InConjunct c e → IsExpressionOf rel e
 
--- the expression is the variable
-abbrev pub IsVariable : Typed → ℕ → Type 0
-IsVariable e v = (ty : Ty) × (e ≡ record { ty = ty; node = nodes.Variable v })
+-- the expression is a variable
+abbrev pub IsVariableAlone : Typed → Type 0
+IsVariableAlone e = (ty : Ty) × (v : ℕ) × (e ≡ record { ty = ty; node = nodes.Variable v })
 
--- Neither an expression of the relation nor a query that it calls, itself or through others, has an `allInstances` of the target model.
--- A variable for objects of the target stands only alone, as the value of an item or as an argument of a call; no condition and no equation names one.
+-- Neither an expression of the relation nor a query that it calls, itself or through others, has an `allInstances` of the target model. A
+-- variable for objects of the target stands only alone, as the value of an item or as an argument of a call; no condition and no equation
+-- names one. So no expression navigates from such an object, tests or casts one, or hands one to a query.
 pub record HandsTargetOn (program : Program) (rel : Rel) : Type 0 where
-  pub items : (dom : Dom) (e : Typed) → Contains rel.domains dom → IsItemExpression dom e → SpeaksOfSources program e
-  pub conjuncts : (c : Conj) (e : Typed) → HasConjunct rel c → InConjunct c e → SpeaksOfSources program e
-  pub alone : (e : Typed) (v : ℕ) → MayBeTarget rel e → Names e v → is_target_variable program rel v ≡ true → IsVariable e v
+  pub speaks : (e : Typed) → IsExpressionOf rel e → SpeaksOfSources program e
+  pub alone : (e : Typed) (v : ℕ) → MayBeTarget rel e → Names e v → is_target_variable program rel v ≡ true → IsVariableAlone e
   pub named : (c : Conj) (e : Typed) → HasConjunct rel c → IsAsked c e → NamesSources program rel e

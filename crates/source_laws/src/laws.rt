@@ -1,4 +1,4 @@
-ghost use Rattle.std.specs.Prelude.{◌≡◌, ◌↔◌, ℕ, List, Some, length, slice_get, Contains};
+ghost use Rattle.std.specs.Prelude.{◌≡◌, ◌↔◌, ℕ, List, Some, true, length, slice_get, Contains};
 ghost use Rattle.std.specs.List.{list_all};
 ghost use Rattle.mof_metamodel.specs.declared.desc.MetaDesc.{MetaDesc};
 ghost use Rattle.object_tables.specs.Models.{ModelData};
@@ -16,10 +16,10 @@ ghost use Rattle.qvtr_semantics.specs.Bindings.{conjunct_holds};
 ghost use Rattle.qvtr_semantics.specs.Expressions.{value_for};
 ghost use Rattle.qvtr_semantics.specs.Templates.{Values, value_at};
 ghost use Rattle.qvtr_semantics.specs.Calls.{RelationCall, calls_of};
-ghost use Rattle.template_match.specs.Sources.{meets_without_target, NamesNoTarget, SourceWithoutTarget};
+ghost use Rattle.template_match.specs.Sources.{is_target_variable, meets_without_target, NamesNoTarget, SourceWithoutTarget};
 ghost use Rattle.source_laws.specs.Agreement.{AgreeBut};
 ghost use Rattle.source_laws.specs.SourceValues.{IsOfSources, HasNoTarget};
-ghost use Rattle.source_laws.specs.SourceExpressions.{SpeaksOfSources};
+ghost use Rattle.source_laws.specs.SourceExpressions.{AsksNoTargetExtent, AsksNoTargetClass, SpeaksOfSources};
 ghost use Rattle.source_laws.specs.SourceRelations.{KeepsToSources, AgreeOnSources, AreSourceBindings, HavePlainArguments, IsApart};
 ghost use Rattle.source_laws.specs.CallsAlike.{DifferInTargets, AllMadeAlike};
 ghost use Rattle.source_laws.specs.TargetRule.{HasConjunct, IsExpressionOf, HandsTargetOn};
@@ -36,8 +36,9 @@ pub fn values_are_of_sources()
 {}
 
 /// Where the source of a relation speaks of no object of the target, the same bindings meet it over models that agree but for the target
-/// (QVT 1.3, sections 7.10.1 and 7.10.2). So what `source_bindings` gives is one list for all target models. In a binding only the variables
-/// for objects of the target have such objects, where this holds of the roots.
+/// (QVT 1.3, sections 7.10.1 and 7.10.2). So what `source_bindings` gives is one list for all target models. With other objects of the target
+/// among the roots the bindings are the same but for these. In a binding only the variables for objects of the target have such objects,
+/// where this holds of the roots.
 pub fn bindings_are_of_sources()
     ensures meets { (program : Program) (ms ns : List ModelData) (number : ℕ) (rel : Rel) (b c : Values) → AreMeant program → slice_get program.rels number ≡ Some rel
         → KeepsToSources program rel → AgreeBut program.target ms ns → AgreeOnSources program rel b c → length b ≡ length rel.vars
@@ -45,6 +46,10 @@ pub fn bindings_are_of_sources()
     ensures same { (program : Program) (ms ns : List ModelData) (number : ℕ) (rel : Rel) (roots b : Values) → AreMeant program → slice_get program.rels number ≡ Some rel
         → KeepsToSources program rel → AgreeBut program.target ms ns
         → SourceWithoutTarget program ms rel roots b ↔ SourceWithoutTarget program ns rel roots b }
+    ensures moved { (program : Program) (ms ns : List ModelData) (number : ℕ) (rel : Rel) (roots others b c : Values) → AreMeant program → slice_get program.rels number ≡ Some rel
+        → KeepsToSources program rel → AgreeBut program.target ms ns → AgreeOnSources program rel roots others → AgreeOnSources program rel b c
+        → ((v : ℕ) → is_target_variable program rel v ≡ true → value_at c v ≡ value_at others v)
+        → SourceWithoutTarget program ms rel roots b → SourceWithoutTarget program ns rel others c }
     ensures answers { (program : Program) (ms ns : List ModelData) (number : ℕ) (rel : Rel) (roots : Values) (xs ys : List Values) → AreMeant program → slice_get program.rels number ≡ Some rel
         → KeepsToSources program rel → AgreeBut program.target ms ns
         → AreSourceBindings program ms rel roots xs → AreSourceBindings program ns rel roots ys → xs ≡ ys }
@@ -69,10 +74,12 @@ pub fn calls_are_of_sources()
 {}
 
 /// In a well-formed program a relation that hands objects of the target only on keeps to the sources, no condition and no equation of its when
-/// clause names a variable for such objects, and each argument of its calls is a variable alone or speaks of sources (QVT 1.3, section 7.10.2).
+/// clause names a variable for such objects, and each argument of its calls is a variable alone or speaks of sources. An expression that has
+/// no `allInstances` of a class of the target's metamodel has none of the target model (QVT 1.3, section 7.10.2).
 pub fn rule_keeps_to_sources()
     ensures keeps { (metas : List MetaDesc) (program : Program) (number : ℕ) (rel : Rel) → IsWellFormed metas program → slice_get program.rels number ≡ Some rel
         → HandsTargetOn program rel → KeepsToSources program rel }
+    ensures extents { (metas : List MetaDesc) (program : Program) (e : Typed) → IsWellFormed metas program → AsksNoTargetClass program e → AsksNoTargetExtent program.target e }
     ensures names { (program : Program) (rel : Rel) → KeepsToSources program rel → NamesNoTarget program rel }
     ensures whens { (metas : List MetaDesc) (program : Program) (number : ℕ) (rel : Rel) → IsWellFormed metas program → slice_get program.rels number ≡ Some rel
         → HandsTargetOn program rel → HavePlainArguments program rel rel.whens }

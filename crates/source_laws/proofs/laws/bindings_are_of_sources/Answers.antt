@@ -1,7 +1,7 @@
 use Rattle.source_laws.specs.Agreement.{AgreeBut}
 use Rattle.std.proofs.Common.{refl}
 use Rattle.source_laws.proofs.AnswerLaws.{same_bindings}
-use Rattle.source_laws.proofs.BindingLaws.{meets_same, source_kept, source_apart, opposite}
+use Rattle.source_laws.proofs.BindingLaws.{meets_same, source_kept, source_moved, source_apart, opposite}
 use Rattle.source_laws.proofs.laws.bindings_are_of_sources.Goals as goal
 
 pub returns-clause-meets : goal.returns-clause-meets
@@ -18,3 +18,7 @@ returns-clause-answers c = λ program ms ns number rel roots xs ys meant found k
 
 pub returns-clause-apart : goal.returns-clause-apart
 returns-clause-apart c = λ program models rel roots b apart source. source_apart program models models (λ m other. refl) rel roots b apart source
+
+pub returns-clause-moved : goal.returns-clause-moved
+returns-clause-moved c = λ program ms ns number rel roots others b d meant found keeps agree given both handed source.
+    source_moved program ms ns agree number rel meant found keeps roots others b d given both handed source

@@ -1,6 +1,6 @@
 use Rattle.std.proofs.Common.{inl, inr}
 use Rattle.source_laws.specs.SourceRelations.{IsSourceExpression}
-use Rattle.source_laws.proofs.RuleLaws.{rule_keeps, rule_plain}
+use Rattle.source_laws.proofs.RuleLaws.{rule_keeps, rule_plain, no_target_extent}
 use Rattle.source_laws.proofs.laws.rule_keeps_to_sources.Goals as goal
 
 pub returns-clause-keeps : goal.returns-clause-keeps
@@ -14,3 +14,6 @@ returns-clause-whens c = λ metas program number rel formed found rule. rule_pla
 
 pub returns-clause-wheres : goal.returns-clause-wheres
 returns-clause-wheres c = λ metas program number rel formed found rule. rule_plain metas program formed number rel found rel.wheres (λ d within. inr within) rule
+
+pub returns-clause-extents : goal.returns-clause-extents
+returns-clause-extents c = λ metas program e formed asks. no_target_extent metas program e formed asks
