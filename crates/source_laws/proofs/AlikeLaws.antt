@@ -1,14 +1,11 @@
 -- From two bindings that differ in objects of the target alone, calls are made that differ in these alone.
-use Rattle.std.specs.Prelude.{◌≡◌, ◌≢◌, ℕ, zero, suc, Bool, true, false, List, [], ◌∷◌, map, length, replicate, Option, None, Some, is_some, slice_get, slice_set, Contains}
-use Rattle.std.specs.List.{AllZip}
+use Rattle.std.specs.Prelude.{◌≡◌, ℕ, zero, suc, false, List, [], ◌∷◌, map, length, Option, None, Some, is_some, slice_get, slice_set, Contains}
 use Rattle.std.specs.Option.{option_map}
 use Rattle.std.proofs.Common.{refl, sym, ap, subst, ◌∙◌, arith}
 use Rattle.std.proofs.lemmas.Bool.{true≢false}
 use Rattle.mof_metamodel.specs.declared.desc.MetaDesc.{MetaDesc}
 use Rattle.object_tables.specs.Models.{ModelData}
-use Rattle.qv_syntax.specs.declared.ty.Ty.{Ty}
 use Rattle.qv_syntax.specs.declared.typed.Typed.{Typed}
-use Rattle.qv_syntax.specs.declared.typed.Node.TheVariants as nodes
 use Rattle.qv_syntax.specs.declared.program.Program.{Program}
 use Rattle.qv_syntax.specs.declared.program.Rel.{Rel}
 use Rattle.qv_syntax.specs.declared.program.Var.{Var}
@@ -21,13 +18,13 @@ use Rattle.qvtr_semantics.specs.declared.datum.Datum.{Datum}
 use Rattle.qvtr_semantics.specs.Outs.{datum_of, all_given}
 use Rattle.qvtr_semantics.specs.Expressions.{value_for}
 use Rattle.qvtr_semantics.specs.Templates.{Values, value_at}
-use Rattle.qvtr_semantics.specs.Calls.{RelationCall, free, with_roots, call_with, call_of, calls_of}
+use Rattle.qvtr_semantics.specs.Calls.{free, with_roots, call_with, call_of, calls_of}
 use Rattle.template_match.specs.Sources.{is_of_target, is_target_variable}
 use Rattle.template_match.proofs.ListLaws.{contains_first, contains_later}
 use Rattle.source_laws.specs.Agreement.{AgreeBut}
-use Rattle.source_laws.specs.SourceRelations.{IsPlainArgument, IsApart, AgreeOnSources}
+use Rattle.source_laws.specs.SourceRelations.{IsPlainArgument, IsApart}
 use Rattle.source_laws.specs.TargetRule.{HasConjunct, HandsTargetOn}
-use Rattle.source_laws.specs.CallsAlike.{DifferInTargets, AreAlike, AreMadeAlike, AllMadeAlike}
+use Rattle.source_laws.specs.CallsAlike.{DifferInTargets, AreMadeAlike, AllMadeAlike}
 use Rattle.source_laws.proofs.QueryLaws.{value_alike}
 use Rattle.source_laws.proofs.RuleLaws.{rule_plain}
 use Rattle.source_laws.proofs.RootLaws.{same_called, alone_given, alone_datum, typed_call}
@@ -147,8 +144,7 @@ module _ (metas : List MetaDesc) (program : Program) (formed : IsWellFormed meta
   unfolding OneAlike
   argument_alike called place root e at given (IsPlainArgument.alone ty v is) =
       let one : one_datum e ≡ value_at b v = alone_datum program ms b e ty v is in
-      let other : other_datum e ≡ value_at c v = alone_datum program ns c e ty v is in
-      (
+      let other : other_datum e ≡ value_at c v = alone_datum program ns c e ty v is in (
         ap is_some one ∙ differ.bound v ∙ sym (ap is_some other),
         λ outside. one ∙ differ.sources.same v (alone_given metas program formed number rel found root e ty v given is (sym (ap (is_of_target program) at) ∙ outside)) ∙ sym other,
       )

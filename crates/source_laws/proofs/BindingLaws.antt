@@ -1,29 +1,25 @@
 -- What meets the source of a relation that keeps to the sources, over models that agree but for the target.
-use Rattle.std.specs.Prelude.{◌≡◌, ◌≢◌, ◌<◌, ◌⊎◌, ◌↔◌, ℕ, zero, suc, Bool, true, false, ◌&&◌, ◌||◌, not, ◌==◌, List, [], ◌∷◌, length, Option, None, Some, slice_get, Contains, IsTrue}
+use Rattle.std.specs.Prelude.{◌≡◌, ◌≢◌, ◌<◌, ◌⊎◌, ℕ, zero, suc, Bool, true, false, ◌&&◌, ◌||◌, not, List, [], ◌∷◌, length, Option, None, Some, slice_get, Contains, IsTrue}
 use Rattle.std.specs.List.{list_all}
 use Rattle.std.proofs.Common.{refl, sym, ap, subst, ◌∙◌, arith, inl, inr}
 use Rattle.std.proofs.lemmas.Bool.{and_parts, true≢false, eqb-true, eq-eqb}
 use Rattle.std.proofs.lemmas.List.Elements.{All-contains, filter_passes}
 use Rattle.object_tables.specs.declared.value.ObjId.{ObjId}
 use Rattle.object_tables.specs.Models.{ModelData}
-use Rattle.object_tables.proofs.ListLemmas.{Contains-filter}
 use Rattle.object_tables.proofs.SlotLemmas.{Contains-to_filter}
-use Rattle.mof_metamodel.specs.declared.desc.ClassId.{ClassId}
 use Rattle.qv_syntax.specs.declared.program.Program.{Program}
 use Rattle.qv_syntax.specs.declared.program.Rel.{Rel}
 use Rattle.qv_syntax.specs.declared.program.Var.{Var}
 use Rattle.qv_syntax.specs.declared.program.Dom.{Dom}
 use Rattle.qv_syntax.specs.declared.program.Tmpl.{Tmpl, out-Tmpl}
-use Rattle.qv_syntax.specs.declared.program.Item.{Item}
-use Rattle.qv_syntax.specs.declared.program.ItemValue.TheVariants as items
 use Rattle.qv_syntax.specs.declared.program.Conj.{Conj}
 use Rattle.qv_syntax.specs.declared.program.Conj.TheVariants as conjuncts
 use Rattle.qv_syntax.specs.declared.ty.Ty.{Ty, roll-Ty, out-Ty, roll-out-Ty}
 use Rattle.qv_syntax.specs.declared.ty.Ty.TheOpen as of
 use Rattle.qv_syntax.specs.declared.ty.Ty.TheVariants as types
 use Rattle.qv_syntax.specs.declared.typed.Typed.{Typed}
-use Rattle.qv_syntax.specs.Parts.{Names, IsNested, HasItem}
-use Rattle.qv_syntax.specs.Relations.{IsSourceDomain, IsTemplateOf, IsItemOf, IsItemExpression, InConjunct, OccursInTemplates, OccursInClause, IsUniversal}
+use Rattle.qv_syntax.specs.Parts.{Names}
+use Rattle.qv_syntax.specs.Relations.{IsSourceDomain, IsTemplateOf, InConjunct, OccursInTemplates, OccursInClause, IsUniversal}
 use Rattle.qv_syntax.specs.Directions.{HasVariables, AreMeant}
 use Rattle.qvtr_semantics.specs.declared.datum.Datum.{Datum}
 use Rattle.qvtr_semantics.specs.declared.datum.Datum.TheVariants.{Obj, Val}
@@ -37,7 +33,7 @@ use Rattle.template_match.proofs.ListLaws.{contains_first, contains_later}
 use Rattle.template_match.proofs.ValueLaws.{some_datum, within_values}
 use Rattle.template_match.proofs.SideLaws.{Valued, valued}
 use Rattle.source_laws.specs.Agreement.{AgreeBut}
-use Rattle.source_laws.specs.SourceValues.{IsOfSources, HasNoTarget}
+use Rattle.source_laws.specs.SourceValues.{IsOfSources}
 use Rattle.source_laws.specs.SourceRelations.{IsSourceExpression, KeepsToSources, AgreeOnSources, IsApart}
 use Rattle.source_laws.proofs.SettingLaws.{class_same}
 use Rattle.source_laws.proofs.QueryLaws.{value_alike}
@@ -68,7 +64,7 @@ among [] i x h = absurd (cc)
 among (y ∷ ys) zero x h = let same : y ≡ x = cc in (0, omega arith, same)
 among (y ∷ ys) (suc i) x h = let (k, within, is) = among ys i x h in (suc k, omega (arith, within), is)
 
-found_at : {X : Type 0} (xs : List X) (x : X) → Contains xs x → (i : ℕ) × (slice_get xs i ≡ Some x)
+pub found_at : {X : Type 0} (xs : List X) (x : X) → Contains xs x → (i : ℕ) × (slice_get xs i ≡ Some x)
 found_at [] x (k, within, is) = absurd (omega (arith, within))
 found_at (y ∷ ys) x (zero, within, is) = (0, ap (λ z. Some z) is)
 found_at (y ∷ ys) x (suc k, within, is) = let more = found_at ys x (k, omega (arith, within), is) in (suc more.0, more.1)
@@ -259,10 +255,12 @@ module _ (program : Program) (ms ns : List ModelData) (agree : AgreeBut program.
       extends : (v : ℕ) (d : Datum) (x : Bool) → is_target_variable program rel v ≡ x → value_at others v ≡ Some d → value_at c v ≡ Some d
       extends v d true target at = handed v target ∙ at
       extends v d false outside at = sym (both.same v outside) ∙ source.extends v d (given.same v outside ∙ at)
+
       by : (v : ℕ) (d : Datum) → is_target_variable program rel v ≡ false → Contains (source_variables program rel) v ⊎ (value_at roots v ≡ Some d)
           → Contains (source_variables program rel) v ⊎ (value_at others v ≡ Some d)
       by v d outside (inl within) = inl within
       by v d outside (inr at) = inr (sym (given.same v outside) ∙ at)
+
       none : (v : ℕ) (d : Datum) (x : Bool) → is_target_variable program rel v ≡ x → value_at c v ≡ Some d → Contains (source_variables program rel) v ⊎ (value_at others v ≡ Some d)
       none v d true target at = inr (sym (handed v target) ∙ at)
       none v d false outside at = by v d outside (source.no_others v d (both.same v outside ∙ at))

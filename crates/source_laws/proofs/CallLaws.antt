@@ -1,5 +1,5 @@
 -- The calls of a clause over models that agree but for the target are the same, where each argument is a variable alone, or speaks of sources.
-use Rattle.std.specs.Prelude.{◌≡◌, ℕ, false, List, [], ◌∷◌, map, length, Option, Some, slice_get, Contains}
+use Rattle.std.specs.Prelude.{◌≡◌, ℕ, List, [], ◌∷◌, map, length, slice_get, Contains}
 use Rattle.std.proofs.Common.{refl, sym, ap, ◌∙◌}
 use Rattle.object_tables.specs.Models.{ModelData}
 use Rattle.qv_syntax.specs.declared.program.Program.{Program}
@@ -8,15 +8,12 @@ use Rattle.qv_syntax.specs.declared.program.Conj.{Conj}
 use Rattle.qv_syntax.specs.declared.program.Conj.TheVariants as conjuncts
 use Rattle.qv_syntax.specs.declared.ty.Ty.{Ty}
 use Rattle.qv_syntax.specs.declared.typed.Typed.{Typed}
-use Rattle.qv_syntax.specs.declared.typed.Node.{roll-Node}
 use Rattle.qv_syntax.specs.declared.typed.Node.TheVariants as nodes
-use Rattle.qv_syntax.specs.declared.typed.Call.TheOpen as of
-use Rattle.qvtr_semantics.specs.declared.datum.Datum.{Datum}
 use Rattle.qvtr_semantics.specs.declared.out.Out.{Out}
 use Rattle.qvtr_semantics.specs.Outs.{datum_of, all_given}
 use Rattle.qvtr_semantics.specs.Objects.{Setting}
-use Rattle.qvtr_semantics.specs.Expressions.{Queries, Scope, variable, meaning, setting, queries_within, bound_value, scope_of, value_for}
-use Rattle.qvtr_semantics.specs.Templates.{Values, value_at}
+use Rattle.qvtr_semantics.specs.Expressions.{Queries, Scope, variable, meaning, setting, queries_within, scope_of, value_for}
+use Rattle.qvtr_semantics.specs.Templates.{Values}
 use Rattle.qvtr_semantics.specs.Calls.{call_with, call_of, calls_of}
 use Rattle.qvtr_semantics.proofs.ExpressionLaws.{typed_is, variable_is, node_of}
 use Rattle.template_match.proofs.ListLaws.{contains_first, contains_later}

@@ -1,5 +1,5 @@
 -- Lists of data without objects of the target: what is put into an order, chosen, joined or collected from such data is such data.
-use Rattle.std.specs.Prelude.{◌≡◌, ◌≢◌, ℕ, zero, suc, Bool, true, false, not, List, [], ◌∷◌, ◌++◌, map, Option, None, Some, slice_get, slice_index_or, if◌then◌else◌}
+use Rattle.std.specs.Prelude.{◌≢◌, ℕ, zero, suc, Bool, true, false, List, [], ◌∷◌, ◌++◌, map, Option, None, Some, slice_get, if◌then◌else◌}
 use Rattle.std.specs.List.{AllByRecursion, filter, items_where_true, last_or}
 use Rattle.object_tables.specs.declared.value.Value.{Value}
 use Rattle.object_tables.specs.declared.value.Value.TheVariants as values

@@ -1,11 +1,10 @@
 -- No operation gives an object of the target that its parts don't have.
-use Rattle.std.specs.Prelude.{◌≡◌, ◌≢◌, ◌==◌, ◌&&◌, ◌+◌, ◌-◌, ◌+ℤ◌, ◌-ℤ◌, ◌*ℤ◌, neg_ℤ, nat_abs, int_div, int_rem, codes, take, drop, ℕ, zero, suc, ℤ, pos, negsuc, Bool, true, false, not, nat_le, List, [], ◌∷◌, ◌++◌, map, length, Option, None, Some, slice_get, slice_index_or, if◌then◌else◌}
+use Rattle.std.specs.Prelude.{◌==◌, ◌&&◌, ◌+◌, ◌-◌, ◌+ℤ◌, ◌-ℤ◌, ◌*ℤ◌, neg_ℤ, nat_abs, int_div, int_rem, codes, take, drop, ℕ, zero, suc, ℤ, pos, Bool, true, false, not, nat_le, List, [], ◌∷◌, ◌++◌, map, length, Option, None, Some, slice_get, if◌then◌else◌}
 use Rattle.std.specs.Fmt.{signed_decimal}
 use Rattle.std.specs.Int.{int_min, int_max}
-use Rattle.std.specs.List.{AllByRecursion, filter, count_by}
+use Rattle.std.specs.List.{AllByRecursion, count_by}
 use Rattle.std.specs.Ordering.{int_eq}
 use Rattle.std.specs.Option.{option_map}
-use Rattle.std.proofs.Common.{refl}
 use Rattle.mof_metamodel.specs.declared.limits.TheConstants.{MAX_RESULT}
 use Rattle.qv_syntax.specs.declared.operator.Operator.{Operator}
 use Rattle.qv_syntax.specs.declared.operator.Operator.TheVariants as operators
@@ -22,15 +21,15 @@ use Rattle.qv_syntax.specs.declared.typed.Values.TheVariants as gives
 use Rattle.qvtr_semantics.specs.declared.datum.Datum.{Datum}
 use Rattle.qvtr_semantics.specs.declared.out.Out.{Out}
 use Rattle.qvtr_semantics.specs.declared.out.Out.TheVariants as outs
-use Rattle.qvtr_semantics.specs.Outs.{Collection, and_then, given, datum_of, integer_of, integer_of_datum, string_of, boolean_of, collection_of, natural, boolean, truth, string, all_given}
+use Rattle.qvtr_semantics.specs.Outs.{Collection, and_then, given, datum_of, integer_of, integer_of_datum, string_of, boolean_of, collection_of, natural, truth, string, all_given}
 use Rattle.qvtr_semantics.specs.Integers as integers
 use Rattle.qvtr_semantics.specs.Strings as strings
-use Rattle.qvtr_semantics.specs.Equality.{same_kind, all_differ}
-use Rattle.qvtr_semantics.specs.Data.{same_datum, is_among, in_order}
+use Rattle.qvtr_semantics.specs.Equality.{same_kind}
+use Rattle.qvtr_semantics.specs.Data.{same_datum, is_among}
 use Rattle.qvtr_semantics.specs.Collections as collections
-use Rattle.qvtr_semantics.specs.Iterators.{iterated, collect, conditions, collected_from, all_collected, collected_kind, defined, exists, for_all, one, is_unique}
-use Rattle.qvtr_semantics.specs.Objects.{single, navigated}
-use Rattle.qvtr_semantics.specs.Expressions.{on_integers, on_strings, result, or_else, operated, negation, negated, chosen, literal, is_undefined, is_invalid, singleton, argument, to_string, substring, operation, with_datum, with_collection, with_integer, on_collection}
+use Rattle.qvtr_semantics.specs.Iterators.{iterated, collect, conditions, collected_from, all_collected, collected_kind, defined}
+use Rattle.qvtr_semantics.specs.Objects.{navigated}
+use Rattle.qvtr_semantics.specs.Expressions.{on_integers, on_strings, result, or_else, operated, negation, negated, chosen, literal, is_undefined, is_invalid, singleton, argument, operation, with_datum, with_collection, on_collection}
 use Rattle.source_laws.specs.SourceValues.{IsOfSources, HasNoTarget}
 use Rattle.source_laws.proofs.DataLaws.{AllOfSources, IfOfSources, all_joined, all_filtered, all_chosen, all_in_order, all_kept, at_place, at_last}
 

@@ -1,19 +1,17 @@
 -- Queries that have no extent of the target, they and those that they call, give one value over models that agree but for the target; so
 -- do expressions that call only such queries.
-use Rattle.std.specs.Prelude.{◌≡◌, ◌≢◌, ℕ, zero, suc, List, [], ◌∷◌, map, length, Option, None, Some, slice_get, slice_index_or}
+use Rattle.std.specs.Prelude.{◌≡◌, ℕ, zero, suc, List, [], ◌∷◌, length, Option, None, Some, slice_get}
 use Rattle.std.proofs.Common.{refl, sym, ap, subst, ◌∙◌}
 use Rattle.object_tables.specs.Models.{ModelData}
 use Rattle.qv_syntax.specs.declared.program.Program.{Program}
 use Rattle.qv_syntax.specs.declared.query.ModelSlot.{ModelSlot}
 use Rattle.qv_syntax.specs.declared.query.Query.{Query}
 use Rattle.qv_syntax.specs.declared.typed.Typed.{Typed}
-use Rattle.qv_syntax.specs.Parts.{Names, CallsQuery}
-use Rattle.qv_syntax.specs.QueryCalls.{Calls}
+use Rattle.qv_syntax.specs.Parts.{Names}
 use Rattle.qvtr_semantics.specs.declared.datum.Datum.{Datum}
 use Rattle.qvtr_semantics.specs.declared.out.Out.{Out}
-use Rattle.qvtr_semantics.specs.declared.out.Out.TheVariants as outs
 use Rattle.qvtr_semantics.specs.Objects.{Setting}
-use Rattle.qvtr_semantics.specs.Expressions.{Scope, Queries, variable, query_value, queries_within, bound_value, scope_of, value_for}
+use Rattle.qvtr_semantics.specs.Expressions.{Queries, variable, query_value, queries_within, bound_value, scope_of, value_for}
 use Rattle.qvtr_semantics.specs.Templates.{Values, value_at}
 use Rattle.source_laws.specs.Agreement.{AgreeBut}
 use Rattle.source_laws.specs.SourceValues.{IsOfSources, HasNoTarget}

@@ -1,35 +1,34 @@
 -- Of a relation that hands objects of the target only on each expression has one value over models that agree but for the target.
-use Rattle.std.specs.Prelude.{◌≡◌, ◌⊎◌, ℕ, Bool, true, false, ◌&&◌, List, [], ◌∷◌, Option, None, Some, Contains}
+use Rattle.std.specs.Prelude.{◌≡◌, ℕ, false, List, Option, None, Some, Contains}
 use Rattle.std.specs.List.{list_all}
-use Rattle.std.proofs.Common.{refl, sym, ap, subst, ◌∙◌, inl, inr}
+use Rattle.std.proofs.Common.{refl, ap, subst, ◌∙◌}
 use Rattle.object_tables.specs.Models.{ModelData}
 use Rattle.qv_syntax.specs.declared.program.Program.{Program}
 use Rattle.qv_syntax.specs.declared.program.Rel.{Rel}
-use Rattle.qv_syntax.specs.declared.program.Dom.{Dom}
 use Rattle.qv_syntax.specs.declared.program.Conj.{Conj}
 use Rattle.qv_syntax.specs.declared.program.Conj.TheVariants as conjuncts
 use Rattle.qv_syntax.specs.declared.typed.Typed.{Typed}
-use Rattle.qv_syntax.specs.Relations.{IsItemExpression, InConjunct}
+use Rattle.qv_syntax.specs.Relations.{InConjunct}
+use Rattle.qv_syntax.specs.Directions.{HasVariables, HasEquations}
 use Rattle.qvtr_semantics.specs.declared.datum.Datum.{Datum}
-use Rattle.qvtr_semantics.specs.declared.out.Out.{Out}
 use Rattle.qvtr_semantics.specs.Outs.{datum_of, boolean_of}
 use Rattle.qvtr_semantics.specs.Equality.{is_known_true}
 use Rattle.qvtr_semantics.specs.Expressions.{value_for}
 use Rattle.qvtr_semantics.specs.Templates.{Values, value_at}
-use Rattle.qvtr_semantics.specs.Bindings.{are_one, conjunct_holds}
-use Rattle.template_match.specs.Sources.{IsAsked, is_target_variable}
+use Rattle.qvtr_semantics.specs.Bindings.{is_model, are_one, conjunct_holds}
+use Rattle.template_match.specs.Sources.{IsAsked, is_of_target, is_target_variable}
 use Rattle.source_laws.specs.Agreement.{AgreeBut}
 use Rattle.source_laws.specs.SourceValues.{IsOfSources, HasNoTarget}
 use Rattle.source_laws.specs.SourceExpressions.{SpeaksOfSources}
-use Rattle.source_laws.specs.SourceRelations.{IsApart}
+use Rattle.source_laws.specs.SourceRelations.{AgreeOnSources, IsApart, NamesSources}
 use Rattle.source_laws.specs.TargetRule.{HasConjunct, MayBeTarget, HandsTargetOn, IsExpressionOf}
 use Rattle.source_laws.proofs.DataLaws.{IfOfSources}
 use Rattle.source_laws.proofs.OperationLaws.{datum_apart}
-use Rattle.source_laws.proofs.QueryLaws.{value_of_sources}
+use Rattle.source_laws.proofs.QueryLaws.{value_alike, value_of_sources}
 use Rattle.source_laws.proofs.CallLaws.{argument_same}
 use Rattle.source_laws.proofs.RuleLaws.{plain_by}
 use Rattle.source_laws.proofs.TypingLaws.{is_in}
-use Rattle.source_laws.proofs.BindingLaws.{all_same}
+use Rattle.source_laws.proofs.BindingLaws.{all_same, among, found_at}
 
 pub datum_by : (t : ℕ) (o : Option Datum) (d : Datum) → IfOfSources t o → o ≡ Some d → IsOfSources t d
 datum_by t None d p is = absurd (cc)
@@ -53,16 +52,40 @@ module _ (program : Program) (ms ns : List ModelData) (agree : AgreeBut program.
   expression_same e (IsExpressionOf.item dom c is) = handed_same e (MayBeTarget.item dom c is) (rule.speaks e (IsExpressionOf.item dom c is))
   expression_same e (IsExpressionOf.conjunct c there within) = conjunct_by c e there within
 
-  conjunct_same : (c : Conj) → HasConjunct rel c → conjunct_holds program ms b c ≡ conjunct_holds program ns b c
-  conjunct_same (conjuncts.Cond e) there = ap (λ o. is_known_true (boolean_of o)) (conjunct_by (conjuncts.Cond e) e there refl)
-  conjunct_same (conjuncts.Equation v e) there = ap (λ o. are_one (value_at b v) (datum_of o)) (conjunct_by (conjuncts.Equation v e) e there refl)
-  conjunct_same (conjuncts.Call n args) there = refl
-
-  -- the conditions and equations of a clause hold alike
-  pub clause_same : (clause : List Conj) → ((c : Conj) → Contains clause c → HasConjunct rel c) → list_all (conjunct_holds program ms b) clause ≡ list_all (conjunct_holds program ns b) clause
-  clause_same clause there = all_same (conjunct_holds program ms b) (conjunct_holds program ns b) clause (λ c within. conjunct_same c (there c within))
-
   -- what an equation gives its variable is no object of the target
   pub equation_apart : (v : ℕ) (e : Typed) (d : Datum) → HasConjunct rel (conjuncts.Equation v e) → datum_of (value_for program ms e b) ≡ Some d → IsOfSources program.target d
   equation_apart v e d there is =
       datum_by program.target (datum_of (value_for program ms e b)) d (datum_apart program.target (value_for program ms e b) (asked_alike (conjuncts.Equation v e) e there refl refl).1) is
+
+-- ---- in two bindings
+
+-- the variable of an equation is one of a data type
+pub subject_outside : (program : Program) (rel : Rel) (IsSought : ℕ → Type 0) (clause : List Conj) → HasVariables program rel → HasEquations rel IsSought clause → (v : ℕ) (e : Typed)
+    → Contains clause (conjuncts.Equation v e) → is_target_variable program rel v ≡ false
+subject_outside program rel IsSought clause variables equations v e within =
+    let place = found_at clause (conjuncts.Equation v e) within in
+    let (data_variable, sought, other, first) = equations.are place.0 v e place.1 in
+    let model : data_variable.var.model ≡ None = (variables.models data_variable.var (among rel.vars v data_variable.var data_variable.found)).data_value data_variable.data_type in
+    ap (is_of_target program) data_variable.found ∙ ap (λ m. is_model m program.target) model
+
+module _ (program : Program) (ms ns : List ModelData) (agree : AgreeBut program.target ms ns) (rel : Rel) (rule : HandsTargetOn program rel) (b c : Values) (apart : IsApart program rel b)
+    (both : AgreeOnSources program rel b c) where
+  pub expression_alike : (e : Typed) → IsExpressionOf rel e → NamesSources program rel e → value_for program ms e b ≡ value_for program ns e c
+  expression_alike e is names =
+      (value_alike program ms ns e b c agree (rule.speaks e is) both.places (λ v named. both.same v (names v named)) (λ v d named at. apart v d (names v named) at)).0
+
+  module _ (IsSought : ℕ → Type 0) (clause : List Conj) (there : (x : Conj) → Contains clause x → HasConjunct rel x) (variables : HasVariables program rel)
+      (equations : HasEquations rel IsSought clause) where
+    asked_alike_in : (x : Conj) (e : Typed) → Contains clause x → IsAsked x e → InConjunct x e → value_for program ms e b ≡ value_for program ns e c
+    asked_alike_in x e within asked inside = expression_alike e (IsExpressionOf.conjunct x (there x within) inside) (rule.named x e (there x within) asked)
+
+    conjunct_alike : (x : Conj) → Contains clause x → conjunct_holds program ms b x ≡ conjunct_holds program ns c x
+    conjunct_alike (conjuncts.Cond e) within = ap (λ o. is_known_true (boolean_of o)) (asked_alike_in (conjuncts.Cond e) e within refl refl)
+    conjunct_alike (conjuncts.Equation v e) within =
+        ap (λ o. are_one (value_at b v) (datum_of o)) (asked_alike_in (conjuncts.Equation v e) e within refl refl)
+        ∙ ap (λ o. are_one o (datum_of (value_for program ns e c))) (both.same v (subject_outside program rel IsSought clause variables equations v e within))
+    conjunct_alike (conjuncts.Call n args) within = refl
+
+    -- the conditions and equations of a clause hold alike
+    pub clause_alike : list_all (conjunct_holds program ms b) clause ≡ list_all (conjunct_holds program ns c) clause
+    clause_alike = all_same (conjunct_holds program ms b) (conjunct_holds program ns c) clause conjunct_alike

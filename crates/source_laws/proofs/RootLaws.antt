@@ -1,6 +1,5 @@
 -- The roots that calls hand on: no object of the target comes to a variable that isn't for such objects.
-use Rattle.std.specs.Prelude.{◌≡◌, ◌≢◌, ◌⊎◌, ℕ, zero, suc, Bool, true, false, ◌==◌, List, [], ◌∷◌, map, length, replicate, Option, None, Some, is_some, slice_get, slice_set, Contains}
-use Rattle.std.specs.List.{AllZip}
+use Rattle.std.specs.Prelude.{◌≡◌, ◌⊎◌, ℕ, zero, suc, Bool, true, false, List, [], ◌∷◌, map, length, replicate, Option, None, Some, slice_get, slice_set, Contains}
 use Rattle.std.specs.Option.{option_map}
 use Rattle.std.proofs.Common.{refl, sym, ap, subst, ◌∙◌, arith, inl, inr}
 use Rattle.std.proofs.lemmas.Bool.{true≢false, eq-eqb}
@@ -16,18 +15,18 @@ use Rattle.qv_syntax.specs.declared.program.Dom.{Dom}
 use Rattle.qv_syntax.specs.declared.program.Conj.{Conj}
 use Rattle.qv_syntax.specs.declared.program.Conj.TheVariants as conjuncts
 use Rattle.qv_syntax.specs.TypedTrees.{Typing, IsTyped}
-use Rattle.qv_syntax.specs.ProgramTypes.{context_of, typing_of, variables_of, IsGiven, AreGiven, IsCallTyped, IsConjunctTyped}
+use Rattle.qv_syntax.specs.ProgramTypes.{context_of, typing_of, variables_of, IsGiven, AreGiven, IsCallTyped}
 use Rattle.qv_syntax.specs.WellFormed.{IsWellFormed}
 use Rattle.qvtr_semantics.specs.declared.datum.Datum.{Datum}
 use Rattle.qvtr_semantics.specs.Outs.{datum_of, all_given}
-use Rattle.qvtr_semantics.specs.Expressions.{variable, bound_value, scope_of, value_for}
+use Rattle.qvtr_semantics.specs.Expressions.{bound_value, value_for}
 use Rattle.qvtr_semantics.specs.Templates.{Values, value_at}
 use Rattle.qvtr_semantics.specs.Bindings.{is_model}
 use Rattle.qvtr_semantics.specs.Calls.{RelationCall, free, with_roots, call_with, call_of, calls_of}
 use Rattle.template_match.specs.Sources.{is_of_target, is_target_variable}
 use Rattle.template_match.proofs.ListLaws.{contains_first, contains_later}
 use Rattle.source_laws.specs.SourceValues.{IsOfSources}
-use Rattle.source_laws.specs.SourceRelations.{IsPlainArgument, HavePlainArguments, IsApart}
+use Rattle.source_laws.specs.SourceRelations.{IsPlainArgument, IsApart}
 use Rattle.source_laws.specs.TargetRule.{HasConjunct, HandsTargetOn}
 use Rattle.source_laws.proofs.OperationLaws.{datum_apart}
 use Rattle.source_laws.proofs.QueryLaws.{variable_is, value_of_sources}
@@ -126,6 +125,7 @@ module _ (metas : List MetaDesc) (program : Program) (formed : IsWellFormed meta
       by_model m at (inl none) = cc
       by_model m at (inr same) =
           true≢false (sym (eq-eqb program.target program.target refl) ∙ ap (λ x. is_model x program.target) (sym at ∙ same) ∙ outside)
+
       by : (x : Bool) → is_target_variable program rel v ≡ x → x ≡ false
       by true target =
           let at : slice_get (variables_of rel) v ≡ Some given.typing =

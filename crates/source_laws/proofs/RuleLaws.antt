@@ -1,16 +1,13 @@
 -- In a well-formed program a relation that hands objects of the target only on keeps to the sources, and its calls have plain arguments.
-use Rattle.std.specs.Prelude.{◌≡◌, ◌≢◌, ◌⊎◌, ◌<◌, ℕ, Bool, true, false, ◌==◌, List, length, map, Option, None, Some, slice_get, Contains}
-use Rattle.std.proofs.Common.{refl, sym, ap, subst, ◌∙◌, arith, inl, inr, zero, suc, [], ◌∷◌}
+use Rattle.std.specs.Prelude.{◌≡◌, ◌≢◌, ◌⊎◌, ℕ, Bool, true, false, ◌==◌, List, map, Option, None, Some, slice_get, Contains}
+use Rattle.std.proofs.Common.{refl, sym, ap, subst, ◌∙◌, inl, inr, zero, suc, [], ◌∷◌}
 use Rattle.std.proofs.lemmas.Bool.{true≢false, eqb-true}
 use Rattle.mof_metamodel.specs.declared.desc.MetaDesc.{MetaDesc}
 use Rattle.qv_syntax.specs.declared.ty.Ty.{Ty}
 use Rattle.qv_syntax.specs.declared.typed.Typed.{Typed}
 use Rattle.qv_syntax.specs.declared.typed.Node.{Node}
-use Rattle.qv_syntax.specs.declared.typed.Node.TheVariants as nodes
-use Rattle.qv_syntax.specs.declared.query.ModelSlot.{ModelSlot}
 use Rattle.qv_syntax.specs.declared.program.Program.{Program}
 use Rattle.qv_syntax.specs.declared.program.Rel.{Rel}
-use Rattle.qv_syntax.specs.declared.program.Var.{Var}
 use Rattle.qv_syntax.specs.declared.program.Dom.{Dom}
 use Rattle.qv_syntax.specs.declared.program.Tmpl.{Tmpl, out-Tmpl}
 use Rattle.qv_syntax.specs.declared.program.Item.{Item}
@@ -20,10 +17,10 @@ use Rattle.qv_syntax.specs.declared.program.ItemValue.TheOpen as layers
 use Rattle.qv_syntax.specs.declared.program.Conj.{Conj}
 use Rattle.qv_syntax.specs.declared.program.Conj.TheVariants as conjuncts
 use Rattle.qv_syntax.specs.Parts.{Names}
-use Rattle.qv_syntax.specs.Relations.{IsModelDomain, IsSourceDomain, IsTemplateOf, IsItemOf, IsItemExpression, InConjunct}
-use Rattle.qv_syntax.specs.TypedTrees.{Typing, Variables, IsTyped}
-use Rattle.qv_syntax.specs.ProgramTypes.{context_of, typing_of, variables_of, IsGiven, IsItemOfType, IsItemTyped, IsRelationTyped}
-use Rattle.qv_syntax.specs.Directions.{IsDomainShaped, IsDeclared, HasDomains}
+use Rattle.qv_syntax.specs.Relations.{IsModelDomain, IsSourceDomain, IsTemplateOf, IsItemExpression, InConjunct}
+use Rattle.qv_syntax.specs.TypedTrees.{Typing}
+use Rattle.qv_syntax.specs.ProgramTypes.{context_of, typing_of, variables_of, IsGiven, IsItemOfType}
+use Rattle.qv_syntax.specs.Directions.{HasDomains}
 use Rattle.qv_syntax.specs.WellFormed.{IsWellFormed}
 use Rattle.qvtr_semantics.specs.Bindings.{is_model}
 use Rattle.template_match.specs.Sources.{is_of_target, is_target_variable, IsAsked}
@@ -172,6 +169,7 @@ module _ (metas : List MetaDesc) (program : Program) (formed : IsWellFormed meta
       speaks : (e : Typed) → IsSourceExpression program rel e → SpeaksOfSources program e
       speaks e (IsSourceExpression.item dom source is) = rule.speaks e (IsExpressionOf.item dom source.is is)
       speaks e (IsSourceExpression.asked c there asked) = rule.speaks e (IsExpressionOf.conjunct c (inl there) (asked_in c e asked))
+
       names : (e : Typed) → IsSourceExpression program rel e → NamesSources program rel e
       names e (IsSourceExpression.item dom source is) = item_names dom e rule source is
       names e (IsSourceExpression.asked c there asked) = rule.named c e (inl there) asked

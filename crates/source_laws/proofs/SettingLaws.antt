@@ -13,13 +13,13 @@ use Rattle.qvtr_semantics.specs.declared.datum.Datum.{Datum}
 use Rattle.qvtr_semantics.specs.declared.datum.Datum.TheVariants.{Obj, Val}
 use Rattle.qvtr_semantics.specs.declared.out.Out.{Out}
 use Rattle.qvtr_semantics.specs.declared.out.Out.TheVariants as outs
-use Rattle.qvtr_semantics.specs.Outs.{Collection, and_then, given, datum_of, boolean}
-use Rattle.qvtr_semantics.specs.Objects.{Setting, ObjectClass, object_datum, value_datum, meta_of, is_number_among, is_kind_of, data_at, held_by, held_at, navigated, property, class_of, is_type_of, is_of_kind, as_type, extent_of, extent}
-use Rattle.qvtr_semantics.specs.Expressions.{class_operation, with_datum}
+use Rattle.qvtr_semantics.specs.Outs.{and_then, given, datum_of, boolean}
+use Rattle.qvtr_semantics.specs.Objects.{Setting, ObjectClass, object_datum, value_datum, meta_of, is_number_among, is_kind_of, data_at, held_at, navigated, property, class_of, is_type_of, is_of_kind, as_type, extent_of, extent}
+use Rattle.qvtr_semantics.specs.Expressions.{class_operation}
 use Rattle.source_laws.specs.Agreement.{AgreeBut}
 use Rattle.source_laws.specs.SourceValues.{IsOfSources, HasNoTarget}
 use Rattle.source_laws.proofs.DataLaws.{AllOfSources, IfOfSources, all_objects, all_values}
-use Rattle.source_laws.proofs.OperationLaws.{AllApart, given_apart, if_apart, datum_apart, navigated_apart}
+use Rattle.source_laws.proofs.OperationLaws.{given_apart, if_apart, datum_apart, navigated_apart}
 
 module _ (t : ℕ) (slots : List ModelSlot) (ms ns : List ModelData) (agree : AgreeBut t ms ns) where
   abbrev one : Setting

@@ -1,6 +1,6 @@
 -- A template matches alike over models that agree but for the target, in two bindings in which its variables have the same values, no
 -- objects of the target, and the expressions within it have the same values: by recursion on the template.
-use Rattle.std.specs.Prelude.{◌≡◌, ℕ, Bool, false, ◌&&◌, List, [], ◌∷◌, map, Option, None, Some, Contains}
+use Rattle.std.specs.Prelude.{◌≡◌, ℕ, Bool, ◌&&◌, List, [], ◌∷◌, map, Option, None, Some, Contains}
 use Rattle.std.specs.List.{list_all}
 use Rattle.std.proofs.Common.{refl, sym, ap, subst, ◌∙◌}
 use Rattle.object_tables.specs.Models.{ModelData}
@@ -14,7 +14,7 @@ use Rattle.qv_syntax.specs.declared.typed.Typed.{Typed}
 use Rattle.qv_syntax.specs.Parts.{IsNested, HasItem}
 use Rattle.qvtr_semantics.specs.declared.datum.Datum.{Datum}
 use Rattle.qvtr_semantics.specs.Outs.{datum_of}
-use Rattle.qvtr_semantics.specs.Objects.{ObjectClass, held_at, class_of}
+use Rattle.qvtr_semantics.specs.Objects.{held_at}
 use Rattle.qvtr_semantics.specs.Expressions.{setting, value_for}
 use Rattle.qvtr_semantics.specs.Templates.{Values, SlotMeaning, ItemMeaning, Pattern, value_at, has, conforms, is_of_class, object_matches, slot_meaning, item_meaning, tmpl_meaning, pattern, meets}
 use Rattle.qvtr_semantics.proofs.TemplateLaws.{slot_of, item_of}
@@ -137,14 +137,13 @@ module _ (program : Program) (ms ns : List ModelData) (agree : AgreeBut program.
       λ item within. item_fine whole item fine (subst (λ x. Contains x.items item) (sym (out-roll-Tmpl t)) within) in
       let own : (d : Datum) → value_at b y.var ≡ Some d → IsOfSources program.target d =
       λ d at. fine.variables whole d (IsNested.whole whole) (ap (value_at b) var ∙ at) in
-      let same : value_at b y.var ≡ value_at c y.var = ap (value_at b) (sym var) ∙ fine.same whole (IsNested.whole whole) ∙ ap (value_at c) var in
-      (
+      let same : value_at b y.var ≡ value_at c y.var = ap (value_at b) (sym var) ∙ fine.same whole (IsNested.whole whole) ∙ ap (value_at c) var in (
         ap (λ (m : Pattern). m.var) one ∙ sym var,
         ap (λ (m : Pattern). m.var) other ∙ sym var,
         ap (λ (m : Pattern). m.matches b) one
-        ∙ object_same y.class.0 y.items parts (value_at b y.var) own
-        ∙ ap (object_matches (setting program ns) y.class.0 (map (item_of program ns) (items_of y.items)) c) same
-        ∙ sym (ap (λ (m : Pattern). m.matches c) other),
+            ∙ object_same y.class.0 y.items parts (value_at b y.var) own
+            ∙ ap (object_matches (setting program ns) y.class.0 (map (item_of program ns) (items_of y.items)) c) same
+            ∙ sym (ap (λ (m : Pattern). m.matches c) other),
       )
 
   same_by : (t : Tmpl) → TmplSame t

@@ -1,12 +1,10 @@
 -- The value of an expression that speaks of sources is one over models that agree but for the target, and has no object of the target: by
 -- recursion on the tree, a form at a time.
-use Rattle.std.specs.Prelude.{◌≡◌, ◌≢◌, ◌<◌, ℕ, zero, suc, List, [], ◌∷◌, ◌++◌, map, take, length, slice_index_or, Contains}
-use Rattle.std.specs.List.{flat_map, AllByRecursion}
+use Rattle.std.specs.Prelude.{◌≡◌, ◌≢◌, ℕ, zero, suc, List, [], ◌∷◌, ◌++◌, map, take, length, Contains}
+use Rattle.std.specs.List.{flat_map}
 use Rattle.std.proofs.Common.{refl, sym, ap, subst, ◌∙◌, arith}
-use Rattle.mof_metamodel.specs.declared.desc.ClassId.{ClassId}
 use Rattle.object_tables.specs.Models.{ModelData}
 use Rattle.qv_syntax.specs.declared.query.ModelSlot.{ModelSlot}
-use Rattle.qv_syntax.specs.declared.operator.Operator.{Operator}
 use Rattle.qv_syntax.specs.declared.ty.Ty.{Ty}
 use Rattle.qv_syntax.specs.declared.typed.Typed.{Typed, roll-Typed, map-Typed, ind-Typed, fold-roll-Typed}
 use Rattle.qv_syntax.specs.declared.typed.Node.{Node, roll-Node, map-Node, fold-roll-Node, out-roll-Node}
@@ -23,14 +21,14 @@ use Rattle.qvtr_semantics.specs.declared.out.Out.TheVariants as outs
 use Rattle.qvtr_semantics.specs.Outs.{Collection, boolean_of}
 use Rattle.qvtr_semantics.specs.Objects.{Setting, property}
 use Rattle.qvtr_semantics.specs.Iterators.{iterated, collect}
-use Rattle.qvtr_semantics.specs.Expressions.{Scope, Meaning, Operated, Called, Queries, variable, with_variable, operated, all_operated, all_called, in_scope, each, negation, negated, chosen, literal, operation, with_datum, with_collection, on_collection, class_operation, node_meaning, typed_meaning, infix_meaning, call_meaning, postfix_meaning, meaning}
+use Rattle.qvtr_semantics.specs.Expressions.{Scope, Meaning, Operated, Called, Queries, variable, with_variable, operated, all_operated, all_called, in_scope, each, negation, negated, chosen, literal, operation, with_datum, with_collection, on_collection, node_meaning, typed_meaning, infix_meaning, call_meaning, postfix_meaning, meaning}
 use Rattle.qvtr_semantics.proofs.ExpressionLaws.{node_of}
 use Rattle.source_laws.specs.Agreement.{AgreeBut}
 use Rattle.source_laws.specs.SourceValues.{IsOfSources, HasNoTarget}
 use Rattle.source_laws.specs.SourceExpressions.{AsksNoTargetExtent}
 use Rattle.template_match.proofs.ListLaws.{contains_first, contains_later, contains_left, contains_right}
 use Rattle.source_laws.proofs.DataLaws.{AllOfSources}
-use Rattle.source_laws.proofs.OperationLaws.{AllApart, integer_apart, operated_apart, negation_apart, negated_apart, chosen_apart, literal_apart, with_datum_apart, with_collection_apart, operation_apart, on_collection_apart, collect_apart, iterated_apart}
+use Rattle.source_laws.proofs.OperationLaws.{AllApart, integer_apart, operated_apart, negation_apart, negated_apart, chosen_apart, literal_apart, operation_apart, on_collection_apart, collect_apart, iterated_apart}
 use Rattle.source_laws.proofs.SettingLaws.{property_same, property_apart, class_operation_same, class_operation_apart, extent_same, extent_apart}
 
 module _ (t : ℕ) (slots : List ModelSlot) (ms ns : List ModelData) (agree : AgreeBut t ms ns) (q r : Queries) (Free : ℕ → Type 0) where
@@ -283,11 +281,10 @@ module _ (t : ℕ) (slots : List ModelSlot) (ms ns : List ModelData) (agree : Ag
       let more = others_fine condition.0 (this.0 ∷ that.0 ∷ []) parts in
       let asked = condition.1 (first_fine condition.0 (this.0 ∷ that.0 ∷ []) parts) x y scope in
       let left = this.1 (first_fine this.0 (that.0 ∷ []) more) x y scope in
-      let right = that.1 (first_fine that.0 [] (others_fine this.0 (that.0 ∷ []) more)) x y scope in
-      (
+      let right = that.1 (first_fine that.0 [] (others_fine this.0 (that.0 ∷ []) more)) x y scope in (
         ap (λ o. chosen (boolean_of o) (meaning s q this.0 x) (meaning s q that.0 x)) asked.0
-        ∙ ap (λ o. chosen (boolean_of (meaning u r condition.0 y)) o (meaning s q that.0 x)) left.0
-        ∙ ap (λ o. chosen (boolean_of (meaning u r condition.0 y)) (meaning u r this.0 y) o) right.0,
+            ∙ ap (λ o. chosen (boolean_of (meaning u r condition.0 y)) o (meaning s q that.0 x)) left.0
+            ∙ ap (λ o. chosen (boolean_of (meaning u r condition.0 y)) (meaning u r this.0 y) o) right.0,
         chosen_apart t (boolean_of (meaning s q condition.0 x)) (meaning s q this.0 x) (meaning s q that.0 x) left.1 right.1,
       ))
   node_layer (of.Coll kind elements) = node_by (of.Coll kind (expressions elements)) (λ parts own x y scope.
@@ -320,8 +317,7 @@ module _ (t : ℕ) (slots : List ModelSlot) (ms ns : List ModelData) (agree : Ag
       → (map (property s p values) ds ≡ map (property u p values) ds) × AllApart t (map (property s p values) ds)
   properties p values [] apart = (refl, tt)
   properties p values (d ∷ ds) apart =
-      let more = properties p values ds apart.1 in
-      (
+      let more = properties p values ds apart.1 in (
         ap (λ o. o ∷ map (property s p values) ds) (property_same t slots ms ns agree p values d apart.0) ∙ ap (λ os. property u p values d ∷ os) more.0,
         (property_apart t slots ms ns agree p values d apart.0, more.1),
       )
@@ -332,8 +328,7 @@ module _ (t : ℕ) (slots : List ModelSlot) (ms ns : List ModelData) (agree : Ag
   bodies n body fine x y scope [] apart = (refl, tt)
   bodies n body fine x y scope (d ∷ ds) apart =
       let first = body.1 fine (with_variable x n (outs.One d)) (with_variable y n (outs.One d)) (one_more n x y (outs.One d) (outs.One d) scope (refl, apart.0)) in
-      let more = bodies n body fine x y scope ds apart.1 in
-      (
+      let more = bodies n body fine x y scope ds apart.1 in (
         ap (λ o. o ∷ each x n (meaning s q body.0) ds) first.0 ∙ ap (λ os. meaning u r body.0 (with_variable y n (outs.One d)) ∷ os) more.0,
         (first.1, more.1),
       )
@@ -386,11 +381,10 @@ module _ (t : ℕ) (slots : List ModelSlot) (ms ns : List ModelData) (agree : Ag
   infix_layer z fine x y scope =
       let d = map-TypedInfix C N T I P Call Node Typed TypedInfix TypedPostfix (λ x. x.0) (λ x. x.0) (λ x. x.0) (λ x. x.0) (λ x. x.0) z in
       let one = fold-roll-TypedInfix Called Meaning Meaning Operated Called (call_meaning s) (node_meaning s q) typed_meaning infix_meaning postfix_meaning d in
-      let other = fold-roll-TypedInfix Called Meaning Meaning Operated Called (call_meaning u) (node_meaning u r) typed_meaning infix_meaning postfix_meaning d in
-      (
+      let other = fold-roll-TypedInfix Called Meaning Meaning Operated Called (call_meaning u) (node_meaning u r) typed_meaning infix_meaning postfix_meaning d in (
         ap (λ (m : Operated). m.operator) one ∙ sym (ap (λ (m : Operated). m.operator) other),
         alike_by ((infix_by s q (roll-TypedInfix d)).right x) ((infix_by u r (roll-TypedInfix d)).right y) (meaning s q z.right.0 x) (meaning u r z.right.0 y)
-        (ap (λ (m : Operated). m.right x) one) (ap (λ (m : Operated). m.right y) other) (z.right.1 fine x y scope),
+            (ap (λ (m : Operated). m.right x) one) (ap (λ (m : Operated). m.right y) other) (z.right.1 fine x y scope),
       )
 
   postfix_layer : (y : of.TypedPostfix-F C N T I P) → PostfixAlike (roll-TypedPostfix (map-TypedPostfix C N T I P Call Node Typed TypedInfix TypedPostfix (λ x. x.0) (λ x. x.0) (λ x. x.0) (λ x. x.0) (λ x. x.0) y))

@@ -1,5 +1,5 @@
 -- Calls that differ in objects of the target alone (QVT 1.3, sections 7.3 and 7.10.2).
-use Rattle.std.specs.Prelude.{◌≡◌, ℕ, List, [], ◌∷◌, Option, None, Some, is_some, slice_get}
+use Rattle.std.specs.Prelude.{◌≡◌, ℕ, List, Option, None, Some, is_some, slice_get}
 use Rattle.std.specs.List.{AllZip}
 use Rattle.qv_syntax.specs.declared.program.Program.{Program}
 use Rattle.qv_syntax.specs.declared.program.Rel.{Rel}

@@ -1,5 +1,5 @@
 -- Values without objects of the target model.
-use Rattle.std.specs.Prelude.{◌≢◌, ℕ, List}
+use Rattle.std.specs.Prelude.{◌≢◌, ℕ}
 use Rattle.std.specs.List.{AllByRecursion}
 use Rattle.qvtr_semantics.specs.declared.datum.Datum.{Datum}
 use Rattle.qvtr_semantics.specs.declared.datum.Datum.TheVariants.{Obj, Val}

@@ -20,7 +20,7 @@ ghost use Rattle.template_match.specs.Sources.{is_target_variable, meets_without
 ghost use Rattle.source_laws.specs.Agreement.{AgreeBut};
 ghost use Rattle.source_laws.specs.SourceValues.{IsOfSources, HasNoTarget};
 ghost use Rattle.source_laws.specs.SourceExpressions.{AsksNoTargetExtent, AsksNoTargetClass, SpeaksOfSources};
-ghost use Rattle.source_laws.specs.SourceRelations.{KeepsToSources, AgreeOnSources, AreSourceBindings, HavePlainArguments, IsApart};
+ghost use Rattle.source_laws.specs.SourceRelations.{NamesSources, KeepsToSources, AgreeOnSources, AreSourceBindings, HavePlainArguments, IsApart};
 ghost use Rattle.source_laws.specs.CallsAlike.{DifferInTargets, AllMadeAlike};
 ghost use Rattle.source_laws.specs.TargetRule.{HasConjunct, IsExpressionOf, HandsTargetOn};
 
@@ -88,13 +88,18 @@ pub fn rule_keeps_to_sources()
 {}
 
 /// Where a relation hands objects of the target only on, each of its expressions has one value over models that agree but for the target, for
-/// a binding in which only the variables for objects of the target have such objects; so conditions and equations hold alike, and what an
-/// equation gives its variable is no object of the target (QVT 1.3, section 7.10.2).
+/// a binding in which only the variables for objects of the target have such objects. In two bindings that differ in these alone an expression
+/// that names no such variable has one value, and the conditions and equations of the where clause hold alike. What an equation gives its
+/// variable is no object of the target (QVT 1.3, section 7.10.2).
 pub fn expressions_are_of_sources()
     ensures same { (program : Program) (ms ns : List ModelData) (rel : Rel) (e : Typed) (b : Values) → AgreeBut program.target ms ns → HandsTargetOn program rel
         → IsApart program rel b → IsExpressionOf rel e → value_for program ms e b ≡ value_for program ns e b }
-    ensures wheres { (program : Program) (ms ns : List ModelData) (rel : Rel) (b : Values) → AgreeBut program.target ms ns → HandsTargetOn program rel
-        → IsApart program rel b → list_all (conjunct_holds program ms b) rel.wheres ≡ list_all (conjunct_holds program ns b) rel.wheres }
+    ensures alike { (program : Program) (ms ns : List ModelData) (rel : Rel) (e : Typed) (b c : Values) → AgreeBut program.target ms ns → HandsTargetOn program rel
+        → IsApart program rel b → AgreeOnSources program rel b c → IsExpressionOf rel e → NamesSources program rel e
+        → value_for program ms e b ≡ value_for program ns e c }
+    ensures wheres { (program : Program) (ms ns : List ModelData) (number : ℕ) (rel : Rel) (b c : Values) → AreMeant program → slice_get program.rels number ≡ Some rel
+        → AgreeBut program.target ms ns → HandsTargetOn program rel → IsApart program rel b → AgreeOnSources program rel b c
+        → list_all (conjunct_holds program ms b) rel.wheres ≡ list_all (conjunct_holds program ns c) rel.wheres }
     ensures equations { (program : Program) (models : List ModelData) (rel : Rel) (v : ℕ) (e : Typed) (d : Datum) (b : Values) → HandsTargetOn program rel
         → IsApart program rel b → HasConjunct rel (Equation v e) → datum_of (value_for program models e b) ≡ Some d → IsOfSources program.target d }
 {}

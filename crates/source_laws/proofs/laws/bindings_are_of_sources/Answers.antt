@@ -1,4 +1,3 @@
-use Rattle.source_laws.specs.Agreement.{AgreeBut}
 use Rattle.std.proofs.Common.{refl}
 use Rattle.source_laws.proofs.AnswerLaws.{same_bindings}
 use Rattle.source_laws.proofs.BindingLaws.{meets_same, source_kept, source_moved, source_apart, opposite}
