@@ -20,7 +20,7 @@ use Rattle.qv_syntax.specs.declared.ty.Ty.TheVariants as types
 use Rattle.qv_syntax.specs.declared.typed.Typed.{Typed}
 use Rattle.qv_syntax.specs.Parts.{Names}
 use Rattle.qv_syntax.specs.Relations.{IsSourceDomain, IsTemplateOf, InConjunct, OccursInTemplates, OccursInClause, IsUniversal}
-use Rattle.qv_syntax.specs.Directions.{HasVariables, AreMeant}
+use Rattle.qv_syntax.specs.Directions.{HasVariables, HasEquations, AreMeant}
 use Rattle.qvtr_semantics.specs.declared.datum.Datum.{Datum}
 use Rattle.qvtr_semantics.specs.declared.datum.Datum.TheVariants.{Obj, Val}
 use Rattle.qvtr_semantics.specs.Outs.{datum_of, boolean_of}
@@ -64,7 +64,7 @@ among [] i x h = absurd (cc)
 among (y ∷ ys) zero x h = let same : y ≡ x = cc in (0, omega arith, same)
 among (y ∷ ys) (suc i) x h = let (k, within, is) = among ys i x h in (suc k, omega (arith, within), is)
 
-pub found_at : {X : Type 0} (xs : List X) (x : X) → Contains xs x → (i : ℕ) × (slice_get xs i ≡ Some x)
+found_at : {X : Type 0} (xs : List X) (x : X) → Contains xs x → (i : ℕ) × (slice_get xs i ≡ Some x)
 found_at [] x (k, within, is) = absurd (omega (arith, within))
 found_at (y ∷ ys) x (zero, within, is) = (0, ap (λ z. Some z) is)
 found_at (y ∷ ys) x (suc k, within, is) = let more = found_at ys x (k, omega (arith, within), is) in (suc more.0, more.1)
@@ -72,6 +72,11 @@ found_at (y ∷ ys) x (suc k, within, is) = let more = found_at ys x (k, omega (
 -- lists of models agree both ways
 pub opposite : (t : ℕ) (ms ns : List ModelData) → AgreeBut t ms ns → AgreeBut t ns ms
 opposite t ms ns agree m other = sym (agree m other)
+
+pub asked_in : (c : Conj) (e : Typed) → IsAsked c e → InConjunct c e
+asked_in (conjuncts.Cond x) e h = h
+asked_in (conjuncts.Equation v x) e h = h
+asked_in (conjuncts.Call n args) e h = absurd h
 
 -- ---- models of variables
 
@@ -84,6 +89,15 @@ source_variable program rel v c =
 not_target : (t m : ℕ) (model : Option ℕ) → is_model model m ≡ true → is_model model t ≡ false → m ≢ t
 not_target t m None h k = absurd (true≢false (sym h))
 not_target t m (Some n) h k = λ is. absurd (true≢false (sym (eq-eqb n t (eqb-true n m h ∙ is)) ∙ k))
+
+-- the variable of an equation is one of a data type
+pub subject_outside : (program : Program) (rel : Rel) (IsSought : ℕ → Type 0) (clause : List Conj) → HasVariables program rel → HasEquations rel IsSought clause → (v : ℕ) (e : Typed)
+    → Contains clause (conjuncts.Equation v e) → is_target_variable program rel v ≡ false
+subject_outside program rel IsSought clause variables equations v e within =
+    let place = found_at clause (conjuncts.Equation v e) within in
+    let (data_variable, sought, other, first) = equations.are place.0 v e place.1 in
+    let model : data_variable.var.model ≡ None = (variables.models data_variable.var (among rel.vars v data_variable.var data_variable.found)).data_value data_variable.data_type in
+    ap (is_of_target program) data_variable.found ∙ ap (λ m. is_model m program.target) model
 
 module _ (program : Program) (ms ns : List ModelData) (agree : AgreeBut program.target ms ns) where
   -- ---- the values that a variable may have
@@ -167,11 +181,6 @@ module _ (program : Program) (ms ns : List ModelData) (agree : AgreeBut program.
         let var = found_within rel.vars v within in
         had rel b v d have (Contains-to_filter (λ w. not (is_target_variable program rel w)) rel.universal v (ap not outside) ((variables.universal v var.0 var.1).1 is)) at
 
-    asked_in : (x : Conj) (e : Typed) → IsAsked x e → InConjunct x e
-    asked_in (conjuncts.Cond y) e h = h
-    asked_in (conjuncts.Equation v y) e h = h
-    asked_in (conjuncts.Call n args) e h = absurd h
-
     named : (e : Typed) (v : ℕ) → IsSourceExpression program rel e → Names e v → IsUniversal program rel v
     named e v (IsSourceExpression.item dom source of) names = IsUniversal.domain dom source (OccursInTemplates.item e of names)
     named e v (IsSourceExpression.asked x within asked) names = IsUniversal.when (OccursInClause.expression x e within (asked_in x e asked) names)
@@ -200,13 +209,8 @@ module _ (program : Program) (ms ns : List ModelData) (agree : AgreeBut program.
     domain_by dom true is within = refl
     domain_by dom false is within = domain_template dom dom.template refl (record { is = within; source = other_model dom is })
 
-    -- the variable of an equation is one of a data type
     subject_same : (v : ℕ) (e : Typed) → Contains rel.whens (conjuncts.Equation v e) → value_at b v ≡ value_at c v
-    subject_same v e within =
-        let place = found_at rel.whens (conjuncts.Equation v e) within in
-        let (data_variable, sought, other, first) = (meant number rel found).whens.are place.0 v e place.1 in
-        let model : data_variable.var.model ≡ None = (variables.models data_variable.var (among rel.vars v data_variable.var data_variable.found)).data_value data_variable.data_type in
-        both.same v (ap (is_of_target program) data_variable.found ∙ ap (λ m. is_model m program.target) model)
+    subject_same v e within = both.same v (subject_outside program rel (IsUniversal program rel) rel.whens variables (meant number rel found).whens v e within)
 
     conjunct_same : (x : Conj) → Contains rel.whens x → conjunct_holds program ms b x ≡ conjunct_holds program ns c x
     conjunct_same (conjuncts.Cond e) within = ap (λ o. is_known_true (boolean_of o)) (expression_same e (IsSourceExpression.asked (conjuncts.Cond e) within refl))

@@ -12,3 +12,4 @@ pub mod RuleLaws
 pub mod RelationLaws
 pub mod RootLaws
 pub mod AlikeLaws
+pub mod Examples

@@ -1,5 +1,5 @@
 -- Of a relation that hands objects of the target only on each expression has one value over models that agree but for the target.
-use Rattle.std.specs.Prelude.{◌≡◌, ℕ, false, List, Option, None, Some, Contains}
+use Rattle.std.specs.Prelude.{◌≡◌, ℕ, List, Option, None, Some, Contains}
 use Rattle.std.specs.List.{list_all}
 use Rattle.std.proofs.Common.{refl, ap, subst, ◌∙◌}
 use Rattle.object_tables.specs.Models.{ModelData}
@@ -15,8 +15,8 @@ use Rattle.qvtr_semantics.specs.Outs.{datum_of, boolean_of}
 use Rattle.qvtr_semantics.specs.Equality.{is_known_true}
 use Rattle.qvtr_semantics.specs.Expressions.{value_for}
 use Rattle.qvtr_semantics.specs.Templates.{Values, value_at}
-use Rattle.qvtr_semantics.specs.Bindings.{is_model, are_one, conjunct_holds}
-use Rattle.template_match.specs.Sources.{IsAsked, is_of_target, is_target_variable}
+use Rattle.qvtr_semantics.specs.Bindings.{are_one, conjunct_holds}
+use Rattle.template_match.specs.Sources.{IsAsked}
 use Rattle.source_laws.specs.Agreement.{AgreeBut}
 use Rattle.source_laws.specs.SourceValues.{IsOfSources, HasNoTarget}
 use Rattle.source_laws.specs.SourceExpressions.{SpeaksOfSources}
@@ -28,7 +28,7 @@ use Rattle.source_laws.proofs.QueryLaws.{value_alike, value_of_sources}
 use Rattle.source_laws.proofs.CallLaws.{argument_same}
 use Rattle.source_laws.proofs.RuleLaws.{plain_by}
 use Rattle.source_laws.proofs.TypingLaws.{is_in}
-use Rattle.source_laws.proofs.BindingLaws.{all_same, among, found_at}
+use Rattle.source_laws.proofs.BindingLaws.{all_same, subject_outside}
 
 pub datum_by : (t : ℕ) (o : Option Datum) (d : Datum) → IfOfSources t o → o ≡ Some d → IsOfSources t d
 datum_by t None d p is = absurd (cc)
@@ -58,15 +58,6 @@ module _ (program : Program) (ms ns : List ModelData) (agree : AgreeBut program.
       datum_by program.target (datum_of (value_for program ms e b)) d (datum_apart program.target (value_for program ms e b) (asked_alike (conjuncts.Equation v e) e there refl refl).1) is
 
 -- ---- in two bindings
-
--- the variable of an equation is one of a data type
-pub subject_outside : (program : Program) (rel : Rel) (IsSought : ℕ → Type 0) (clause : List Conj) → HasVariables program rel → HasEquations rel IsSought clause → (v : ℕ) (e : Typed)
-    → Contains clause (conjuncts.Equation v e) → is_target_variable program rel v ≡ false
-subject_outside program rel IsSought clause variables equations v e within =
-    let place = found_at clause (conjuncts.Equation v e) within in
-    let (data_variable, sought, other, first) = equations.are place.0 v e place.1 in
-    let model : data_variable.var.model ≡ None = (variables.models data_variable.var (among rel.vars v data_variable.var data_variable.found)).data_value data_variable.data_type in
-    ap (is_of_target program) data_variable.found ∙ ap (λ m. is_model m program.target) model
 
 module _ (program : Program) (ms ns : List ModelData) (agree : AgreeBut program.target ms ns) (rel : Rel) (rule : HandsTargetOn program rel) (b c : Values) (apart : IsApart program rel b)
     (both : AgreeOnSources program rel b c) where

@@ -17,18 +17,18 @@ use Rattle.qv_syntax.specs.declared.program.ItemValue.TheOpen as layers
 use Rattle.qv_syntax.specs.declared.program.Conj.{Conj}
 use Rattle.qv_syntax.specs.declared.program.Conj.TheVariants as conjuncts
 use Rattle.qv_syntax.specs.Parts.{Names}
-use Rattle.qv_syntax.specs.Relations.{IsModelDomain, IsSourceDomain, IsTemplateOf, IsItemExpression, InConjunct}
+use Rattle.qv_syntax.specs.Relations.{IsModelDomain, IsSourceDomain, IsTemplateOf, IsItemExpression}
 use Rattle.qv_syntax.specs.TypedTrees.{Typing}
 use Rattle.qv_syntax.specs.ProgramTypes.{context_of, typing_of, variables_of, IsGiven, IsItemOfType}
 use Rattle.qv_syntax.specs.Directions.{HasDomains}
 use Rattle.qv_syntax.specs.WellFormed.{IsWellFormed}
 use Rattle.qvtr_semantics.specs.Bindings.{is_model}
-use Rattle.template_match.specs.Sources.{is_of_target, is_target_variable, IsAsked}
+use Rattle.template_match.specs.Sources.{is_of_target, is_target_variable}
 use Rattle.source_laws.specs.SourceExpressions.{AsksNoTargetExtent, AsksNoTargetClass, SpeaksOfSources}
 use Rattle.source_laws.specs.SourceRelations.{IsSourceExpression, NamesSources, KeepsToSources, IsPlainArgument, HavePlainArguments}
 use Rattle.source_laws.specs.TargetRule.{HasConjunct, MayBeTarget, IsExpressionOf, HandsTargetOn}
 use Rattle.source_laws.proofs.TypingLaws.{is_in, none_some, variable_from, variable_is_in, alone_names, typed_alone}
-use Rattle.source_laws.proofs.BindingLaws.{among, found_within}
+use Rattle.source_laws.proofs.BindingLaws.{among, asked_in, found_within}
 
 -- ---- models of variables
 
@@ -50,6 +50,31 @@ mapped f (x ∷ xs) zero y h = (x, refl, same (f x) y h)
     same : {Z : Type 0} (a b : Z) → Some a ≡ Some b → a ≡ b
     same a b k = cc
 mapped f (x ∷ xs) (suc i) y h = mapped f xs i y h
+
+-- ---- values of items
+
+pub out_expr : (e : Typed) → out-ItemValue (items.Expr e) ≡ layers.Expr e
+out_expr e = ap out-ItemValue (sym (items.rolls-Expr e)) ∙ out-roll-ItemValue (layers.Expr e)
+
+out_null : out-ItemValue items.Null ≡ layers.Null
+out_null = ap out-ItemValue (sym items.rolls-Null) ∙ out-roll-ItemValue layers.Null
+
+pub out_nested : (t : Tmpl) → out-ItemValue (items.Nested t) ≡ layers.Nested t
+out_nested t = ap out-ItemValue (sym (items.rolls-Nested t)) ∙ out-roll-ItemValue (layers.Nested t)
+
+one_layer : (e f : Typed) → ◌≡◌ {A = layers.ItemValue-F ItemValue Item Tmpl} (layers.Expr e) (layers.Expr f) → e ≡ f
+one_layer e f h = cc
+
+pub expr_in : (e f : Typed) → items.Expr e ≡ items.Expr f → e ≡ f
+expr_in e f h = one_layer e f (sym (out_expr e) ∙ ap out-ItemValue h ∙ out_expr f)
+
+null_expr : (e : Typed) → ◌≡◌ {A = layers.ItemValue-F ItemValue Item Tmpl} layers.Null (layers.Expr e) → ⊥
+null_expr e h = cc
+
+pub nested_expr : (t : Tmpl) (e : Typed) → ◌≡◌ {A = layers.ItemValue-F ItemValue Item Tmpl} (layers.Nested t) (layers.Expr e) → ⊥
+nested_expr t e h = cc
+
+-- ---- what the rule gives
 
 -- an argument or an item that names a variable for objects of the target is this alone
 pub plain_by : (program : Program) (rel : Rel) (e : Typed) (o : Option ℕ) → is_in e.node ≡ o → HandsTargetOn program rel → MayBeTarget rel e → SpeaksOfSources program e → IsPlainArgument program rel e
@@ -118,27 +143,6 @@ module _ (metas : List MetaDesc) (program : Program) (formed : IsWellFormed meta
           same : (a b : ℕ) → Some a ≡ Some b → a ≡ b
           same a b k = cc
 
-  out_expr : (e : Typed) → out-ItemValue (items.Expr e) ≡ layers.Expr e
-  out_expr e = ap out-ItemValue (sym (items.rolls-Expr e)) ∙ out-roll-ItemValue (layers.Expr e)
-
-  out_null : out-ItemValue items.Null ≡ layers.Null
-  out_null = ap out-ItemValue (sym items.rolls-Null) ∙ out-roll-ItemValue layers.Null
-
-  out_nested : (t : Tmpl) → out-ItemValue (items.Nested t) ≡ layers.Nested t
-  out_nested t = ap out-ItemValue (sym (items.rolls-Nested t)) ∙ out-roll-ItemValue (layers.Nested t)
-
-  one_layer : (e f : Typed) → ◌≡◌ {A = layers.ItemValue-F ItemValue Item Tmpl} (layers.Expr e) (layers.Expr f) → e ≡ f
-  one_layer e f h = cc
-
-  expr_in : (e f : Typed) → items.Expr e ≡ items.Expr f → e ≡ f
-  expr_in e f h = one_layer e f (sym (out_expr e) ∙ ap out-ItemValue h ∙ out_expr f)
-
-  null_expr : (e : Typed) → ◌≡◌ {A = layers.ItemValue-F ItemValue Item Tmpl} layers.Null (layers.Expr e) → ⊥
-  null_expr e h = cc
-
-  nested_expr : (t : Tmpl) (e : Typed) → ◌≡◌ {A = layers.ItemValue-F ItemValue Item Tmpl} (layers.Nested t) (layers.Expr e) → ⊥
-  nested_expr t e h = cc
-
   value_given : (model meta : ℕ) (ty : Ty) (dom : Dom) (e : Typed) (is : IsItemExpression dom e) → IsItemOfType metas program rel model meta ty is.item
       → IsGiven metas program rel (record { ty = ty; model = Some model }) e
   value_given model meta ty dom e is (IsItemOfType.empty none) = absurd (null_expr e (sym out_null ∙ ap out-ItemValue (sym none ∙ is.is) ∙ out_expr e))
@@ -157,11 +161,6 @@ module _ (metas : List MetaDesc) (program : Program) (formed : IsWellFormed meta
           absurd (not_given d.model typed.of e v (other_model dom d source) (value_given d.model d.slot.meta typed.of dom e is typed.value)
           (alone_names e v (rule.alone e v (MayBeTarget.item dom source.is is) names target) names) target)
       by false none = refl
-
-  asked_in : (c : Conj) (e : Typed) → IsAsked c e → InConjunct c e
-  asked_in (conjuncts.Cond x) e h = h
-  asked_in (conjuncts.Equation v x) e h = h
-  asked_in (conjuncts.Call n args) e h = absurd h
 
   pub rule_keeps : HandsTargetOn program rel → KeepsToSources program rel
   rule_keeps rule = record { speaks = speaks; names = names; templates = template_of }

@@ -15,6 +15,7 @@ ghost use Rattle.qvtr_semantics.specs.Outs.{datum_of};
 ghost use Rattle.qvtr_semantics.specs.Bindings.{conjunct_holds};
 ghost use Rattle.qvtr_semantics.specs.Expressions.{value_for};
 ghost use Rattle.qvtr_semantics.specs.Templates.{Values, value_at};
+ghost use Rattle.qvtr_semantics.specs.SmallModels.{program, class_to_table};
 ghost use Rattle.qvtr_semantics.specs.Calls.{RelationCall, calls_of};
 ghost use Rattle.template_match.specs.Sources.{is_target_variable, meets_without_target, NamesNoTarget, SourceWithoutTarget};
 ghost use Rattle.source_laws.specs.Agreement.{AgreeBut};
@@ -102,4 +103,9 @@ pub fn expressions_are_of_sources()
         → list_all (conjunct_holds program ms b) rel.wheres ≡ list_all (conjunct_holds program ns c) rel.wheres }
     ensures equations { (program : Program) (models : List ModelData) (rel : Rel) (v : ℕ) (e : Typed) (d : Datum) (b : Values) → HandsTargetOn program rel
         → IsApart program rel b → HasConjunct rel (Equation v e) → datum_of (value_for program models e b) ≡ Some d → IsOfSources program.target d }
+{}
+
+/// ClassToTable of the standard, which calls PackageToSchema in its when clause, hands objects of the target only on.
+pub fn small_relation_hands_target_on()
+    ensures { HandsTargetOn program class_to_table }
 {}

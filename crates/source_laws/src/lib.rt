@@ -7,5 +7,5 @@ mod laws;
 
 pub use laws::{
     bindings_are_of_sources, calls_are_of_sources, expressions_are_of_sources,
-    rule_keeps_to_sources, values_are_of_sources,
+    rule_keeps_to_sources, small_relation_hands_target_on, values_are_of_sources,
 };
