@@ -1,4 +1,5 @@
--- The relation ClassToTable of the standard hands objects of the target only on: it names its schema alone, as an argument of a call.
+-- The relation ClassToTable of the standard hands objects of the target only on: it names its schema alone, as an argument of a call. Two lists
+-- of models that differ in the target agree but for it.
 use Rattle.std.specs.Prelude.{◌≡◌, codes, ◌⊎◌, ℕ, zero, suc, Bool, true, false, List, [], ◌∷◌, Some, Contains}
 use Rattle.std.specs.List.{AllByRecursion}
 use Rattle.std.proofs.Common.{refl, sym, ap, subst, ◌∙◌, arith, inl, inr}
@@ -23,9 +24,10 @@ use Rattle.qv_syntax.specs.declared.program.Conj.{Conj}
 use Rattle.qv_syntax.specs.declared.program.Conj.TheVariants as conjuncts
 use Rattle.qv_syntax.specs.Parts.{IsWithin, CallsQuery, IsNested, HasItem, node_parts}
 use Rattle.qv_syntax.specs.Relations.{IsItemExpression, InConjunct}
-use Rattle.qvtr_semantics.specs.SmallModels.{var, written, class, item, name_item, persistent_item, template, class_items, class_tmpl, table_items, table_tmpl, program, class_to_table}
+use Rattle.qvtr_semantics.specs.SmallModels.{var, written, class, item, name_item, persistent_item, template, class_items, class_tmpl, table_items, table_tmpl, program, class_to_table, both, one_only}
 use Rattle.template_match.specs.Sources.{IsAsked}
 use Rattle.template_match.proofs.ListLaws.{all_at}
+use Rattle.source_laws.specs.Agreement.{AgreeBut}
 use Rattle.source_laws.specs.SourceExpressions.{ComesTo, SpeaksOfSources}
 use Rattle.source_laws.specs.TargetRule.{HasConjunct, MayBeTarget, IsExpressionOf, IsVariableAlone, HandsTargetOn}
 use Rattle.source_laws.proofs.RuleLaws.{out_expr, out_nested, expr_in, nested_expr}
@@ -193,3 +195,8 @@ hands_on = record {
   alone = λ e v may names target. (names.0, v, leaf_alone e (record { ty = names.0; node = nodes.Variable v }) names.1 (plain_leaf e (may_plain e may)));
   named = λ c e there asked. absurd (subst (λ x. IsAsked x e) (sym (the_call c there)) asked);
 }
+
+pub small_agree : AgreeBut program.target both one_only
+small_agree zero other = refl
+small_agree (suc zero) other = absurd (other refl)
+small_agree (suc (suc m)) other = refl

@@ -11,7 +11,7 @@ use Rattle.qv_syntax.specs.Parts.{Names}
 use Rattle.qvtr_semantics.specs.declared.datum.Datum.{Datum}
 use Rattle.qvtr_semantics.specs.declared.out.Out.{Out}
 use Rattle.qvtr_semantics.specs.Objects.{Setting}
-use Rattle.qvtr_semantics.specs.Expressions.{Queries, variable, query_value, queries_within, bound_value, scope_of, value_for}
+use Rattle.qvtr_semantics.specs.Expressions.{Scope, Queries, variable, query_value, queries_within, bound_value, scope_of, value, value_for}
 use Rattle.qvtr_semantics.specs.Templates.{Values, value_at}
 use Rattle.source_laws.specs.Agreement.{AgreeBut}
 use Rattle.source_laws.specs.SourceValues.{IsOfSources, HasNoTarget}
@@ -63,26 +63,32 @@ length_scope : (b : Values) → length (scope_of b) ≡ length b
 length_scope [] = refl
 length_scope (o ∷ b) = ap suc (length_scope b)
 
--- An expression that speaks of sources has one value over models that agree but for the target, in bindings that agree on the variables
--- that it names, where these have no objects of the target; and the value has none.
-pub value_alike : (program : Program) (ms ns : List ModelData) (e : Typed) (b c : Values) → AgreeBut program.target ms ns → SpeaksOfSources program e
-    → length b ≡ length c → ((v : ℕ) → Names e v → value_at b v ≡ value_at c v)
-    → ((v : ℕ) (d : Datum) → Names e v → value_at b v ≡ Some d → IsOfSources program.target d)
-    → (value_for program ms e b ≡ value_for program ns e c) × HasNoTarget program.target (value_for program ms e b)
-value_alike program ms ns e b c agree speaks long same named =
+-- An expression that speaks of sources has one value over models that agree but for the target, in scopes that agree on the variables that it
+-- names, where these have no objects of the target; and the value has none.
+pub scope_alike : (program : Program) (ms ns : List ModelData) (e : Typed) (x y : Scope) → AgreeBut program.target ms ns → SpeaksOfSources program e
+    → length x ≡ length y → ((v : ℕ) → Names e v → (variable x v ≡ variable y v) × HasNoTarget program.target (variable x v))
+    → (value program ms e x ≡ value program ns e y) × HasNoTarget program.target (value program ms e x)
+scope_alike program ms ns e x y agree speaks long same =
     let t = program.target in
     let one : Setting = record { slots = program.models; models = ms } in
     let other : Setting = record { slots = program.models; models = ns } in
     let n = length program.queries in
     same_meaning t program.models ms ns agree (queries_within program.queries one n) (queries_within program.queries other n) (Names e) e speaks.own (λ v names. names)
-    (λ q calls. queries_alike t program.models ms ns agree program.queries e speaks.called n q (ComesTo.itself q calls))
-    (scope_of b) (scope_of c) (length_scope b ∙ long ∙ sym (length_scope c))
+    (λ q calls. queries_alike t program.models ms ns agree program.queries e speaks.called n q (ComesTo.itself q calls)) x y long same
+
+-- the same in bindings
+pub value_alike : (program : Program) (ms ns : List ModelData) (e : Typed) (b c : Values) → AgreeBut program.target ms ns → SpeaksOfSources program e
+    → length b ≡ length c → ((v : ℕ) → Names e v → value_at b v ≡ value_at c v)
+    → ((v : ℕ) (d : Datum) → Names e v → value_at b v ≡ Some d → IsOfSources program.target d)
+    → (value_for program ms e b ≡ value_for program ns e c) × HasNoTarget program.target (value_for program ms e b)
+value_alike program ms ns e b c agree speaks long same named =
+    scope_alike program ms ns e (scope_of b) (scope_of c) agree speaks (length_scope b ∙ long ∙ sym (length_scope c))
     (λ v names. (
       variable_is b v ∙ ap bound_value (same v names) ∙ sym (variable_is c v),
-      subst (HasNoTarget t) (sym (variable_is b v)) (bound_apart t (value_at b v) (λ d at. named v d names at)),
+      subst (HasNoTarget program.target) (sym (variable_is b v)) (bound_apart program.target (value_at b v) (λ d at. named v d names at)),
     ))
 
--- the same in one binding
+-- and in one binding
 pub value_of_sources : (program : Program) (ms ns : List ModelData) (e : Typed) (b : Values) → AgreeBut program.target ms ns → SpeaksOfSources program e
     → ((v : ℕ) (d : Datum) → Names e v → value_at b v ≡ Some d → IsOfSources program.target d)
     → (value_for program ms e b ≡ value_for program ns e b) × HasNoTarget program.target (value_for program ms e b)

@@ -13,9 +13,9 @@ ghost use Rattle.qv_syntax.specs.WellFormed.{IsWellFormed};
 ghost use Rattle.qvtr_semantics.specs.declared.datum.Datum.{Datum};
 ghost use Rattle.qvtr_semantics.specs.Outs.{datum_of};
 ghost use Rattle.qvtr_semantics.specs.Bindings.{conjunct_holds};
-ghost use Rattle.qvtr_semantics.specs.Expressions.{value_for};
+ghost use Rattle.qvtr_semantics.specs.Expressions.{Scope, variable, value, value_for};
 ghost use Rattle.qvtr_semantics.specs.Templates.{Values, value_at};
-ghost use Rattle.qvtr_semantics.specs.SmallModels.{program, class_to_table};
+ghost use Rattle.qvtr_semantics.specs.SmallModels.{program, class_to_table, both, one_only};
 ghost use Rattle.qvtr_semantics.specs.Calls.{RelationCall, calls_of};
 ghost use Rattle.template_match.specs.Sources.{is_target_variable, meets_without_target, NamesNoTarget, SourceWithoutTarget};
 ghost use Rattle.source_laws.specs.Agreement.{AgreeBut};
@@ -25,9 +25,12 @@ ghost use Rattle.source_laws.specs.SourceRelations.{NamesSources, KeepsToSources
 ghost use Rattle.source_laws.specs.CallsAlike.{DifferInTargets, AllMadeAlike};
 ghost use Rattle.source_laws.specs.TargetRule.{HasConjunct, IsExpressionOf, HandsTargetOn};
 
-/// An expression that speaks of sources has one value over models that agree but for the target, and no object of the target in it, where
-/// the variables that it names have none (QVT 1.3, section 7.10.2).
+/// An expression that speaks of sources has one value over models that agree but for the target, in scopes that agree on the variables that it
+/// names, and no object of the target in it, where these variables have none (QVT 1.3, section 7.10.2).
 pub fn values_are_of_sources()
+    ensures scopes { (program : Program) (ms ns : List ModelData) (e : Typed) (x y : Scope) → AgreeBut program.target ms ns → SpeaksOfSources program e
+        → length x ≡ length y → ((v : ℕ) → Names e v → (variable x v ≡ variable y v) × HasNoTarget program.target (variable x v))
+        → (value program ms e x ≡ value program ns e y) × HasNoTarget program.target (value program ms e x) }
     ensures same { (program : Program) (ms ns : List ModelData) (e : Typed) (b : Values) → AgreeBut program.target ms ns → SpeaksOfSources program e
         → ((v : ℕ) (d : Datum) → Names e v → value_at b v ≡ Some d → IsOfSources program.target d)
         → value_for program ms e b ≡ value_for program ns e b }
@@ -105,7 +108,9 @@ pub fn expressions_are_of_sources()
         → IsApart program rel b → HasConjunct rel (Equation v e) → datum_of (value_for program models e b) ≡ Some d → IsOfSources program.target d }
 {}
 
-/// ClassToTable of the standard, which calls PackageToSchema in its when clause, hands objects of the target only on.
+/// ClassToTable of the standard, which calls PackageToSchema in its when clause, hands objects of the target only on; and two lists of models,
+/// with two schemas in the target and with one, agree but for it.
 pub fn small_relation_hands_target_on()
-    ensures { HandsTargetOn program class_to_table }
+    ensures rule { HandsTargetOn program class_to_table }
+    ensures agree { AgreeBut program.target both one_only }
 {}
