@@ -7,7 +7,7 @@ use Rattle.std.proofs.lemmas.List.Elements.{All-weaker}
 use Rattle.mof_metamodel.specs.declared.desc.MetaDesc.{MetaDesc}
 use Rattle.mof_metamodel.specs.declared.desc.ClassId.{ClassId}
 use Rattle.mof_metamodel.specs.declared.desc.EnumId.{EnumId}
-use Rattle.mof_metamodel.specs.declared.limits.TheConstants.{MAX_RESULT}
+use Rattle.qvtr_semantics.specs.declared.limits.TheConstants.{MAX_RESULT}
 use Rattle.mof_metamodel.specs.Metamodels.{Conforms}
 use Rattle.mof_metamodel.specs.Characters.{is_storable_text}
 use Rattle.mof_metamodel.proofs.ReachLemmas.{conforms_through}
