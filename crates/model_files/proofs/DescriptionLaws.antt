@@ -8,7 +8,7 @@ use Rattle.std.proofs.lemmas.List.FromFn.{length-range_with_len}
 use Rattle.mof_metamodel.specs.declared.desc.MetaDesc.{MetaDesc}
 use Rattle.mof_metamodel.specs.MetaFaults.{IsFirstFault}
 use Rattle.mof_metamodel.specs.WellMeta.{WellMeta}
-use Rattle.mof_metamodel.proofs.ClosureLemmas.{filter_step}
+use Rattle.mof_metamodel.proofs.WalkLemmas.{filter_step}
 use Rattle.object_tables.specs.Models.{ModelData}
 use Rattle.model_files.specs.declared.fault.FileError.{FileError}
 use Rattle.model_files.specs.declared.fault.FileError.TheVariants as errors

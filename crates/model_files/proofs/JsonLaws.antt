@@ -23,7 +23,7 @@ use Rattle.mof_metamodel.specs.declared.desc.PropType.{PropType}
 use Rattle.mof_metamodel.specs.declared.desc.PropType.TheVariants as types
 use Rattle.mof_metamodel.specs.Metamodels.{props_of, prop_at, type_of, opposite_of, enum_at}
 use Rattle.mof_metamodel.specs.Tables.{prop_numbers}
-use Rattle.mof_metamodel.proofs.ClosureLemmas.{filter_step}
+use Rattle.mof_metamodel.proofs.WalkLemmas.{filter_step}
 use Rattle.object_tables.specs.declared.value.ObjId.{ObjId}
 use Rattle.object_tables.specs.declared.value.Value.{Value}
 use Rattle.object_tables.specs.declared.value.Value.TheVariants as values

@@ -4,7 +4,7 @@ use Rattle.std.specs.Prelude.{◌==◌, ◌↔◌, IsTrue, Contains, is_some}
 use Rattle.std.specs.Option.{option_map}
 use Rattle.std.specs.List.{slice_index_or, filter, range_with_len}
 use Rattle.std.proofs.lemmas.List.{map-append}
-use Rattle.mof_metamodel.proofs.ClosureLemmas.{filter_step}
+use Rattle.mof_metamodel.proofs.WalkLemmas.{filter_step}
 use Rattle.std.proofs.lemmas.Bool.{eqb-true, true≢false}
 use Rattle.std.proofs.lemmas.List.Folds.{list_any_at, Any-from_list_any}
 use Rattle.mof_metamodel.specs.declared.desc.MetaDesc.{MetaDesc}

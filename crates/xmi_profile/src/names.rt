@@ -165,7 +165,7 @@ fn behind_on(
 pub(crate) fn is_all_blank(text: &str) -> bool
     ensures { result ≡ texts.is_all_blank (chars text.now) }
 {
-    text.chars().all(is_blank_character)
+    text.chars().all(|c| is_blank_character(c))
 }
 
 /// What stands behind the first of these characters.
