@@ -1,0 +1,16 @@
+pub mod Terms
+pub mod EntryValues
+pub mod TargetItems
+pub mod Making
+pub mod Unmet
+pub mod Entries
+pub mod EntryOrder
+pub mod EntryChains
+pub mod Demands
+pub mod Claims
+pub mod Conflicts
+pub mod Images
+pub mod Deletions
+pub mod CandidateObjects
+pub mod Candidates
+pub mod Reports

@@ -1,0 +1,15 @@
+//! What a repair of the target model means (QVT 1.3, section 7.2 on enforcement; which model is made is this engine's own). The
+//! definitions stand in `specs/`, over models as lists and sets; here are the types of what they speak of.
+#![tactic(auto)]
+
+mod demand;
+mod entry;
+mod laws;
+mod report;
+mod term;
+
+pub use demand::{Clash, Demand};
+pub use laws::all_read;
+pub use entry::{Entry, EntryName, Place};
+pub use report::Report;
+pub use term::{Term, TermValue};
