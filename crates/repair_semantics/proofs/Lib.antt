@@ -1,2 +1,7 @@
 pub mod TermLaws
+pub mod TieLaws
 pub mod ItemLaws
+pub mod RepairRows
+pub mod EntryRows
+pub mod ConflictRows
+pub mod UnmetRows

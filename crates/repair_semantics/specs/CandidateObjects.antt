@@ -48,6 +48,7 @@ term_number program m terms t = number_of program m terms (object_for program m 
 abbrev pub fresh_id : ℕ → List ℕ
 fresh_id k = codes "n" ++ decimal k
 
+-- the object has the identifier
 abbrev pub has_id : List ℕ → Option Object → Bool
 has_id id ob = option_map_or (λ o. same_name id o.id) ob false
 

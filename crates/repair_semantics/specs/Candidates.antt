@@ -7,6 +7,7 @@ use Rattle.std.specs.Option.{option_map, option_and_then, option_map_or}
 use Rattle.std.specs.Ordering.{nat_cmp}
 use Rattle.std.specs.declared.cmp.Ordering.{Ordering}
 use Rattle.std.specs.declared.cmp.Ordering.TheVariants.{Less, Greater}
+use Rattle.mof_metamodel.specs.declared.desc.MetaDesc.{MetaDesc}
 use Rattle.mof_metamodel.specs.Metamodels.{props_of}
 use Rattle.object_tables.specs.declared.value.Value.{Value}
 use Rattle.object_tables.specs.Objects.{Object, Slot}
@@ -21,24 +22,27 @@ use Rattle.repair_semantics.specs.Demands.{demanded_terms}
 use Rattle.repair_semantics.specs.Claims.{Held, Fact, Spot, Said, Claim, claims_of, is_against, same_held}
 use Rattle.repair_semantics.specs.Conflicts.{fact_of}
 use Rattle.repair_semantics.specs.Images.{same_number, held_in}
-use Rattle.repair_semantics.specs.Deletions.{stays}
+use Rattle.repair_semantics.specs.Deletions.{managed_classes, images_of, stays}
 use Rattle.repair_semantics.specs.CandidateObjects.{fresh_terms, term_number, unused_ids}
 
 -- ---- demands by the numbers of objects
 
+-- what a slot holds, an object by its number
 abbrev pub held_by_number : (Term → Option ℕ) → Held Term → Option (Held ℕ)
 held_by_number number (Held.datum d) = Some (Held.datum d)
 held_by_number number (Held.object t) = option_map (λ n. Held.object n) (number t)
 
+-- what a demand says, its objects by their numbers
 abbrev pub fact_by_number : (Term → Option ℕ) → Fact Term → Option (Fact ℕ)
 fact_by_number number f = option_and_then (λ o. option_map (λ h. record { owner = o; prop = f.prop; holds = h }) (held_by_number number f.holds)) (number f.owner)
 
--- what the demands claim in the candidate
-abbrev pub demanded_claims : Program → ModelData → List Demand → List (Claim ℕ)
-demanded_claims program m demands = flat_map (claims_of m.meta) (filter_map (λ d. fact_by_number (term_number program m (demanded_terms demands)) (fact_of d)) demands)
+-- what demands claim, where the objects of terms have these numbers
+abbrev pub claims_by_number : MetaDesc → (Term → Option ℕ) → List Demand → List (Claim ℕ)
+claims_by_number meta number demands = flat_map (claims_of meta) (filter_map (λ d. fact_by_number number (fact_of d)) demands)
 
 -- ---- slots
 
+-- what a claim puts into a slot, if it is one of that slot
 abbrev pub element_at : ℕ → ℕ → Spot ℕ → Said ℕ → Option (Held ℕ)
 element_at o p (Spot.slot a q) (Said.element h) = if (a == o) && (q == p) then Some h else None
 element_at o p spot said = None
@@ -59,6 +63,7 @@ abbrev pub is_left : (ℕ → Bool) → Held ℕ → Bool
 is_left live (Held.datum d) = true
 is_left live (Held.object b) = live b
 
+-- that an object holds something at a property
 abbrev pub fact_at : ℕ → ℕ → Held ℕ → Fact ℕ
 fact_at o p h = record { owner = o; prop = p; holds = h }
 
@@ -74,17 +79,21 @@ others_than kept hs = filter (λ h. not (list_any (same_held same_number h) kept
 abbrev pub with_claimed : List (Held ℕ) → List (Held ℕ) → List (Held ℕ)
 with_claimed kept claimed = kept ++ each_once held_order (others_than kept claimed)
 
+-- what the slot of an object at a property holds
 abbrev pub contents_at : Program → ModelData → (ℕ → Bool) → List (Claim ℕ) → ℕ → ℕ → List (Held ℕ)
 contents_at program m live claims o p = with_claimed (kept_at program m live claims o p) (claimed_at claims o p)
 
+-- the value, if it is a datum
 abbrev pub value_held : Held ℕ → Option Value
 value_held (Held.datum d) = value_of_datum d
 value_held (Held.object b) = None
 
+-- the number, if it is an object
 abbrev pub partner_held : Held ℕ → Option ℕ
 partner_held (Held.datum d) = None
 partner_held (Held.object b) = Some b
 
+-- a slot as models have it
 abbrev pub slot_with : List (Held ℕ) → Slot
 slot_with hs = record { values = filter_map value_held hs; partners = filter_map partner_held hs }
 
@@ -99,6 +108,7 @@ abbrev pub old_object : Program → ModelData → (ℕ → Bool) → List (Claim
 old_object program m live claims o None = None
 old_object program m live claims o (Some ob) = if live o then Some (record ob { slots = slots_of program m live claims o ob.class }) else None
 
+-- the objects of the target by their numbers
 abbrev pub old_objects : Program → ModelData → (ℕ → Bool) → List (Claim ℕ) → List (Option Object)
 old_objects program m live claims = map (λ o. old_object program m live claims o (object_at m o)) (range_with_len 0 (length m.objects))
 
@@ -112,12 +122,17 @@ fresh_objects program m live claims o [] ids = []
 fresh_objects program m live claims o ts [] = []
 fresh_objects program m live claims o (t ∷ ts) (id ∷ ids) = fresh_object program m live claims o t id ∷ fresh_objects program m live claims (suc o) ts ids
 
+-- the model with these fresh terms, where so objects stay and so much is claimed
 abbrev pub candidate_with : Program → ModelData → (ℕ → Bool) → List (Claim ℕ) → List Term → ModelData
 candidate_with program m live claims fresh = record m {
   objects = old_objects program m live claims ++ fresh_objects program m live claims (length m.objects) fresh (unused_ids m (length fresh));
 }
 
+-- the model that enforcing the demands makes, of which these terms are demanded
+abbrev pub candidate_by : Program → ModelData → List Demand → List Term → ModelData
+candidate_by program m demands terms =
+    candidate_with program m (stays m (managed_classes program) (images_of program m terms)) (claims_by_number m.meta (term_number program m terms) demands) (fresh_terms program m terms)
+
 -- the model that enforcing the demands makes of the target
 abbrev pub candidate : Program → ModelData → List Demand → ModelData
-candidate program m demands =
-    candidate_with program m (stays program m (demanded_terms demands)) (demanded_claims program m demands) (fresh_terms program m (demanded_terms demands))
+candidate program m demands = candidate_by program m demands (demanded_terms demands)

@@ -29,12 +29,14 @@ pub data Said (X : Type 0) : Type 0 where
   element : Held X → Said X
   within : X → ℕ → Said X
 
+-- that something stands at a place
 pub record Claim (X : Type 0) : Type 0 where
   pub spot : Spot X
   pub said : Said X
 
 -- ---- the claims of a fact
 
+-- what a composite property says: the part has this container
 abbrev pub part_claim : {X : Type 0} → Bool → X → X → ℕ → List (Claim X)
 part_claim true part whole p = record { spot = Spot.container part; said = Said.within whole p } ∷ []
 part_claim false part whole p = []
@@ -44,6 +46,7 @@ abbrev pub opposite_claims : {X : Type 0} → MetaDesc → X → X → Option �
 opposite_claims meta a b None = []
 opposite_claims meta a b (Some q) = record { spot = Spot.slot b q; said = Said.element (Held.object a) } ∷ part_claim (prop_at meta q).composite a b q
 
+-- what a link says beyond its own slot
 abbrev pub far_claims : {X : Type 0} → MetaDesc → X → ℕ → Held X → List (Claim X)
 far_claims meta a p (Held.datum d) = []
 far_claims meta a p (Held.object b) = opposite_claims meta a b (opposite_of meta p) ++ part_claim (prop_at meta p).composite b a p
@@ -54,6 +57,7 @@ claims_of meta f = record { spot = Spot.slot f.owner f.prop; said = Said.element
 
 -- ---- claims that exclude each other
 
+-- the upper bound is 1
 abbrev pub is_one : Option ℕ → Bool
 is_one None = false
 is_one (Some n) = n == 1
@@ -63,16 +67,19 @@ abbrev pub is_single_spot : {X : Type 0} → MetaDesc → Spot X → Bool
 is_single_spot meta (Spot.slot x p) = is_one (prop_at meta p).upper
 is_single_spot meta (Spot.container x) = true
 
+-- the slots hold the same, where objects are told apart by a test
 abbrev pub same_held : {X : Type 0} → (X → X → Bool) → Held X → Held X → Bool
 same_held same (Held.datum d) (Held.datum e) = same_datum d e
 same_held same (Held.object x) (Held.object y) = same x y
 same_held same h i = false
 
+-- the places are one
 abbrev pub same_spot : {X : Type 0} → (X → X → Bool) → Spot X → Spot X → Bool
 same_spot same (Spot.slot x p) (Spot.slot y q) = same x y && (p == q)
 same_spot same (Spot.container x) (Spot.container y) = same x y
 same_spot same s t = false
 
+-- the same stands there
 abbrev pub same_said : {X : Type 0} → (X → X → Bool) → Said X → Said X → Bool
 same_said same (Said.element h) (Said.element i) = same_held same h i
 same_said same (Said.within x p) (Said.within y q) = same x y && (p == q)

@@ -12,6 +12,7 @@ use Rattle.repair_semantics.specs.declared.demand.Clash.{Clash}
 use Rattle.repair_semantics.specs.Terms.{same_term}
 use Rattle.repair_semantics.specs.Claims.{Held, Fact, Spot, Claim, claims_of, are_against}
 
+-- a value as what a slot holds
 abbrev pub held_in : of.TermValue-F TermValue Term → Held Term
 held_in (of.Val d) = Held.datum d
 held_in (of.Term t) = Held.object t

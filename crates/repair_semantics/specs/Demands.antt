@@ -16,6 +16,7 @@ use Rattle.repair_semantics.specs.TargetItems.{TargetItem, target_items}
 use Rattle.repair_semantics.specs.Making.{content_value, entry_known}
 use Rattle.repair_semantics.specs.Unmet.{is_unmet}
 
+-- the demand, where there are an owner and a value
 abbrev pub demand_by : ℕ → TargetItem → Option Term → Option TermValue → Option Demand
 demand_by number item (Some owner) (Some v) = Some (record { entry = number; owner = owner; prop = item.prop; value = v })
 demand_by number item owner v = None
@@ -28,6 +29,7 @@ item_demand program models k number item = demand_by number item (term_of k.valu
 abbrev pub item_demands : Program → List ModelData → Known → ℕ → List TargetItem → List Demand
 item_demands program models k number items = filter_map (item_demand program models k number) items
 
+-- the demands of an entry in which so much is known
 abbrev pub demands_where : Program → List ModelData → ℕ → Rel → Known → List Demand
 demands_where program models number rel k = if is_unmet program models rel k then [] else item_demands program models k number (target_items program rel)
 

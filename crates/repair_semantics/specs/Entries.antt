@@ -59,6 +59,7 @@ entry_of program models number rel called b = record { rel = number; called = ca
 abbrev pub entry_values : Entry → Rel → TermValues
 entry_values e rel = map (λ v. option_or (value_of e.values v) (value_of e.made v)) (variables rel)
 
+-- the values of the roots of the domains of a relation
 abbrev pub roots_in : Entry → Option Rel → List (Option TermValue)
 roots_in e None = []
 roots_in e (Some rel) = map (λ dom. value_of (entry_values e rel) dom.root) rel.domains
@@ -83,6 +84,7 @@ AreMatches program [] [] = Unit {0}
 AreMatches program (Some c ∷ cs) (e ∷ es) = IsMatchFor program c e × AreMatches program cs es
 AreMatches program cs es = ⊥
 
+-- the calls of the where clause of an entry in which so much is known
 abbrev pub calls_where : Program → List ModelData → Rel → Known → List EntryName
 calls_where program models rel k = if is_unmet program models rel k then [] else filter_map (λ c. c) (calls_in program models k rel.wheres)
 

@@ -46,10 +46,12 @@ pub record IsDeepList (chain : List EntryName) : Type 0 where
   pub calls : length chain ≡ suc MAX_CALLS
   pub distinct : AllPairs (λ c d. c ≢ d) chain
 
+-- a chain that comes back to one of its calls
 pub record CyclicEntries (program : Program) (models : List ModelData) (chain : List EntryName) : Type 0 where
   pub reached : EntryChain program models chain
   pub cyclic : IsCyclicList chain
 
+-- a chain with one call more than it may have
 pub record DeepEntries (program : Program) (models : List ModelData) (chain : List EntryName) : Type 0 where
   pub reached : EntryChain program models chain
   pub deep : IsDeepList chain

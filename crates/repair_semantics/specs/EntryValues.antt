@@ -27,6 +27,7 @@ use Rattle.repair_semantics.specs.Terms.{datum_in, term_in}
 abbrev pub TermValues : Type 0
 TermValues = List (Option TermValue)
 
+-- the value of a variable
 abbrev pub value_of : TermValues → ℕ → Option TermValue
 value_of b v = slice_index_or b v None
 
@@ -48,6 +49,7 @@ TermsExtend a b = (v : ℕ) (x : TermValue) → value_of a v ≡ Some x → valu
 abbrev pub no_values : Rel → TermValues
 no_values rel = replicate (length rel.vars) None
 
+-- values with those of the roots of some domains
 abbrev pub with_roots : TermValues → List Dom → List TermValue → TermValues
 with_roots b [] xs = b
 with_roots b doms [] = b
@@ -59,6 +61,7 @@ root_values rel xs = with_roots (no_values rel) rel.domains xs
 
 -- ---- values of expressions
 
+-- the variable, if the node is one
 abbrev pub variable_at : nodes.Node-F Call Node Typed TypedInfix TypedPostfix → Option ℕ
 variable_at (nodes.Variable number) = Some number
 variable_at node = None
@@ -80,6 +83,7 @@ known b = record { values = b; scope = scope_of (data_in b) }
 abbrev pub given_out : Out → Option TermValue
 given_out out = option_map (λ d. values.Val d) (datum_of out)
 
+-- the value of an expression, which may be this variable alone
 abbrev pub given_by : Program → List ModelData → Known → Typed → Option ℕ → Option TermValue
 given_by program models k e None = given_out (value program models e k.scope)
 given_by program models k e (Some v) = value_of k.values v
@@ -88,6 +92,7 @@ given_by program models k e (Some v) = value_of k.values v
 abbrev pub given_value : Program → List ModelData → Known → Typed → Option TermValue
 given_value program models k e = given_by program models k e (variable_alone e)
 
+-- the variable is one for objects of the target
 abbrev pub is_target_one : Program → Rel → Option ℕ → Bool
 is_target_one program rel None = false
 is_target_one program rel (Some v) = is_target_variable program rel v

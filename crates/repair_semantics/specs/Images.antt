@@ -13,6 +13,7 @@ use Rattle.repair_semantics.specs.declared.term.TermValue.TheOpen as of
 use Rattle.repair_semantics.specs.TargetItems.{target_meta_number, key_of}
 use Rattle.repair_semantics.specs.Claims.{Held, same_held}
 
+-- the numbers are one
 abbrev pub same_number : ℕ → ℕ → Bool
 same_number m n = m == n
 
@@ -32,6 +33,7 @@ holds_key program m o [] [] = true
 holds_key program m o (p ∷ ps) (Some h ∷ hs) = holds program m o p.0 h && holds_key program m o ps hs
 holds_key program m o ps hs = false
 
+-- the first of a list
 abbrev pub first_number : List ℕ → Option ℕ
 first_number [] = None
 first_number (o ∷ os) = Some o
@@ -46,6 +48,7 @@ abbrev pub value_image : of.TermValue-F (Option (Held ℕ)) (Option ℕ) → Opt
 value_image (of.Val d) = Some (Held.datum d)
 value_image (of.Term o) = option_map (λ n. Held.object n) o
 
+-- the image of a term by those of its key values
 abbrev pub term_image : Program → ModelData → of.Term-F (Option (Held ℕ)) (Option ℕ) → Option ℕ
 term_image program m t = object_with_key program m t.class.0 t.keys (key_of program t.class.0)
 

@@ -14,3 +14,4 @@ pub mod Deletions
 pub mod CandidateObjects
 pub mod Candidates
 pub mod Reports
+pub mod SmallRepairs

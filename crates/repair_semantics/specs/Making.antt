@@ -33,6 +33,7 @@ equation_of [] v = None
 equation_of (conjuncts.Equation w e ∷ cs) v = if w == v then Some e else equation_of cs v
 equation_of (c ∷ cs) v = equation_of cs v
 
+-- the value of the equation, if there is one, else the value before
 abbrev pub by_equation : Program → List ModelData → Scope → Out → Option Typed → Out
 by_equation program models scope before None = before
 by_equation program models scope before (Some e) = value program models e scope
@@ -58,6 +59,7 @@ content_value program models k Content.empty = None
 content_value program models k (Content.expression e) = given_value program models k e
 content_value program models k (Content.template v) = value_of k.values v
 
+-- the item stands in the template of the variable, at the property
 abbrev pub is_item_at : ℕ → ℕ → TargetItem → Bool
 is_item_at v p item = (item.owner == v) && (item.prop.0 == p)
 
@@ -65,6 +67,7 @@ is_item_at v p item = (item.owner == v) && (item.prop.0 == p)
 abbrev pub first_item : List TargetItem → ℕ → ℕ → Option TargetItem
 first_item items v p = find (is_item_at v p) items
 
+-- the number is there, and is this one
 abbrev pub is_option_of : Option ℕ → ℕ → Bool
 is_option_of None n = false
 is_option_of (Some m) n = m == n
@@ -78,6 +81,7 @@ abbrev pub parent_value : Program → List ModelData → Known → ℕ → Optio
 parent_value program models k p None = None
 parent_value program models k p (Some item) = if is_option_of (opposite_of (target_metamodel program models) item.prop.0) p then value_of k.values item.owner else None
 
+-- the value of the item, if there is one, else the object of the template around
 abbrev pub key_value_by : Program → List ModelData → Known → ℕ → Option TargetItem → Option TargetItem → Option TermValue
 key_value_by program models k p None around = parent_value program models k p around
 key_value_by program models k p (Some item) around = content_value program models k item.content
@@ -86,9 +90,11 @@ key_value_by program models k p (Some item) around = content_value program model
 abbrev pub key_value : Program → List ModelData → List TargetItem → Known → ℕ → PropId → Option TermValue
 key_value program models items k v p = key_value_by program models k p.0 (first_item items v p.0) (item_around items v)
 
+-- the term of a class with these key values
 abbrev pub keyed : ℕ → List TermValue → TermValue
 keyed class xs = values.Term (roll-Term (record { class = record { 0 = class }; keys = xs }))
 
+-- the term of a class with the key values of the template of a variable
 abbrev pub term_by : Program → List ModelData → List TargetItem → Known → ℕ → ℕ → Option TermValue
 term_by program models items k v class = option_and_then (λ props. option_map (keyed class) (all_given (map (key_value program models items k v) props))) (key_of program class)
 
@@ -96,6 +102,7 @@ term_by program models items k v class = option_and_then (λ props. option_map (
 abbrev pub made_term : Program → List ModelData → Rel → List TargetItem → Known → ℕ → Option TermValue
 made_term program models rel items k v = option_and_then (term_by program models items k v) (class_of_variable rel v)
 
+-- the value of a variable, or else the datum that its equation gives
 abbrev pub value_or_datum : TermValues → Scope → ℕ → Option TermValue
 value_or_datum b scope v = option_or (value_of b v) (given_out (variable scope v))
 
@@ -116,9 +123,11 @@ known_by program models rel items b scope = record {
   scope = scope;
 }
 
+-- all that is known in an entry with these values
 abbrev pub entry_known : Program → List ModelData → Rel → TermValues → Known
 entry_known program models rel b = known_by program models rel (target_items program rel) b (entry_scope program models rel b)
 
+-- the values of the variables that have none before
 abbrev pub others_in : Rel → TermValues → TermValues → TermValues
 others_in rel b all = map (λ v. if is_some (value_of b v) then None else value_of all v) (variables rel)
 

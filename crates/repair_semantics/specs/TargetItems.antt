@@ -47,14 +47,17 @@ pub record TemplatePart : Type 0 where
 abbrev pub ItemPart : Type 0
 ItemPart = ℕ → List TargetItem
 
+-- a content, with the items of the template that it is
 abbrev pub content_part : of.ItemValue-F ContentPart ItemPart TemplatePart → ContentPart
 content_part of.Null = record { content = Content.empty; within = [] }
 content_part (of.Expr e) = record { content = Content.expression e; within = [] }
 content_part (of.Nested t) = record { content = Content.template t.var; within = t.items }
 
+-- an item behind the variable of its template, with those within it
 abbrev pub item_part : of.Item-F ContentPart ItemPart TemplatePart → ItemPart
 item_part i owner = record { owner = owner; prop = i.prop; content = i.value.content } ∷ i.value.within
 
+-- a template, with all items in it
 abbrev pub template_part : of.Tmpl-F ContentPart ItemPart TemplatePart → TemplatePart
 template_part t = record { var = t.var; items = flat_map (λ part. part t.var) t.items }
 
@@ -68,6 +71,7 @@ parts = fold-Tmpl ContentPart ItemPart TemplatePart content_part item_part templ
 abbrev pub target_domain : Program → Rel → Option Dom
 target_domain program rel = find (is_target_domain program) rel.domains
 
+-- the root variable of the target domain
 abbrev pub target_root : Program → Rel → Option ℕ
 target_root program rel = option_map (λ dom. dom.root) (target_domain program rel)
 
@@ -75,6 +79,7 @@ target_root program rel = option_map (λ dom. dom.root) (target_domain program r
 abbrev pub target_items : Program → Rel → List TargetItem
 target_items program rel = option_map_or (λ t. (parts t).items) (option_and_then (λ dom. dom.template) (target_domain program rel)) []
 
+-- the variable of the template that a content is
 abbrev pub variable_of : Content → Option ℕ
 variable_of Content.empty = None
 variable_of (Content.expression e) = None
@@ -84,6 +89,7 @@ variable_of (Content.template v) = Some v
 abbrev pub nested_variables : Program → Rel → List ℕ
 nested_variables program rel = filter_map (λ item. variable_of item.content) (target_items program rel)
 
+-- the class that a type is
 abbrev pub class_in : Ty → Option ℕ
 class_in (types.Class meta class) = Some class.0
 class_in ty = None
@@ -94,6 +100,7 @@ class_of_variable rel v = option_and_then (λ var. class_in var.ty) (slice_get r
 
 -- ---- the target's metamodel, and keys
 
+-- a metamodel without classes
 abbrev pub no_metamodel : MetaDesc
 no_metamodel = record { name = []; classes = []; enums = [] }
 
@@ -105,6 +112,7 @@ target_metamodel program models = option_map_or (λ m. m.meta) (slice_get models
 abbrev pub target_meta_number : Program → ℕ
 target_meta_number program = meta_number (slice_get program.models program.target)
 
+-- the key is that of the class of the target
 abbrev pub is_key_of : Program → ℕ → Key → Bool
 is_key_of program class key = (key.meta == target_meta_number program) && (key.class.0 == class)
 

@@ -27,11 +27,13 @@ is_content_lacking program models rel k Content.empty = true
 is_content_lacking program models rel k (Content.expression e) = is_lacking program models rel k e
 is_content_lacking program models rel k (Content.template v) = false
 
+-- the places of items that lack their values
 abbrev pub item_places : Program → List ModelData → Rel → Known → List TargetItem → List Place
 item_places program models rel k [] = []
 item_places program models rel k (item ∷ items) =
     if is_content_lacking program models rel k item.content then places.Item item.prop ∷ item_places program models rel k items else item_places program models rel k items
 
+-- a condition isn't true, or an equation or an argument lacks its value
 abbrev pub is_conjunct_unmet : Program → List ModelData → Rel → Known → Conj → Bool
 is_conjunct_unmet program models rel k (conjuncts.Cond e) = not (is_known_true (boolean_of (value program models e k.scope)))
 is_conjunct_unmet program models rel k (conjuncts.Equation v e) = is_none (datum_of (value program models e k.scope))
@@ -44,6 +46,7 @@ conjunct_places program models rel k before (c ∷ cs) =
     if is_conjunct_unmet program models rel k c then places.Where (suc before) ∷ conjunct_places program models rel k (suc before) cs
     else conjunct_places program models rel k (suc before) cs
 
+-- the first of some places
 abbrev pub first_place : List Place → Option Place
 first_place [] = None
 first_place (p ∷ ps) = Some p

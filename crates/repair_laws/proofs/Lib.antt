@@ -1,0 +1,4 @@
+mod HeldLaws
+mod ImageLaws
+mod ObjectLaws
+mod DemandedLaws

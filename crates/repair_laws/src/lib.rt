@@ -1,0 +1,11 @@
+//! What the model that enforcement makes keeps (QVT 1.3, section 7.2): laws on the definitions of `repair_semantics` alone.
+#![tactic(auto)]
+
+mod images;
+mod objects;
+
+pub use images::different_terms_have_different_images;
+pub use objects::{
+    demanded_terms_have_objects, different_terms_have_different_objects, images_stay,
+    numbers_of_fresh_objects_lead_back,
+};
