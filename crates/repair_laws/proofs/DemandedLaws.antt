@@ -87,7 +87,7 @@ module _ (program : Program) (m : ModelData) (terms : List Term) where
       ap (λ b. b || (not (is_number_among o images) && option_map_or (is_deleted_within m classes images n) (container_of m o) false)) (needed classes images o among)
       ∙ ap (λ b. not b && option_map_or (is_deleted_within m classes images n) (container_of m o) false) among
 
-  live_object : (class o : ℕ) → conforms_at m class o ≡ true → is_some (object_at m o) ≡ true
+  pub live_object : (class o : ℕ) → conforms_at m class o ≡ true → is_some (object_at m o) ≡ true
   live_object class o h = by (object_at m o) h
     where
       by : (x : Option Object) → conforms_if m.meta class (option_map (λ ob. ob.class) x) ≡ true → is_some x ≡ true

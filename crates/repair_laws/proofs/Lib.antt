@@ -2,3 +2,5 @@ mod HeldLaws
 mod ImageLaws
 mod ObjectLaws
 mod DemandedLaws
+mod IdentifierLaws
+mod CandidateLaws

@@ -25,17 +25,17 @@ got_at (x ∷ xs) zero d within = refl
 got_at (x ∷ xs) (suc k) d within = got_at xs k d (omega (arith, within))
 
 module _ (program : Program) (m : ModelData) (terms : List Term) where
-  abbrev fresh : List Term
+  abbrev pub fresh : List Term
   fresh = fresh_terms program m terms
 
   -- the place of a fresh object among them
-  record HasPlace (t : Term) (n : ℕ) : Type 0 where
-    place : ℕ
-    number : n ≡ length m.objects + place
-    within : place < length fresh
-    is : (d : Term) → get_or fresh place d ≡ t
+  pub record HasPlace (t : Term) (n : ℕ) : Type 0 where
+    pub place : ℕ
+    pub number : n ≡ length m.objects + place
+    pub within : place < length fresh
+    pub is : (d : Term) → get_or fresh place d ≡ t
 
-  fresh_place : (t : Term) (n : ℕ) → number_of program m terms (CandidateObject.fresh t) ≡ Some n → HasPlace t n
+  pub fresh_place : (t : Term) (n : ℕ) → number_of program m terms (CandidateObject.fresh t) ≡ Some n → HasPlace t n
   fresh_place t n h = by (position (same_term t) fresh) refl h
     where
       by : (p : Option ℕ) → position (same_term t) fresh ≡ p → option_map (λ k. length m.objects + k) p ≡ Some n → HasPlace t n

@@ -1,5 +1,5 @@
 -- A conflict computed: two demands give one schema two names.
-use Rattle.std.specs.Prelude.{◌≡◌, ℕ, Bool, ◌&&◌, not, ◌==◌, List, [], ◌∷◌, codes, Contains, IsTrue}
+use Rattle.std.specs.Prelude.{◌≡◌, ℕ, Bool, ◌&&◌, not, ◌==◌, List, codes, Contains, IsTrue}
 use Rattle.std.proofs.Common.{refl, ap, sym, subst, arith}
 use Rattle.object_tables.specs.declared.value.Value.TheVariants as values
 use Rattle.qvtr_semantics.specs.declared.datum.Datum.TheVariants.{Val}
@@ -7,9 +7,8 @@ use Rattle.qvtr_semantics.specs.SmallModels.{rdb}
 use Rattle.repair_semantics.specs.declared.term.Term.{Term}
 use Rattle.repair_semantics.specs.declared.term.TermValue.{out-roll-TermValue}
 use Rattle.repair_semantics.specs.declared.term.TermValue.TheOpen as of
-use Rattle.repair_semantics.specs.declared.demand.Demand.{Demand}
 use Rattle.repair_semantics.specs.Terms.{same_term}
-use Rattle.repair_semantics.specs.Claims.{Held, Fact, Claim, claims_of, is_single_spot, same_said, are_against}
+use Rattle.repair_semantics.specs.Claims.{Held, Fact, claims_of, is_single_spot, same_said, are_against}
 use Rattle.repair_semantics.specs.Conflicts.{held_in, fact_of, AreInConflict}
 use Rattle.repair_semantics.specs.SmallRepairs.{schema, text_value, demand, first_name, second_name, two_names, name_claim}
 use Rattle.repair_semantics.proofs.TieLaws.{ties_are_one}

@@ -1,21 +1,18 @@
 -- Entries of two relations computed: what they make of a package with a persistent class.
-use Rattle.std.specs.Prelude.{◌≡◌, ℕ, List, [], ◌∷◌, map, codes, Option, None, Some}
+use Rattle.std.specs.Prelude.{◌≡◌, ℕ, List, [], ◌∷◌, map, codes, None, Some}
 use Rattle.std.specs.Option.{option_map}
-use Rattle.std.proofs.Common.{refl, ap, ◌∙◌}
-use Rattle.object_tables.specs.Models.{ModelData}
-use Rattle.qv_syntax.specs.declared.program.Program.{Program}
+use Rattle.std.proofs.Common.{ap, ◌∙◌}
 use Rattle.qv_syntax.specs.declared.program.Rel.{Rel}
 use Rattle.qv_syntax.specs.declared.ty.Ty.{Ty}
 use Rattle.qv_syntax.specs.declared.ty.Ty.TheVariants as types
-use Rattle.qv_syntax.specs.declared.typed.Node.{out-Node, out-roll-Node}
+use Rattle.qv_syntax.specs.declared.typed.Node.{out-roll-Node}
 use Rattle.qv_syntax.specs.declared.typed.Call.TheOpen as nodes
 use Rattle.qvtr_semantics.specs.Outs.{all_given}
-use Rattle.qvtr_semantics.specs.SmallModels.{var, table_tmpl, name_item, template, package_to_schema, class_to_table}
-use Rattle.repair_semantics.specs.declared.term.TermValue.{TermValue}
-use Rattle.repair_semantics.specs.EntryValues.{TermValues, Known, variable_at, variable_alone, given_by, given_value, value_of}
-use Rattle.repair_semantics.specs.TargetItems.{TargetItem, parts}
+use Rattle.qvtr_semantics.specs.SmallModels.{var, package_to_schema, class_to_table}
+use Rattle.repair_semantics.specs.EntryValues.{TermValues, Known, variable_at, variable_alone, given_by}
+use Rattle.repair_semantics.specs.TargetItems.{TargetItem}
 use Rattle.repair_semantics.specs.Making.{variables, entry_scope, value_or_datum, values_within, keyed, known_by, others_in, made_values}
-use Rattle.repair_semantics.specs.SmallRepairs.{two_relations, text_value, term_value, schema, packages_of_shop, package_values, class_values, package_made, class_made}
+use Rattle.repair_semantics.specs.SmallRepairs.{two_relations, term_value, schema, packages_of_shop, package_values, class_values, package_made, class_made}
 use Rattle.repair_semantics.proofs.RepairRows.{template_with, named, within, schema_parts, table_parts}
 
 -- a variable alone
@@ -43,12 +40,12 @@ pub schema_is_made : made_values two_relations packages_of_shop package_to_schem
 schema_is_made =
     ap (λ p. made_by package_to_schema package_values p.items) schema_parts
     ∙ ap (λ a. None ∷ None ∷ option_map (keyed 1) (all_given (given_by two_relations packages_of_shop (known_after package_to_schema package_values schema_items 2) (var 0 types.Str) a ∷ [])) ∷ [])
-        (variable_is 0 types.Str)
+    (variable_is 0 types.Str)
 
 -- a table by its schema and its name
 pub table_is_made : made_values two_relations packages_of_shop class_to_table class_values ≡ class_made
 table_is_made =
     ap (λ p. made_by class_to_table class_values p.items) table_parts
     ∙ ap (λ a. None ∷ None ∷ None ∷ option_map (keyed 2) (all_given (Some (term_value (schema (codes "shop")))
-        ∷ given_by two_relations packages_of_shop (known_after class_to_table class_values table_items 4) (var 0 types.Str) a ∷ [])) ∷ None ∷ [])
-        (variable_is 0 types.Str)
+    ∷ given_by two_relations packages_of_shop (known_after class_to_table class_values table_items 4) (var 0 types.Str) a ∷ [])) ∷ None ∷ [])
+    (variable_is 0 types.Str)

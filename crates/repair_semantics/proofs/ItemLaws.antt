@@ -7,7 +7,7 @@ use Rattle.qv_syntax.specs.declared.program.Item.{Item, fold-Item, fold-roll-Ite
 use Rattle.qv_syntax.specs.declared.program.ItemValue.{ItemValue, roll-ItemValue, fold-ItemValue, fold-roll-ItemValue}
 use Rattle.qv_syntax.specs.declared.program.ItemValue.TheOpen as of
 use Rattle.qv_syntax.specs.declared.typed.Typed.{Typed}
-use Rattle.repair_semantics.specs.TargetItems.{Content, TargetItem, ContentPart, TemplatePart, ItemPart, content_part, item_part, template_part, parts}
+use Rattle.repair_semantics.specs.TargetItems.{Content, ContentPart, TemplatePart, ItemPart, content_part, item_part, template_part, parts}
 
 abbrev pub content_of : ItemValue → ContentPart
 content_of = fold-ItemValue ContentPart ItemPart TemplatePart content_part item_part template_part

@@ -1,8 +1,9 @@
 -- Small repairs computed: nothing is demanded; two objects hold a key; a table is made, one is kept and one goes.
-use Rattle.std.specs.Prelude.{◌≡◌, ◌+◌, ℕ, true, false, cond, is_none, List, [], ◌∷◌, ◌++◌, map, length, codes, Option, None, Some}
+use Rattle.std.specs.Prelude.{◌≡◌, ◌+◌, ℕ, cond, is_none, List, [], ◌∷◌, ◌++◌, map, codes, Option, None, Some}
 use Rattle.std.specs.List.{cons_option, filter_map, flat_map, position}
 use Rattle.std.specs.Option.{option_map, option_map_or, option_and_then}
-use Rattle.std.proofs.Common.{refl, ap, ◌∙◌}
+use Rattle.std.proofs.Common.{refl, ap, ◌∙◌, arith}
+use Rattle.std.proofs.lemmas.Fmt.{decimal_digit}
 use Rattle.object_tables.specs.declared.value.Value.TheVariants as values
 use Rattle.object_tables.specs.Models.{ModelData}
 use Rattle.qv_syntax.specs.declared.program.Program.{Program}
@@ -10,7 +11,6 @@ use Rattle.qv_syntax.specs.declared.program.Item.{Item}
 use Rattle.qv_syntax.specs.declared.program.ItemValue.{ItemValue, roll-ItemValue}
 use Rattle.qv_syntax.specs.declared.program.ItemValue.TheOpen as items
 use Rattle.qv_syntax.specs.declared.ty.Ty.TheVariants as types
-use Rattle.qv_syntax.specs.declared.typed.Typed.{Typed}
 use Rattle.qvtr_semantics.specs.declared.datum.Datum.TheVariants.{Val}
 use Rattle.qvtr_semantics.specs.SmallModels.{rdb, var, item, name_item, template, table_items, table_tmpl, package_to_schema, class_to_table}
 use Rattle.repair_semantics.specs.declared.term.Term.{Term}
@@ -18,14 +18,14 @@ use Rattle.repair_semantics.specs.declared.term.TermValue.{out-TermValue, out-ro
 use Rattle.repair_semantics.specs.declared.term.TermValue.TheOpen as of
 use Rattle.repair_semantics.specs.declared.demand.Demand.{Demand}
 use Rattle.repair_semantics.specs.Terms.{same_term}
-use Rattle.repair_semantics.specs.TargetItems.{Content, TargetItem, ContentPart, TemplatePart, ItemPart, content_part, item_part, template_part, variable_of, parts}
+use Rattle.repair_semantics.specs.TargetItems.{ContentPart, TemplatePart, ItemPart, content_part, item_part, template_part, variable_of, parts}
 use Rattle.repair_semantics.specs.Images.{image, term_image}
 use Rattle.repair_semantics.specs.Claims.{Held, Fact, Claim, claims_of}
 use Rattle.repair_semantics.specs.Conflicts.{held_in, fact_of}
 use Rattle.repair_semantics.specs.Deletions.{classes_in, managed_classes, images_of, stays}
-use Rattle.repair_semantics.specs.CandidateObjects.{CandidateObject, fresh_terms, number_of, term_number}
+use Rattle.repair_semantics.specs.CandidateObjects.{CandidateObject, fresh_id, fresh_terms, number_of, term_number}
 use Rattle.repair_semantics.specs.Candidates.{held_by_number, fact_by_number, claims_by_number, candidate_with, candidate_by, candidate}
-use Rattle.repair_semantics.specs.SmallRepairs.{two_relations, text_value, term, term_value, schema, table, demand, with_remark, remark_alone, twice, one_of_two, one_demand, shop, shop_term, order_term, product_term, shop_terms, shop_demands, shop_repaired}
+use Rattle.repair_semantics.specs.SmallRepairs.{two_relations, text_value, term_value, schema, table, demand, with_remark, remark_alone, twice, one_of_two, one_demand, shop, shop_term, order_term, product_term, shop_terms, shop_demands, shop_with, shop_repaired}
 use Rattle.repair_semantics.proofs.TermLaws.{image_of_value, image_is, image_of_datum, image_of_term}
 use Rattle.repair_semantics.proofs.TieLaws.{ties_are_one}
 use Rattle.repair_semantics.proofs.ItemLaws.{content_of, item_of, of_expression, of_template, item_is, template_is}
@@ -235,9 +235,10 @@ candidate_is program m ds terms classes images claims fresh a b c d =
     ∙ ap (λ x. candidate_with program m (stays m classes images) x (fresh_terms program m terms)) c
     ∙ ap (λ x. candidate_with program m (stays m classes images) claims x) d
 
-shop_computed : candidate_with two_relations shop (stays shop (1 ∷ 2 ∷ []) (0 ∷ 1 ∷ [])) shop_claims (product_term ∷ []) ≡ shop_repaired
+shop_computed : candidate_with two_relations shop (stays shop (1 ∷ 2 ∷ []) (0 ∷ 1 ∷ [])) shop_claims (product_term ∷ []) ≡ shop_with (fresh_id 0)
 unfolding denote.Hole.Carrier.out denote.Hole.Carrier.roll
 shop_computed = refl
 
 pub shop_is_repaired : candidate_by two_relations shop shop_demands shop_terms ≡ shop_repaired
 shop_is_repaired = candidate_is two_relations shop shop_demands shop_terms (1 ∷ 2 ∷ []) (0 ∷ 1 ∷ []) shop_claims (product_term ∷ []) managed images_are claims_are product_is_fresh ∙ shop_computed
+    ∙ ap (λ digits. shop_with (codes "n" ++ digits)) (decimal_digit 0 (omega arith))

@@ -1,7 +1,6 @@
 -- What the definitions on terms give for a term with these key values, form by form.
 use Rattle.std.specs.Prelude.{◌≡◌, ℕ, suc, List, map, Option, Some}
 use Rattle.std.specs.Option.{option_map}
-use Rattle.std.specs.declared.cmp.Ordering.{Ordering}
 use Rattle.mof_metamodel.specs.declared.desc.ClassId.{ClassId}
 use Rattle.object_tables.specs.Models.{ModelData}
 use Rattle.qv_syntax.specs.declared.program.Program.{Program}

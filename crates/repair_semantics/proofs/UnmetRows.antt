@@ -1,9 +1,8 @@
 -- Places at which entries are unmet, computed: a condition that isn't true, and an item whose value is null.
-use Rattle.std.specs.Prelude.{◌≡◌, ℕ, Bool, false, ◌&&◌, ◌++◌, not, List, [], ◌∷◌, Option, None, Some, is_none, if◌then◌else◌}
-use Rattle.std.proofs.Common.{refl, ap, ◌∙◌}
+use Rattle.std.specs.Prelude.{◌≡◌, ℕ, false, ◌&&◌, ◌++◌, not, List, [], ◌∷◌, Option, Some, is_none, if◌then◌else◌}
+use Rattle.std.proofs.Common.{ap, ◌∙◌}
 use Rattle.qv_syntax.specs.declared.program.ItemValue.{roll-ItemValue}
 use Rattle.qv_syntax.specs.declared.program.ItemValue.TheOpen as items
-use Rattle.qv_syntax.specs.declared.program.Rel.{Rel}
 use Rattle.qv_syntax.specs.declared.ty.Ty.TheVariants as types
 use Rattle.qv_syntax.specs.declared.typed.Typed.{Typed}
 use Rattle.qv_syntax.specs.declared.typed.Node.{roll-Node, out-roll-Node, fold-roll-Node}
@@ -18,12 +17,12 @@ use Rattle.qvtr_semantics.proofs.ExpressionLaws.{typed_is}
 use Rattle.qvtr_semantics.specs.SmallModels.{var, item, template}
 use Rattle.repair_semantics.specs.declared.entry.Place.{Place}
 use Rattle.repair_semantics.specs.declared.entry.Place.TheVariants as places
-use Rattle.repair_semantics.specs.EntryValues.{Known, known, variable_at, variable_alone, is_target_one, given_by, given_out}
-use Rattle.repair_semantics.specs.TargetItems.{ContentPart, TargetItem, content_part, parts}
-use Rattle.repair_semantics.specs.Unmet.{first_place, unmet_places, conjunct_places, unmet_at}
+use Rattle.repair_semantics.specs.EntryValues.{Known, known, variable_at, is_target_one, given_by, given_out}
+use Rattle.repair_semantics.specs.TargetItems.{ContentPart, content_part, parts}
+use Rattle.repair_semantics.specs.Unmet.{first_place, unmet_places, unmet_at}
 use Rattle.repair_semantics.specs.SmallRepairs.{two_relations, packages_of_shop, package_values, never, nothing, nameless}
 use Rattle.repair_semantics.proofs.ItemLaws.{of_expression}
-use Rattle.repair_semantics.proofs.RepairRows.{item_with, template_with, named, item_asks, template_asks, schema_parts}
+use Rattle.repair_semantics.proofs.RepairRows.{item_with, template_with, item_asks, template_asks, schema_parts}
 use Rattle.repair_semantics.proofs.EntryRows.{variable_is}
 
 abbrev sets : Setting

@@ -1,8 +1,8 @@
 -- The objects of the model that enforcement makes: the objects of the target that stay, under their numbers, and after them a fresh one for each
 -- demanded term without an image, in the order of terms (this engine's own).
-use Rattle.std.specs.Prelude.{ℕ, ◌+◌, ◌-◌, nat_lt, Bool, false, not, List, [], ◌∷◌, ◌++◌, map, length, take, codes, Option, None, Some, is_none, slice_get, if◌then◌else◌}
+use Rattle.std.specs.Prelude.{ℕ, ◌+◌, ◌-◌, nat_lt, Bool, false, not, List, ◌++◌, map, length, take, codes, Option, Some, is_none, slice_get, if◌then◌else◌}
 use Rattle.std.specs.List.{list_any, filter, position, range_with_len}
-use Rattle.std.specs.Option.{option_map, option_or, option_map_or}
+use Rattle.std.specs.Option.{option_map, option_map_or}
 use Rattle.std.specs.Fmt.{decimal}
 use Rattle.mof_metamodel.specs.Characters.{same_name}
 use Rattle.object_tables.specs.Objects.{Object}

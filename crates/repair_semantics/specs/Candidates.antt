@@ -1,9 +1,9 @@
 -- The model that enforcement makes of the target (QVT 1.3, section 7.2 on enforcement; which model it is, is this engine's own): the demanded
 -- values and links, and each old one between objects that stay which no demand displaces. In each slot the old elements keep their order, and
 -- new ones follow, values in value order and partners by number.
-use Rattle.std.specs.Prelude.{ℕ, suc, Bool, true, false, ◌&&◌, not, ◌==◌, List, [], ◌∷◌, ◌++◌, map, length, Option, None, Some, if◌then◌else◌}
-use Rattle.std.specs.List.{list_any, filter, filter_map, flat_map, zip, range_with_len}
-use Rattle.std.specs.Option.{option_map, option_and_then, option_map_or}
+use Rattle.std.specs.Prelude.{ℕ, suc, Bool, true, ◌&&◌, not, ◌==◌, List, [], ◌∷◌, ◌++◌, map, length, Option, None, Some, if◌then◌else◌}
+use Rattle.std.specs.List.{list_any, filter, filter_map, flat_map, range_with_len}
+use Rattle.std.specs.Option.{option_map, option_and_then}
 use Rattle.std.specs.Ordering.{nat_cmp}
 use Rattle.std.specs.declared.cmp.Ordering.{Ordering}
 use Rattle.std.specs.declared.cmp.Ordering.TheVariants.{Less, Greater}

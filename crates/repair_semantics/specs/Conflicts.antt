@@ -1,9 +1,9 @@
 -- Conflicts: two demands, possibly of one entry, with claims of one single place that differ: a single attribute with two values, a single link
 -- end with two partners, an object with two containers or two container properties (that such demands are refused is this engine's own).
-use Rattle.std.specs.Prelude.{◌≡◌, ◌<◌, ℕ, List, Option, None, Some, slice_get, Contains, IsTrue}
+use Rattle.std.specs.Prelude.{◌≡◌, ◌<◌, ℕ, List, Some, slice_get, Contains, IsTrue}
 use Rattle.mof_metamodel.specs.declared.desc.MetaDesc.{MetaDesc}
 use Rattle.mof_metamodel.specs.declared.desc.PropId.{PropId}
-use Rattle.repair_semantics.specs.declared.term.Term.{Term, out-Term}
+use Rattle.repair_semantics.specs.declared.term.Term.{Term}
 use Rattle.repair_semantics.specs.declared.term.TermValue.{TermValue, out-TermValue}
 use Rattle.repair_semantics.specs.declared.term.TermValue.TheOpen as of
 use Rattle.repair_semantics.specs.declared.entry.Entry.{Entry}

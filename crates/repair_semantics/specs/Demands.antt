@@ -2,7 +2,7 @@
 -- objects of the target that they speak of.
 use Rattle.std.specs.Prelude.{ℕ, suc, List, [], ◌∷◌, ◌++◌, Option, None, Some, slice_get, if◌then◌else◌}
 use Rattle.std.specs.List.{filter_map, flat_map}
-use Rattle.std.specs.Option.{option_map, option_map_or, option_and_then, option_to_list}
+use Rattle.std.specs.Option.{option_map_or, option_to_list}
 use Rattle.object_tables.specs.Models.{ModelData}
 use Rattle.qv_syntax.specs.declared.program.Program.{Program}
 use Rattle.qv_syntax.specs.declared.program.Rel.{Rel}

@@ -12,7 +12,6 @@ use Rattle.qv_syntax.specs.declared.typed.TypedPostfix.{TypedPostfix}
 use Rattle.qv_syntax.specs.declared.typed.Node.{Node, out-Node}
 use Rattle.qv_syntax.specs.declared.typed.Call.{Call}
 use Rattle.qv_syntax.specs.declared.typed.Call.TheOpen as nodes
-use Rattle.qvtr_semantics.specs.declared.datum.Datum.{Datum}
 use Rattle.qvtr_semantics.specs.Outs.{datum_of}
 use Rattle.qvtr_semantics.specs.declared.out.Out.{Out}
 use Rattle.qvtr_semantics.specs.Expressions.{Scope, value, scope_of}

@@ -1,12 +1,11 @@
 -- The object of a model that a term is: its image (QVT 1.3, section 7.10.2: a key tells the objects of a class apart).
 use Rattle.std.specs.Prelude.{ℕ, Bool, true, false, ◌&&◌, ◌==◌, List, [], ◌∷◌, map, Option, None, Some, if◌then◌else◌}
 use Rattle.std.specs.List.{list_any, filter}
-use Rattle.std.specs.Option.{option_map, option_and_then}
+use Rattle.std.specs.Option.{option_map}
 use Rattle.mof_metamodel.specs.declared.desc.PropId.{PropId}
 use Rattle.mof_metamodel.specs.Metamodels.{type_of}
 use Rattle.object_tables.specs.Models.{ModelData, is_class_type, values_at, partners_at}
 use Rattle.qv_syntax.specs.declared.program.Program.{Program}
-use Rattle.qvtr_semantics.specs.declared.datum.Datum.{Datum}
 use Rattle.qvtr_semantics.specs.Objects.{value_datum, extent_of}
 use Rattle.repair_semantics.specs.declared.term.Term.{Term, fold-Term}
 use Rattle.repair_semantics.specs.declared.term.TermValue.TheOpen as of

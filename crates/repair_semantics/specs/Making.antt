@@ -3,7 +3,6 @@
 use Rattle.std.specs.Prelude.{ℕ, zero, suc, Bool, false, ◌&&◌, ◌==◌, List, [], ◌∷◌, map, length, Option, None, Some, is_some, if◌then◌else◌}
 use Rattle.std.specs.List.{find, range_with_len}
 use Rattle.std.specs.Option.{option_map, option_and_then, option_or}
-use Rattle.mof_metamodel.specs.declared.desc.ClassId.{ClassId}
 use Rattle.mof_metamodel.specs.declared.desc.PropId.{PropId}
 use Rattle.mof_metamodel.specs.Metamodels.{opposite_of}
 use Rattle.object_tables.specs.Models.{ModelData}
@@ -15,7 +14,7 @@ use Rattle.qv_syntax.specs.declared.typed.Typed.{Typed}
 use Rattle.qvtr_semantics.specs.declared.out.Out.{Out}
 use Rattle.qvtr_semantics.specs.Outs.{all_given}
 use Rattle.qvtr_semantics.specs.Expressions.{Scope, value, variable, scope_of}
-use Rattle.repair_semantics.specs.declared.term.Term.{Term, roll-Term}
+use Rattle.repair_semantics.specs.declared.term.Term.{roll-Term}
 use Rattle.repair_semantics.specs.declared.term.TermValue.{TermValue}
 use Rattle.repair_semantics.specs.declared.term.TermValue.TheVariants as values
 use Rattle.repair_semantics.specs.EntryValues.{TermValues, value_of, data_in, Known, given_out, given_value}

@@ -23,7 +23,6 @@ use Rattle.repair_semantics.specs.declared.term.TermValue.TheOpen as of
 use Rattle.repair_semantics.specs.declared.demand.Demand.{Demand}
 use Rattle.repair_semantics.specs.EntryValues.{TermValues}
 use Rattle.repair_semantics.specs.Claims.{Held, Spot, Said, Claim}
-use Rattle.repair_semantics.specs.CandidateObjects.{fresh_id}
 use Rattle.repair_semantics.specs.Making.{keyed}
 
 -- ---- programs: PackageToSchema and ClassToTable, with the keys Schema {name} and Table {schema, name}
@@ -177,10 +176,16 @@ shop_demands =
     ∷ demand 1 order_term 2 (term_value shop_term) ∷ demand 1 order_term 0 (text_value (codes "Order"))
     ∷ demand 2 product_term 2 (term_value shop_term) ∷ demand 2 product_term 0 (text_value (codes "Product")) ∷ []
 
--- the table `Order` with its note, and a fresh table `Product`
+-- the table `Order` with its note, and a fresh table `Product` with this identifier
+abbrev pub shop_with : List ℕ → ModelData
+shop_with id = record {
+  meta = rdb;
+  objects =
+      outer_object (codes "s1") (codes "shop") (1 ∷ 3 ∷ [])
+      ∷ inner_object (codes "t1") (codes "Order") 0 (codes "keep")
+      ∷ None
+      ∷ Some (record { class = 2; id = id; slots = value_slot (codes "Product") ∷ link_slot (0 ∷ []) ∷ link_slot [] ∷ [] }) ∷ [];
+}
+
 abbrev pub shop_repaired : ModelData
-shop_repaired = record { meta = rdb; objects =
-    outer_object (codes "s1") (codes "shop") (1 ∷ 3 ∷ [])
-    ∷ inner_object (codes "t1") (codes "Order") 0 (codes "keep")
-    ∷ None
-    ∷ Some (record { class = 2; id = fresh_id 0; slots = value_slot (codes "Product") ∷ link_slot (0 ∷ []) ∷ link_slot [] ∷ [] }) ∷ [] }
+shop_repaired = shop_with (codes "n0")

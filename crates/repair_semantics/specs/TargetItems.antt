@@ -1,6 +1,6 @@
 -- The target template of a relation as a list of its items (QVT 1.3, sections 7.2.3 and 7.11.2.3), and the keys of classes of the target
 -- (section 7.10.2).
-use Rattle.std.specs.Prelude.{ℕ, Bool, true, false, ◌&&◌, ◌==◌, List, [], ◌∷◌, Option, None, Some, slice_get}
+use Rattle.std.specs.Prelude.{ℕ, Bool, ◌&&◌, ◌==◌, List, [], ◌∷◌, Option, None, Some, slice_get}
 use Rattle.std.specs.List.{find, flat_map, filter_map}
 use Rattle.std.specs.Option.{option_map, option_map_or, option_and_then}
 use Rattle.mof_metamodel.specs.declared.desc.MetaDesc.{MetaDesc}
@@ -9,7 +9,6 @@ use Rattle.object_tables.specs.Models.{ModelData}
 use Rattle.qv_syntax.specs.declared.program.Program.{Program}
 use Rattle.qv_syntax.specs.declared.program.Key.{Key}
 use Rattle.qv_syntax.specs.declared.program.Rel.{Rel}
-use Rattle.qv_syntax.specs.declared.program.Var.{Var}
 use Rattle.qv_syntax.specs.declared.program.Dom.{Dom}
 use Rattle.qv_syntax.specs.declared.program.Tmpl.{Tmpl, fold-Tmpl}
 use Rattle.qv_syntax.specs.declared.program.ItemValue.TheOpen as of

@@ -1,7 +1,7 @@
 -- Where an entry can't be fulfilled: an item, an equation or an argument of a call in its where clause has a value that is null or invalid,
 -- or a condition there isn't true (QVT 1.3, sections 7.2.3 and 7.10.1; that such an entry is refused is this engine's own).
 use Rattle.std.specs.Prelude.{ℕ, suc, Bool, true, false, ◌&&◌, not, List, [], ◌∷◌, ◌++◌, Option, None, Some, is_none, is_some, if◌then◌else◌}
-use Rattle.std.specs.List.{list_any, flat_map}
+use Rattle.std.specs.List.{list_any}
 use Rattle.object_tables.specs.Models.{ModelData}
 use Rattle.qv_syntax.specs.declared.program.Program.{Program}
 use Rattle.qv_syntax.specs.declared.program.Rel.{Rel}
@@ -13,9 +13,8 @@ use Rattle.qvtr_semantics.specs.Equality.{is_known_true}
 use Rattle.qvtr_semantics.specs.Expressions.{value}
 use Rattle.repair_semantics.specs.declared.entry.Place.{Place}
 use Rattle.repair_semantics.specs.declared.entry.Place.TheVariants as places
-use Rattle.repair_semantics.specs.EntryValues.{TermValues, Known, given_value, is_target_alone}
+use Rattle.repair_semantics.specs.EntryValues.{Known, given_value, is_target_alone}
 use Rattle.repair_semantics.specs.TargetItems.{Content, TargetItem, target_items}
-use Rattle.repair_semantics.specs.Making.{entry_known}
 
 -- the value is null or invalid; of a variable of the target it never is
 abbrev pub is_lacking : Program → List ModelData → Rel → Known → Typed → Bool

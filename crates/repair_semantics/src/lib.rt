@@ -9,7 +9,7 @@ mod report;
 mod term;
 
 pub use demand::{Clash, Demand};
-pub use laws::{small_entries_are_told, small_repairs_are_told, terms_tie_where_they_are_one};
 pub use entry::{Entry, EntryName, Place};
+pub use laws::{small_entries_are_told, small_repairs_are_told, terms_tie_where_they_are_one};
 pub use report::Report;
 pub use term::{Term, TermValue};
