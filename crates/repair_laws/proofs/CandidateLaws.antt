@@ -1,29 +1,40 @@
 -- The objects of the model that enforcement makes: those that stay keep their classes and identifiers, the others are gone, and each demanded
 -- term has an object there.
-use Rattle.std.specs.Prelude.{◌≡◌, ◌<◌, ◌≤◌, ◌⊎◌, ◌+◌, ◌^◌, ℕ, zero, suc, Bool, true, false, is_some, is_none, List, [], ◌∷◌, ◌++◌, map, length, Option, None, Some, Contains, if◌then◌else◌}
+use Rattle.std.specs.Prelude.{◌≡◌, ◌<◌, ◌≤◌, ◌⊎◌, ◌+◌, ◌-◌, ◌^◌, ℕ, zero, suc, Bool, true, false, is_some, is_none, List, [], ◌∷◌, ◌++◌, map, length, Option, None, Some, Contains, if◌then◌else◌}
 use Rattle.std.specs.List.{range_with_len}
 use Rattle.std.specs.Option.{option_map, option_map_or}
-use Rattle.std.proofs.Common.{refl, ap, sym, ◌∙◌, subst, arith, get_or}
+use Rattle.std.proofs.Common.{refl, ap, sym, ◌∙◌, subst, arith, inl, inr, get_or}
+use Rattle.std.proofs.Math.Seq.{get_or-append_right}
+use Rattle.std.proofs.lemmas.Bool.{cases_lt}
 use Rattle.std.proofs.lemmas.List.{get_or_append_left, get_or-append-add}
 use Rattle.std.proofs.lemmas.List.FromFn.{get_or-map-range_with_len, length-map-range_with_len}
+use Rattle.mof_metamodel.specs.Metamodels.{props_of}
 use Rattle.object_tables.specs.Objects.{Object}
 use Rattle.object_tables.specs.Models.{ModelData, object_at, class_at, id_at}
 use Rattle.qv_syntax.specs.declared.program.Program.{Program}
 use Rattle.repair_semantics.specs.declared.term.Term.{Term, out-Term}
 use Rattle.repair_semantics.specs.declared.demand.Demand.{Demand}
 use Rattle.repair_semantics.specs.Demands.{demanded_terms}
-use Rattle.repair_semantics.specs.Claims.{Claim}
-use Rattle.repair_semantics.specs.Images.{image}
+use Rattle.repair_semantics.specs.Claims.{Held, Claim}
+use Rattle.repair_semantics.specs.Images.{image, holds}
 use Rattle.repair_semantics.specs.Deletions.{managed_classes, images_of, stays}
 use Rattle.repair_semantics.specs.CandidateObjects.{CandidateObject, fresh_terms, number_of, term_number, unused_ids}
-use Rattle.repair_semantics.specs.Candidates.{claims_by_number, old_object, old_objects, fresh_object, fresh_objects, candidate_with, candidate}
+use Rattle.repair_semantics.specs.Candidates.{claimed_at, slots_of, claims_by_number, old_object, old_objects, fresh_object, fresh_objects, candidate_with, candidate}
 use Rattle.repair_laws.proofs.ImageLaws.{image_conforms, image_is_live}
 use Rattle.repair_laws.proofs.ObjectLaws.{fresh_place}
 use Rattle.repair_laws.proofs.DemandedLaws.{live_object, image_stays}
+use Rattle.repair_laws.specs.Standing.{FitsAt}
 use Rattle.repair_laws.proofs.IdentifierLaws.{enough_ids}
+use Rattle.repair_laws.proofs.StandingLaws.{claim_stands}
 
 one_number : (n o : ℕ) → Some n ≡ Some o → n ≡ o
 one_number n o h = cc
+
+no_object : (ob : Object) → ◌≡◌ {A = Option Object} None (Some ob) → ⊥
+no_object ob h = cc
+
+one_object : (a b : Object) → Some a ≡ Some b → a ≡ b
+one_object a b h = cc
 
 module _ (program : Program) (m : ModelData) (live : ℕ → Bool) (claims : List (Claim ℕ)) where
   -- ---- objects of the target
@@ -56,6 +67,42 @@ module _ (program : Program) (m : ModelData) (live : ℕ → Bool) (claims : Lis
       ap (λ n. get_or (old_objects program m live claims ++ fresh_objects program m live claims (length m.objects) fresh (unused_ids m (length fresh))) (n + k) None) (sym many_old)
       ∙ get_or-append-add (old_objects program m live claims) (fresh_objects program m live claims (length m.objects) fresh (unused_ids m (length fresh))) k None
       ∙ fresh_from fresh (unused_ids m (length fresh)) (length m.objects) k t enough within
+
+  -- ---- slots of the objects
+
+  old_slots : (o : ℕ) (ob : Object) (x : Option Object) → old_object program m live claims o x ≡ Some ob → ob.slots ≡ slots_of program m live claims o ob.class
+  old_slots o ob None h = absurd (no_object ob h)
+  old_slots o ob (Some was) h = by (live o) h
+    where
+      by : (b : Bool) → (if b then Some (record was { slots = slots_of program m live claims o was.class }) else None) ≡ Some ob → ob.slots ≡ slots_of program m live claims o ob.class
+      by true e = subst (λ (x : Object). x.slots ≡ slots_of program m live claims o x.class) (one_object (record was { slots = slots_of program m live claims o was.class }) ob e) refl
+      by false e = absurd (no_object ob e)
+
+  fresh_slots : (ts : List Term) (ids : List (List ℕ)) (o k : ℕ) (ob : Object) → get_or (fresh_objects program m live claims o ts ids) k None ≡ Some ob
+      → ob.slots ≡ slots_of program m live claims (o + k) ob.class
+  fresh_slots [] ids o k ob h = absurd (no_object ob h)
+  fresh_slots (t ∷ ts) [] o k ob h = absurd (no_object ob h)
+  fresh_slots (t ∷ ts) (id ∷ ids) o zero ob h =
+      let here : o ≡ o + 0 = omega arith in
+      subst (λ n. ob.slots ≡ slots_of program m live claims n ob.class) here
+      (subst (λ (x : Object). x.slots ≡ slots_of program m live claims o x.class)
+          (one_object (record { class = (out-Term t).class.0; id = id; slots = slots_of program m live claims o (out-Term t).class.0 }) ob h) refl)
+  fresh_slots (t ∷ ts) (id ∷ ids) o (suc k) ob h =
+      let next : suc o + k ≡ o + suc k = omega arith in
+      subst (λ n. ob.slots ≡ slots_of program m live claims n ob.class) next (fresh_slots ts ids (suc o) k ob h)
+
+  pub object_slots : (fresh : List Term) (o : ℕ) (ob : Object) → object_at (candidate_with program m live claims fresh) o ≡ Some ob → ob.slots ≡ slots_of program m live claims o ob.class
+  object_slots fresh o ob h = elim (cases_lt o (length m.objects)) [
+    | inl l ↦ old_slots o ob (object_at m o) (sym (old_at fresh o l) ∙ h)
+    | inr le ↦ (
+      let many = many_old in
+      let behind : length (old_objects program m live claims) ≤ o = omega (arith, many, le) in
+      let place : length m.objects + (o - length (old_objects program m live claims)) ≡ o = omega (arith, many, le) in
+      subst (λ n. ob.slots ≡ slots_of program m live claims n ob.class) place
+      (fresh_slots fresh (unused_ids m (length fresh)) (length m.objects) (o - length (old_objects program m live claims)) ob
+          (sym (get_or-append_right (old_objects program m live claims) (fresh_objects program m live claims (length m.objects) fresh (unused_ids m (length fresh))) o None behind) ∙ h))
+    )
+  ]
 
   -- ---- what an object keeps
 
@@ -114,3 +161,10 @@ module _ (program : Program) (m : ModelData) (demands : List Demand) where
           let p = fresh_place program m terms t n e in
           ap (λ k. is_some (object_at (candidate program m demands) k)) p.number
           ∙ ap (λ (x : Option Object). is_some x) (fresh_at program m live claims (fresh_terms program m terms) p.place t (enough_ids m (length (fresh_terms program m terms)) few) p.within)
+
+  -- ---- what is claimed of a slot stands in it
+
+  pub claims_stand : (o p : ℕ) (ob : Object) (h : Held ℕ) → object_at (candidate program m demands) o ≡ Some ob → Contains (props_of m.meta ob.class) p
+      → Contains (claimed_at claims o p) h → FitsAt program m p h → holds program (candidate program m demands) o p h ≡ true
+  claims_stand o p ob h is has claimed fits =
+      claim_stands program m (candidate program m demands) live claims o p ob h refl is (object_slots program m live claims (fresh_terms program m terms) o ob is) has claimed fits

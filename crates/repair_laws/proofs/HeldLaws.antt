@@ -1,15 +1,15 @@
 -- At a single property an object of a valid model holds one thing at most.
-use Rattle.std.specs.Prelude.{◌≡◌, ◌<◌, ◌≤◌, ◌⊎◌, ℕ, zero, suc, Bool, true, false, ◌&&◌, ◌||◌, List, [], ◌∷◌, map, length, Option, None, Some, Contains, if◌then◌else◌}
+use Rattle.std.specs.Prelude.{◌≡◌, ◌≤◌, ◌⊎◌, ℕ, Bool, true, false, ◌&&◌, ◌||◌, List, [], ◌∷◌, length, Option, None, Some}
 use Rattle.std.specs.List.{list_any}
 use Rattle.std.specs.Option.{option_map}
-use Rattle.std.proofs.Common.{refl, ap, sym, ◌∙◌, subst, arith, inl, inr, true≢false, get_or}
+use Rattle.std.proofs.Common.{refl, ap, sym, ◌∙◌, subst, arith, inl, inr, true≢false}
 use Rattle.std.proofs.lemmas.Bool.{cases_lt}
 use Rattle.std.proofs.lemmas.Bool.Decides.{nat_tests}
 use Rattle.std.proofs.lemmas.List.{get_or_past, length-map}
 use Rattle.mof_metamodel.specs.Metamodels.{prop_at, props_of, type_of}
 use Rattle.object_tables.specs.Objects.{Object, Slot}
-use Rattle.object_tables.specs.Models.{ModelData, object_at, class_at, is_class_type, values_at, partners_at, slot_in, slot_number, no_slot}
-use Rattle.object_tables.specs.Validity.{Valid, count_at, IsPropertyOf, HasTooMany}
+use Rattle.object_tables.specs.Models.{ModelData, object_at, is_class_type, values_at, partners_at, slot_in, slot_number, no_slot}
+use Rattle.object_tables.specs.Validity.{Valid, count_at, IsPropertyOf}
 use Rattle.object_tables.proofs.ModelLemmas.{index-found}
 use Rattle.qv_syntax.specs.declared.program.Program.{Program}
 use Rattle.qvtr_semantics.specs.Objects.{value_datum}

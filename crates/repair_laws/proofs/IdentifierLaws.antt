@@ -1,5 +1,5 @@
 -- As many identifiers as are asked for are unused: each object of a model has one of them at most.
-use Rattle.std.specs.Prelude.{◌≡◌, ◌<◌, ◌≤◌, ◌+◌, ◌^◌, ℕ, zero, suc, Bool, true, false, ◌||◌, not, cond, min, List, [], ◌∷◌, ◌++◌, map, length, drop, codes, Option, None, Some}
+use Rattle.std.specs.Prelude.{◌≡◌, ◌<◌, ◌≤◌, ◌+◌, ◌^◌, ℕ, zero, suc, Bool, true, false, ◌||◌, not, cond, List, [], ◌∷◌, map, length, drop, Option, None, Some}
 use Rattle.std.specs.List.{filter, list_any, range_with_len}
 use Rattle.std.proofs.Common.{refl, ap, sym, ◌∙◌, subst, arith, true≢false}
 use Rattle.std.specs.Cmp.Lexicographic.{bytes_decides}

@@ -1,8 +1,8 @@
 -- Over a valid model of which keys tell the objects apart, terms with one image are one: by the terms within them.
-use Rattle.std.specs.Prelude.{◌≡◌, ◌<◌, ◌≤◌, ◌⊎◌, ℕ, Bool, true, false, ◌&&◌, cond, List, [], ◌∷◌, map, length, Option, None, Some, Contains}
-use Rattle.std.specs.List.{filter, list_any, range_with_len}
+use Rattle.std.specs.Prelude.{◌≡◌, ◌<◌, ◌≤◌, ℕ, Bool, true, false, cond, List, [], ◌∷◌, map, length, Option, None, Some, Contains}
+use Rattle.std.specs.List.{filter, range_with_len}
 use Rattle.std.specs.Option.{option_map}
-use Rattle.std.proofs.Common.{refl, ap, sym, ◌∙◌, subst, arith, inl, inr, true≢false}
+use Rattle.std.proofs.Common.{refl, ap, sym, ◌∙◌, subst, inl, inr, true≢false}
 use Rattle.std.proofs.lemmas.Bool.{cases_lt}
 use Rattle.std.proofs.lemmas.List.{get_or_past}
 use Rattle.mof_metamodel.specs.declared.desc.ClassId.{ClassId}
@@ -12,14 +12,14 @@ use Rattle.object_tables.specs.Models.{ModelData, class_at}
 use Rattle.object_tables.specs.Validity.{Valid}
 use Rattle.qv_syntax.specs.declared.program.Program.{Program}
 use Rattle.qvtr_semantics.specs.declared.datum.Datum.{Datum}
-use Rattle.qvtr_semantics.specs.Objects.{is_kind_of, conforms_if, conforms_at, extent_of}
+use Rattle.qvtr_semantics.specs.Objects.{conforms_if, conforms_at, extent_of}
 use Rattle.template_match.proofs.ListLaws.{contains_first, contains_later}
 use Rattle.repair_semantics.specs.declared.term.Term.{Term, roll-Term, out-Term, roll-out-Term, map-Term, ind-Term}
 use Rattle.repair_semantics.specs.declared.term.TermValue.{TermValue, roll-TermValue, out-TermValue, roll-out-TermValue, map-TermValue}
 use Rattle.repair_semantics.specs.declared.term.TermValue.TheOpen as of
 use Rattle.repair_semantics.specs.TargetItems.{key_of}
-use Rattle.repair_semantics.specs.Claims.{Held, same_held}
-use Rattle.repair_semantics.specs.Images.{same_number, held_in, holds, holds_key, first_number, object_with_key, value_image, term_image, image}
+use Rattle.repair_semantics.specs.Claims.{Held}
+use Rattle.repair_semantics.specs.Images.{held_in, holds, holds_key, first_number, object_with_key, image}
 use Rattle.repair_semantics.proofs.TermLaws.{image_of_value, image_is, image_of_datum, image_of_term}
 use Rattle.repair_laws.specs.Keyed.{TellsByKeys}
 use Rattle.repair_laws.proofs.HeldLaws.{first_holds, second_holds, one_held, few_held}

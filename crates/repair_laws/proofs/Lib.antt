@@ -3,4 +3,5 @@ mod ImageLaws
 mod ObjectLaws
 mod DemandedLaws
 mod IdentifierLaws
+mod StandingLaws
 mod CandidateLaws

@@ -1,5 +1,5 @@
 -- Objects of the model that enforcement makes and their numbers: a number leads back to its object, and different terms have different objects.
-use Rattle.std.specs.Prelude.{◌≡◌, ◌<◌, ◌≤◌, ◌+◌, ◌-◌, ℕ, zero, suc, Bool, true, false, nat_lt, List, [], ◌∷◌, length, Option, None, Some, slice_get, if◌then◌else◌}
+use Rattle.std.specs.Prelude.{◌≡◌, ◌<◌, ◌+◌, ◌-◌, ℕ, zero, suc, false, nat_lt, List, [], ◌∷◌, length, Option, None, Some, slice_get, if◌then◌else◌}
 use Rattle.std.specs.List.{position}
 use Rattle.std.specs.Option.{option_map, option_map_or}
 use Rattle.std.proofs.Common.{refl, ap, sym, ◌∙◌, subst, arith, get_or}
@@ -11,7 +11,7 @@ use Rattle.qv_syntax.specs.declared.program.Program.{Program}
 use Rattle.repair_semantics.specs.declared.term.Term.{Term}
 use Rattle.repair_semantics.specs.Terms.{same_term}
 use Rattle.repair_semantics.specs.Images.{image}
-use Rattle.repair_semantics.specs.CandidateObjects.{CandidateObject, fresh_terms, number_of, object_of, object_for, term_number}
+use Rattle.repair_semantics.specs.CandidateObjects.{CandidateObject, fresh_terms, number_of, object_of, term_number}
 use Rattle.repair_semantics.proofs.TieLaws.{ties_are_one}
 use Rattle.repair_laws.specs.Keyed.{TellsByKeys}
 use Rattle.repair_laws.proofs.ImageLaws.{image_is_live, one_image_one_term}

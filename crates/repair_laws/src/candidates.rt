@@ -5,7 +5,12 @@ ghost use Rattle.repair_semantics.specs.declared.term.Term.{Term};
 ghost use Rattle.repair_semantics.specs.declared.demand.Demand.{Demand};
 ghost use Rattle.repair_semantics.specs.Demands.{demanded_terms};
 ghost use Rattle.repair_semantics.specs.CandidateObjects.{fresh_terms, term_number, unused_ids};
-ghost use Rattle.repair_semantics.specs.Candidates.{candidate};
+ghost use Rattle.mof_metamodel.specs.Metamodels.{props_of};
+ghost use Rattle.object_tables.specs.Objects.{Object};
+ghost use Rattle.repair_semantics.specs.Claims.{Held};
+ghost use Rattle.repair_semantics.specs.Images.{holds};
+ghost use Rattle.repair_semantics.specs.Candidates.{claimed_at, claims_by_number, candidate};
+ghost use Rattle.repair_laws.specs.Standing.{FitsAt};
 ghost use Rattle.repair_laws.specs.Staying.{is_staying};
 
 /// As many identifiers as are asked for are unused.
@@ -28,4 +33,12 @@ pub fn demanded_terms_are_live()
     ensures { (program : Program) (m : ModelData) (demands : List Demand) (t : Term) (n : ℕ) → Contains (demanded_terms demands) t
         → length (fresh_terms program m (demanded_terms demands)) + length m.objects ≤ 2 ^ 64
         → term_number program m (demanded_terms demands) t ≡ Some n → is_some (object_at (candidate program m demands) n) ≡ true }
+{}
+
+/// What demands claim of a slot of an object stands in it: a link, or a value as one of the target's is seen.
+pub fn claims_stand()
+    ensures { (program : Program) (m : ModelData) (demands : List Demand) (o p : ℕ) (object : Object) (h : Held ℕ)
+        → object_at (candidate program m demands) o ≡ Some object → Contains (props_of m.meta object.class) p
+        → Contains (claimed_at (claims_by_number m.meta (term_number program m (demanded_terms demands)) demands) o p) h → FitsAt program m p h
+        → holds program (candidate program m demands) o p h ≡ true }
 {}
