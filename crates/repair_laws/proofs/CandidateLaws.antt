@@ -1,7 +1,6 @@
 -- The objects of the model that enforcement makes: those that stay keep their classes and identifiers, the others are gone, and each demanded
 -- term has an object there.
-use Rattle.std.specs.Prelude.{◌≡◌, ◌<◌, ◌≤◌, ◌⊎◌, ◌+◌, ◌-◌, ◌^◌, ℕ, zero, suc, Bool, true, false, is_some, is_none, List, [], ◌∷◌, ◌++◌, map, length, Option, None, Some, Contains, if◌then◌else◌}
-use Rattle.std.specs.List.{range_with_len}
+use Rattle.std.specs.Prelude.{◌≡◌, ◌<◌, ◌≤◌, ◌+◌, ◌-◌, ◌^◌, ℕ, zero, suc, Bool, true, false, is_some, List, [], ◌∷◌, ◌++◌, length, Option, None, Some, Contains, if◌then◌else◌}
 use Rattle.std.specs.Option.{option_map, option_map_or}
 use Rattle.std.proofs.Common.{refl, ap, sym, ◌∙◌, subst, arith, inl, inr, get_or}
 use Rattle.std.proofs.Math.Seq.{get_or-append_right}
@@ -86,7 +85,7 @@ module _ (program : Program) (m : ModelData) (live : ℕ → Bool) (claims : Lis
       let here : o ≡ o + 0 = omega arith in
       subst (λ n. ob.slots ≡ slots_of program m live claims n ob.class) here
       (subst (λ (x : Object). x.slots ≡ slots_of program m live claims o x.class)
-          (one_object (record { class = (out-Term t).class.0; id = id; slots = slots_of program m live claims o (out-Term t).class.0 }) ob h) refl)
+      (one_object (record { class = (out-Term t).class.0; id = id; slots = slots_of program m live claims o (out-Term t).class.0 }) ob h) refl)
   fresh_slots (t ∷ ts) (id ∷ ids) o (suc k) ob h =
       let next : suc o + k ≡ o + suc k = omega arith in
       subst (λ n. ob.slots ≡ slots_of program m live claims n ob.class) next (fresh_slots ts ids (suc o) k ob h)
@@ -95,13 +94,13 @@ module _ (program : Program) (m : ModelData) (live : ℕ → Bool) (claims : Lis
   object_slots fresh o ob h = elim (cases_lt o (length m.objects)) [
     | inl l ↦ old_slots o ob (object_at m o) (sym (old_at fresh o l) ∙ h)
     | inr le ↦ (
-      let many = many_old in
-      let behind : length (old_objects program m live claims) ≤ o = omega (arith, many, le) in
-      let place : length m.objects + (o - length (old_objects program m live claims)) ≡ o = omega (arith, many, le) in
-      subst (λ n. ob.slots ≡ slots_of program m live claims n ob.class) place
-      (fresh_slots fresh (unused_ids m (length fresh)) (length m.objects) (o - length (old_objects program m live claims)) ob
-          (sym (get_or-append_right (old_objects program m live claims) (fresh_objects program m live claims (length m.objects) fresh (unused_ids m (length fresh))) o None behind) ∙ h))
-    )
+        let many = many_old in
+        let behind : length (old_objects program m live claims) ≤ o = omega (arith, many, le) in
+        let place : length m.objects + (o - length (old_objects program m live claims)) ≡ o = omega (arith, many, le) in
+        subst (λ n. ob.slots ≡ slots_of program m live claims n ob.class) place
+        (fresh_slots fresh (unused_ids m (length fresh)) (length m.objects) (o - length (old_objects program m live claims)) ob
+        (sym (get_or-append_right (old_objects program m live claims) (fresh_objects program m live claims (length m.objects) fresh (unused_ids m (length fresh))) o None behind) ∙ h))
+        )
   ]
 
   -- ---- what an object keeps
@@ -156,7 +155,7 @@ module _ (program : Program) (m : ModelData) (demands : List Demand) where
           subst (λ k. is_some (object_at (candidate program m demands) k) ≡ true) same
           (ap (λ (x : Option Object). is_some x) (old_at program m live claims (fresh_terms program m terms) o (image_is_live program m t o is))
           ∙ kept_some o (object_at m o) (image_stays program m terms (managed_classes program) t o has is)
-              (live_object program m terms (out-Term t).class.0 o (image_conforms program m t o is)))
+          (live_object program m terms (out-Term t).class.0 o (image_conforms program m t o is)))
       by None is e =
           let p = fresh_place program m terms t n e in
           ap (λ k. is_some (object_at (candidate program m demands) k)) p.number

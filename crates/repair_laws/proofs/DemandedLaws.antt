@@ -66,11 +66,10 @@ module _ (program : Program) (m : ModelData) (terms : List Term) where
       by None is =
           let kept : Contains (fresh_terms program m terms) t = Contains-to_filter (λ u. is_none (image program m u)) terms t (ap (λ x. is_none x) is) has in
           let tie : same_term t (get_or (fresh_terms program m terms) kept.0 t) ≡ true = subst (λ u. same_term t u ≡ true) (sym kept.2) ((ties_are_one t t).1 refl) in
-          let place = position_there (same_term t) (fresh_terms program m terms) kept.0 t kept.1 tie in
-          (
+          let place = position_there (same_term t) (fresh_terms program m terms) kept.0 t kept.1 tie in (
             length m.objects + place.0,
             ap (λ x. number_of program m terms (option_map_or (λ n. CandidateObject.old n) x (CandidateObject.fresh t))) is
-            ∙ ap (option_map (λ k. length m.objects + k)) place.1,
+                ∙ ap (option_map (λ k. length m.objects + k)) place.1,
           )
 
   -- ---- the image of a demanded term stays

@@ -180,7 +180,7 @@ module _ (program : Program) (m : ModelData) (valid : Valid m) (tells : TellsByK
       let keyed : Some found.props ≡ Some other.props = sym found.key ∙ ap (key_of program) class ∙ other.key in
       let props : found.props ≡ other.props = some_props found.props other.props keyed in
       let same : keys ≡ (out-Term u).keys = keys_told o found.props z.keys (out-Term u).keys (few_at o z.class.0 found.props found.key) found.holds
-          (subst (λ ps. holds_key program m o ps (map (image_of_value program m) (out-Term u).keys) ≡ true) (sym props) other.holds) in
+      (subst (λ ps. holds_key program m o ps (map (image_of_value program m) (out-Term u).keys) ≡ true) (sym props) other.holds) in
       ap (λ n. roll-Term (record { class = record { 0 = n }; keys = keys })) class ∙ ap (λ ks. roll-Term (record { class = (out-Term u).class; keys = ks })) same ∙ roll-out-Term u
 
   opened : (y : TermValue) (h : Held ℕ) → image_of_value program m y ≡ Some h → image_of_value program m (roll-TermValue (out-TermValue y)) ≡ Some h

@@ -1,6 +1,6 @@
 -- What is claimed of a slot stands in it, in the model that enforcement makes.
-use Rattle.std.specs.Prelude.{◌≡◌, ◌<◌, ℕ, zero, suc, Bool, true, false, ◌||◌, not, ◌==◌, List, [], ◌∷◌, ◌++◌, map, length, Option, None, Some, Contains, if◌then◌else◌}
-use Rattle.std.specs.List.{filter, filter_map, cons_option, list_any}
+use Rattle.std.specs.Prelude.{◌≡◌, ◌<◌, ℕ, zero, suc, Bool, true, false, ◌||◌, not, List, [], ◌∷◌, map, length, Option, None, Some, Contains, if◌then◌else◌}
+use Rattle.std.specs.List.{filter_map, cons_option, list_any}
 use Rattle.std.specs.FinMap.{nat_cmp-IsAntisymmetric}
 use Rattle.std.specs.Ordering.{is_eq, match_ordering}
 use Rattle.std.specs.declared.cmp.Ordering.{Ordering}
@@ -20,12 +20,11 @@ use Rattle.qvtr_semantics.specs.declared.datum.Datum.{Datum}
 use Rattle.qvtr_semantics.specs.Data.{same_datum}
 use Rattle.qvtr_semantics.specs.Objects.{value_datum}
 use Rattle.qvtr_semantics.specs.Outs.{value_of_datum}
-use Rattle.ocl_eval.specs.Order.{datum_order}
 use Rattle.ocl_eval.specs.OrderLaws.{ties_where_same, same_decides}
 use Rattle.repair_semantics.specs.Terms.{placed_by, each_once}
 use Rattle.repair_semantics.specs.TargetItems.{target_meta_number}
 use Rattle.repair_semantics.specs.Claims.{Held, Claim, same_held}
-use Rattle.repair_semantics.specs.Images.{same_number, held_in, holds}
+use Rattle.repair_semantics.specs.Images.{same_number, holds}
 use Rattle.repair_semantics.specs.Candidates.{claimed_at, held_order, kept_at, others_than, with_claimed, contents_at, value_held, partner_held, slot_with, slots_of}
 use Rattle.repair_laws.specs.Standing.{FitsAt}
 
@@ -148,13 +147,13 @@ module _ (program : Program) (m n : ModelData) (live : ℕ → Bool) (claims : L
       by : (i : Held ℕ) → Contains (claimed_at claims o p) i → FitsAt program m p i → holds program n o p i ≡ true
       by _ c (FitsAt.object b reference) =
           ap (λ t. list_any (is_it (Held.object b)) (if t then map (λ k. Held.object k) (partners_at n o p) else map (λ v. Held.datum (value_datum (target_meta_number program) v)) (values_at n o p)))
-              (ap (λ e. is_class_type (type_of e p)) meta ∙ reference)
+          (ap (λ e. is_class_type (type_of e p)) meta ∙ reference)
           ∙ ap (λ (s : Slot). list_any (is_it (Held.object b)) (map (λ k. Held.object k) s.partners)) slot
           ∙ partners_hold b (contents_at program m live claims o p)
           ∙ claimed_in (kept_at program m live claims o p) (claimed_at claims o p) (Held.object b) c
       by _ c (FitsAt.datum d v attribute value seen) =
           ap (λ t. list_any (is_it (Held.datum d)) (if t then map (λ k. Held.object k) (partners_at n o p) else map (λ w. Held.datum (value_datum (target_meta_number program) w)) (values_at n o p)))
-              (ap (λ e. is_class_type (type_of e p)) meta ∙ attribute)
+          (ap (λ e. is_class_type (type_of e p)) meta ∙ attribute)
           ∙ ap (λ (s : Slot). list_any (is_it (Held.datum d)) (map (λ w. Held.datum (value_datum (target_meta_number program) w)) s.values)) slot
           ∙ values_hold (target_meta_number program) d v value seen (contents_at program m live claims o p)
-              (claimed_in (kept_at program m live claims o p) (claimed_at claims o p) (Held.datum d) c)
+          (claimed_in (kept_at program m live claims o p) (claimed_at claims o p) (Held.datum d) c)
