@@ -5,3 +5,4 @@ mod DemandedLaws
 mod IdentifierLaws
 mod StandingLaws
 mod CandidateLaws
+mod DemandLaws

@@ -9,7 +9,8 @@ ghost use Rattle.mof_metamodel.specs.Metamodels.{props_of};
 ghost use Rattle.object_tables.specs.Objects.{Object};
 ghost use Rattle.repair_semantics.specs.Claims.{Held};
 ghost use Rattle.repair_semantics.specs.Images.{holds};
-ghost use Rattle.repair_semantics.specs.Candidates.{claimed_at, claims_by_number, candidate};
+ghost use Rattle.repair_semantics.specs.Candidates.{claimed_at, held_by_number, claims_by_number, candidate};
+ghost use Rattle.repair_semantics.specs.Conflicts.{fact_of};
 ghost use Rattle.repair_laws.specs.Standing.{FitsAt};
 ghost use Rattle.repair_laws.specs.Staying.{is_staying};
 
@@ -41,4 +42,12 @@ pub fn claims_stand()
         → object_at (candidate program m demands) o ≡ Some object → Contains (props_of m.meta object.class) p
         → Contains (claimed_at (claims_by_number m.meta (term_number program m (demanded_terms demands)) demands) o p) h → FitsAt program m p h
         → holds program (candidate program m demands) o p h ≡ true }
+{}
+
+/// Each demand stands in the model that enforcement makes: its object holds its value, a link, or a value as one of the target's is seen.
+pub fn demands_stand()
+    ensures { (program : Program) (m : ModelData) (demands : List Demand) (d : Demand) (o : ℕ) (object : Object) (h : Held ℕ) → Contains demands d
+        → term_number program m (demanded_terms demands) d.owner ≡ Some o → held_by_number (term_number program m (demanded_terms demands)) (fact_of d).holds ≡ Some h
+        → object_at (candidate program m demands) o ≡ Some object → Contains (props_of m.meta object.class) d.prop.0 → FitsAt program m d.prop.0 h
+        → holds program (candidate program m demands) o d.prop.0 h ≡ true }
 {}

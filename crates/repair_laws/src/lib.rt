@@ -6,7 +6,8 @@ mod images;
 mod objects;
 
 pub use candidates::{
-    claims_stand, demanded_terms_are_live, objects_stay_or_are_gone, unused_identifiers_are_enough,
+    claims_stand, demanded_terms_are_live, demands_stand, objects_stay_or_are_gone,
+    unused_identifiers_are_enough,
 };
 pub use images::different_terms_have_different_images;
 pub use objects::{
