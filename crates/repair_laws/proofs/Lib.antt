@@ -6,3 +6,4 @@ mod IdentifierLaws
 mod StandingLaws
 mod CandidateLaws
 mod DemandLaws
+mod GoneLaws

@@ -1,3 +1,4 @@
 pub mod Keyed
 pub mod Staying
 pub mod Standing
+pub mod Gone
