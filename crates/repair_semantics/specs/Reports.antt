@@ -1,5 +1,5 @@
 -- What a repair changes: how many objects it makes, changes and deletes (this engine's own).
-use Rattle.std.specs.Prelude.{◌≡◌, ◌↔◌, ℕ, Bool, true, false, ◌&&◌, not, List, length, Option, None, Some, is_some, is_none, nat_eq, IsTrue}
+use Rattle.std.specs.Prelude.{◌≡◌, ◌↔◌, ℕ, Bool, true, ◌&&◌, not, List, length, Option, None, Some, is_some, is_none, nat_eq, IsTrue}
 use Rattle.std.specs.List.{list_all, filter, range_with_len}
 use Rattle.std.specs.Cmp.Lexicographic.{pointwise}
 use Rattle.mof_metamodel.specs.Metamodels.{props_of}
