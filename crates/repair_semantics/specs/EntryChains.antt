@@ -1,7 +1,7 @@
 -- Chains of calls in where clauses over entries (QVT 1.3, section 7.10.2; that chains which come back to a call or grow too long are refused
 -- is this engine's own).
 use Rattle.std.specs.Prelude.{◌≡◌, ◌≢◌, suc, true, false, List, [], ◌∷◌, ◌++◌, length, Contains, AllPairs}
-use Rattle.mof_metamodel.specs.declared.limits.TheConstants.{MAX_CALLS}
+use Rattle.qvtr_semantics.specs.declared.limits.TheConstants.{MAX_CALLS}
 use Rattle.object_tables.specs.Models.{ModelData}
 use Rattle.qv_syntax.specs.declared.program.Program.{Program}
 use Rattle.repair_semantics.specs.declared.entry.Entry.{Entry}
