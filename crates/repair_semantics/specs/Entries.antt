@@ -3,7 +3,7 @@
 -- entry that is met has one for each such binding that extends its roots.
 use Rattle.std.specs.Prelude.{◌≡◌, ◌⊎◌, ℕ, Bool, true, false, List, [], ◌∷◌, map, length, Option, None, Some, slice_get, Contains, if◌then◌else◌}
 use Rattle.std.specs.List.{filter_map}
-use Rattle.std.specs.Option.{option_map, option_map_or, option_or}
+use Rattle.std.specs.Option.{option_and_then, option_map_or, option_or}
 use Rattle.object_tables.specs.Models.{ModelData}
 use Rattle.qv_syntax.specs.declared.program.Program.{Program}
 use Rattle.qv_syntax.specs.declared.program.Rel.{Rel}
@@ -39,9 +39,17 @@ pub record TermSource (program : Program) (models : List ModelData) (rel : Rel) 
 
 -- ---- calls
 
+-- what the roots of the domains are bound to: where two domains have one root it is the last of their arguments, as for calls over models
+abbrev pub bound_roots : Rel → List TermValue → List TermValue
+bound_roots rel xs = filter_map (λ dom. value_of (root_values rel xs) dom.root) rel.domains
+
+abbrev pub call_to : ℕ → Option Rel → List TermValue → Option EntryName
+call_to number None xs = None
+call_to number (Some rel) xs = Some (record { rel = number; roots = bound_roots rel xs })
+
 -- the call that arguments make; an argument that has no value makes none
 abbrev pub named_call : Program → List ModelData → Known → ℕ → List Typed → Option EntryName
-named_call program models k number args = option_map (λ xs. record { rel = number; roots = xs }) (all_given (map (given_value program models k) args))
+named_call program models k number args = option_and_then (call_to number (slice_get program.rels number)) (all_given (map (given_value program models k) args))
 
 -- the calls of a clause, nothing for one that isn't made
 abbrev pub calls_in : Program → List ModelData → Known → List Conj → List (Option EntryName)
