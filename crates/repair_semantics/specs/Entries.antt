@@ -115,10 +115,3 @@ pub data IsEntry (program : Program) (models : List ModelData) : Entry → Type 
       → Contains (entry_calls program models from) c → slice_get program.rels c.rel ≡ Some rel
       → IsEntryWith program models c.rel rel true (root_values rel c.roots) matches e
       → ((m : Entry) → Contains matches m → IsEntry program models m) → IsEntry program models e
-
--- an entry that is unmet
-pub record IsUnmet (program : Program) (models : List ModelData) (e : Entry) : Type 0 where
-  pub is : IsEntry program models e
-  pub rel : Rel
-  pub found : slice_get program.rels e.rel ≡ Some rel
-  pub unmet : is_unmet program models rel (entry_known program models rel e.values) ≡ true
