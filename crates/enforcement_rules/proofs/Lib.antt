@@ -1,0 +1,16 @@
+pub mod ClassLaws
+pub mod DerivationLaws
+pub mod DerivationSteps
+pub mod ExpressionLaws
+pub mod FitLaws
+pub mod KnownLaws
+pub mod ListLaws
+pub mod MarkLaws
+pub mod MentionLaws
+pub mod MentionLemmas
+pub mod ReaderLaws
+pub mod RuleLaws
+pub mod SettledLaws
+pub mod StandingLaws
+pub mod UnmadeLaws
+pub mod VariableLaws

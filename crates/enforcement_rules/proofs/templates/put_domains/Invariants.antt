@@ -1,0 +1,6 @@
+use Rattle.std.proofs.Common.{map, take}
+use Rattle.enforcement_rules.specs.Standings.{shown_standing, Adds, IsOfDomain, IsOfDomains}
+use Rattle.enforcement_rules.proofs.templates.put_domains.Given as goal
+
+abbrev pub invariant-loop-dom : goal.invariant-loop-dom
+invariant-loop-dom l = Adds (IsOfDomains IsOfDomain (take l.dom-index l.doms)) (map shown_standing l.fn.out) (map shown_standing l.out)

@@ -1,0 +1,17 @@
+pub mod TargetParts
+pub mod KnownVariables
+pub mod Expressions
+pub mod Patterns
+pub mod Keys
+pub mod Calls
+pub mod Rules
+pub mod Derivations
+pub mod Mentions
+pub mod NumberSets
+pub mod TargetTests
+pub mod Standings
+pub mod KnownTests
+pub mod ReaderTests
+pub mod ExpressionTests
+pub mod PatternTests
+pub mod Tasks
