@@ -14,3 +14,5 @@ pub mod SettledLaws
 pub mod StandingLaws
 pub mod UnmadeLaws
 pub mod VariableLaws
+pub mod CallLaws
+pub mod PairLaws

@@ -15,3 +15,4 @@ pub mod ReaderTests
 pub mod ExpressionTests
 pub mod PatternTests
 pub mod Tasks
+pub mod CallTests

@@ -2,7 +2,9 @@
 //! 7.9 and 7.10.2).
 #![tactic(auto)]
 
+mod calls;
 mod class_key;
+mod clause;
 mod derivations;
 mod expressions;
 mod known;
