@@ -74,20 +74,17 @@ nothing_in x (k, below, is) = omega (arith, below)
 value_layer : (y : layers.ItemValue-F V I T) → ValueHolds (roll-ItemValue (map-ItemValue V I T ItemValue Item Tmpl (λ x. x.0) (λ x. x.0) (λ x. x.0) y))
 unfolding ValueHolds TmplHolds AllStand
 value_layer layers.Null =
-    let part = fold-roll-ItemValue ContentPart ItemPart TemplatePart content_part item_part template_part layers.Null in
-    (
+    let part = fold-roll-ItemValue ContentPart ItemPart TemplatePart content_part item_part template_part layers.Null in (
       λ e is. absurd (no_expression Content.empty e (sym (ap (λ (p : ContentPart). p.content) part) ∙ is)),
       λ i e c is. absurd (nothing_in i (subst (λ (p : ContentPart). Contains p.within i) part c)),
     )
 value_layer (layers.Expr x) =
-    let part = fold-roll-ItemValue ContentPart ItemPart TemplatePart content_part item_part template_part (layers.Expr x) in
-    (
+    let part = fold-roll-ItemValue ContentPart ItemPart TemplatePart content_part item_part template_part (layers.Expr x) in (
       λ e is. items.rolls-Expr x ∙ ap items.Expr (one_expression x e (sym (ap (λ (p : ContentPart). p.content) part) ∙ is)),
       λ i e c is. absurd (nothing_in i (subst (λ (p : ContentPart). Contains p.within i) part c)),
     )
 value_layer (layers.Nested t) =
-    let part = fold-roll-ItemValue ContentPart ItemPart TemplatePart content_part item_part template_part (layers.Nested t.0) in
-    (
+    let part = fold-roll-ItemValue ContentPart ItemPart TemplatePart content_part item_part template_part (layers.Nested t.0) in (
       λ e is. absurd (template_expression (parts t.0).var e (sym (ap (λ (p : ContentPart). p.content) part) ∙ is)),
       λ i e c is. InValue.nested t.0 (items.rolls-Nested t.0) (t.1 i e (subst (λ (p : ContentPart). Contains p.within i) part c) is),
     )

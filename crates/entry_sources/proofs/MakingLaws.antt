@@ -75,11 +75,10 @@ module _ (program : Program) (ms ns : List ModelData) (agree : AgreeBut program.
       let less : (scope_within program ms rel before n ≡ scope_within program ns rel before n) × Fine (scope_within program ms rel before n) = scope_same before fine n in
       let x : Scope = scope_within program ms rel before n in
       let each : (v : ℕ) → (by_equation program ms x (variable before v) (equation_of rel.wheres v) ≡ by_equation program ns x (variable before v) (equation_of rel.wheres v))
-          × HasNoTarget program.target (by_equation program ms x (variable before v) (equation_of rel.wheres v)) =
-      λ v. by_same v x (variable before v) (equation_of rel.wheres v) refl less.1 (fine v) in
-      (
+      × HasNoTarget program.target (by_equation program ms x (variable before v) (equation_of rel.wheres v)) =
+      λ v. by_same v x (variable before v) (equation_of rel.wheres v) refl less.1 (fine v) in (
         map_same (λ v. by_equation program ms x (variable before v) (equation_of rel.wheres v)) (λ v. by_equation program ns x (variable before v) (equation_of rel.wheres v)) (variables rel) (λ v. (each v).0)
-        ∙ ap (with_equations program ns rel before) less.0,
+            ∙ ap (with_equations program ns rel before) less.0,
         all_fine (λ v. by_equation program ms x (variable before v) (equation_of rel.wheres v)) (variables rel) (λ v. (each v).1),
       )
 
