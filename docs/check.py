@@ -161,8 +161,13 @@ def answer(program, script, files=None):
 
 
 def value_script(expression, value):
-    test = f'({expression}).oclIsInvalid()' if value == 'invalid' else f'({expression}) = {value}'
-    return ('transformation T (a : K, b : K) { top relation R { domain a x : X {}; domain b y : X {}; where { %s } } }' % test)
+    if value == 'invalid':
+        test = f'({expression}).oclIsInvalid()'
+    elif value.endswith('{}'):
+        test = f'({expression})->isEmpty()'
+    else:
+        test = f'({expression}) = {value}'
+    return ('transformation T (a : K, b : K) { top relation R { domain a a0 : X {}; domain b b0 : X {}; where { %s } } }' % test)
 
 
 def rows_behind(mark, text):
