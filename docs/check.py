@@ -13,7 +13,8 @@ What a document says is found by its marks:
 - Behind `<!-- script -->` stands a whole script or the inside of a transformation, which has to be accepted.
 - A table behind `<!-- values -->` has expressions with their values. Each is a case of crates/evaluation_cases, and is asked of
   the program.
-- Behind `<!-- refused -->` stand rows of a relation's inside that are refused, with what is printed of them.
+- A table behind `<!-- refused KIND -->` has texts that are refused, with what is printed: the inside of a transformation
+  (KIND `script`), a whole script (`text`), a model (`model`), or what stands in a metamodel (`metamodel`).
 """
 import os
 import re
@@ -144,7 +145,15 @@ def check_blocks(faults, path, text, program):
 # ---- expressions and scripts over two small models
 
 META = '''<emof:Package xmi:id="K" name="K">
-  <ownedType xmi:type="emof:Class" xmi:id="K.X" name="X"/>
+  <ownedType xmi:type="emof:Class" xmi:id="Named" name="Named" isAbstract="true"/>
+  <ownedType xmi:type="emof:Class" xmi:id="X" name="X" superClass="Named">
+    <ownedAttribute name="n"><type href="x#Integer"/></ownedAttribute>
+    <ownedAttribute name="s" lower="0"><type href="x#String"/></ownedAttribute>
+    <ownedAttribute name="one" type="X" lower="0"/>
+    <ownedAttribute xmi:id="kids" name="kids" type="X" lower="0" upper="*" isComposite="true" opposite="up"/>
+    <ownedAttribute xmi:id="up" name="up" type="X" lower="0" opposite="kids"/>
+  </ownedType>
+  %s
 </emof:Package>
 '''
 
@@ -152,7 +161,7 @@ META = '''<emof:Package xmi:id="K" name="K">
 def answer(program, script, files=None):
     """What a check of the script prints, over two models with one object each unless files are given."""
     with tempfile.TemporaryDirectory() as folder:
-        given = {'k.emof': META, 'a.xmi': '<xmi:XMI><X xmi:id="x"/></xmi:XMI>', 'b.xmi': '<xmi:XMI><X xmi:id="y"/></xmi:XMI>',
+        given = {'k.emof': META % '', 'a.xmi': '<xmi:XMI><X n="1"/></xmi:XMI>', 'b.xmi': '<xmi:XMI><X n="1"/></xmi:XMI>',
                  'words': 'check s.qvtr b K=k.emof a=a.xmi b=b.xmi', 's.qvtr': script, **(files or {})}
         for name, text in given.items():
             with open(os.path.join(folder, name), 'w', encoding='utf-8') as file:
@@ -204,8 +213,14 @@ def check_script(faults, where, block, program):
 
 
 def check_refused(faults, path, text, program):
-    for row in rows_behind('refused', text):
-        faults.compare(f'{path}: {row[0]}', row[1] + '\n', answer(program, row[0]))
+    """Tables of what is refused: the inside of a transformation, a model, what stands in a metamodel."""
+    converting = 'convert xmi k.emof in.xmi out.xmi'
+    for kind, files in (('script', lambda given: {'s.qvtr': f'transformation T (a : K, b : K) {{ {given} }}'}),
+                        ('text', lambda given: {'s.qvtr': given}),
+                        ('model', lambda given: {'words': converting, 'in.xmi': given}),
+                        ('metamodel', lambda given: {'words': converting, 'k.emof': META % given})):
+        for given, printed, *_ in rows_behind('refused ' + kind, text):
+            faults.compare(f'{path}: {given}', printed + '\n', answer(program, '', files(given)))
 
 
 # ---- copies and cases
