@@ -92,6 +92,14 @@ def check_links(faults, path, text):
             faults.say(path, f'no such heading: {target}')
 
 
+def check_paths(faults, path, text):
+    """Files that a document names by their crate are there."""
+    for name in re.findall(r'`(\w+/(?:src|specs|proofs|stdin|stdout|data)\b[\w./]*)`', without_blocks(text)):
+        faults.done += 1
+        if not os.path.exists(os.path.join(TOP, 'crates', name)) and not os.path.exists(os.path.join(TOP, name)):
+            faults.say(path, f'no such file: {name}')
+
+
 # ---- blocks
 
 def blocks(text):
@@ -306,14 +314,16 @@ def main():
         text = read(path)
         check_lines(faults, path, text)
         check_links(faults, path, text)
+        check_paths(faults, path, text)
         check_blocks(faults, path, text, program)
         check_values(faults, path, text, program)
         if program:
             check_refused(faults, path, text, program)
     check_copies(faults)
-    faults.done += 1
-    if subprocess.run([sys.executable, os.path.join(TOP, 'docs', 'statement.py'), '--check']).returncode:
-        faults.found += 1
+    for script in ('statement.py', 'crates.py'):
+        faults.done += 1
+        if subprocess.run([sys.executable, os.path.join(TOP, 'docs', script), '--check']).returncode:
+            faults.found += 1
     print(f'{faults.done} things were looked at, {faults.found} are not as they should be')
     sys.exit(1 if faults.found else 0)
 
