@@ -96,7 +96,8 @@ def check_paths(faults, path, text):
     """Files that a document names by their crate are there."""
     for name in re.findall(r'`(\w+/(?:src|specs|proofs|stdin|stdout|data)\b[\w./]*)`', without_blocks(text)):
         faults.done += 1
-        if not os.path.exists(os.path.join(TOP, 'crates', name)) and not os.path.exists(os.path.join(TOP, name)):
+        places = [os.path.join(TOP, 'crates', name), os.path.join(TOP, 'crates', name + '.antt'), os.path.join(TOP, name)]
+        if not any(map(os.path.exists, places)):
             faults.say(path, f'no such file: {name}')
 
 
