@@ -7,14 +7,15 @@
 
 What a document says is found by its marks:
 
-- A block ```console has commands behind `$ ` and below each what it prints. They run at the top of a copy of the repository's
-  examples/ (in an example's own README in a copy of its folder), with the program in reach as `qvtr`.
+- A block ```console has commands behind `$ ` and below each what it prints. They run above a copy of examples/ (in an
+  example's own README in a copy of its folder), with the program in reach as `qvtr`.
 - A block behind `<!-- file PATH -->` is that file, or lines of it that follow each other.
 - Behind `<!-- script -->` stands a whole script or the inside of a transformation, which has to be accepted.
-- A table behind `<!-- values -->` has expressions with their values. Each is a case of crates/evaluation_cases, and is asked of
-  the program.
-- A table behind `<!-- refused KIND -->` has texts that are refused, with what is printed: the inside of a transformation
-  (KIND `script`), a whole script (`text`), a model (`model`), or what stands in a metamodel (`metamodel`).
+- A table behind `<!-- values -->` has expressions with their values. Each is a case of crates/evaluation_cases, and
+  is asked of the program.
+- A table behind `<!-- refused KIND -->` has texts that are refused, with what is printed: the inside of a
+  transformation (KIND `script`), a whole script (`text`), a model (`model`), or what stands in a metamodel
+  (`metamodel`).
 """
 import os
 import re
@@ -26,8 +27,8 @@ import tempfile
 TOP = os.path.normpath(os.path.join(os.path.dirname(os.path.abspath(__file__)), '..'))
 WIDEST = 110
 COPIES = {  # what stands twice: of the example, and of the stored run of qvtr_cmd
-    'cls.emof': 'cls.xmi', 'rdb.emof': 'rdb.xmi', 'cls2rdb.qvtr': 's.qvtr', 'shop.xmi': 'u.xmi', 'tables.xmi': 'r.xmi',
-    'no_column.xmi': 'no_column.xmi'}
+    'cls.emof': 'cls.xmi', 'rdb.emof': 'rdb.xmi', 'cls2rdb.qvtr': 's.qvtr', 'shop.xmi': 'u.xmi',
+    'tables.xmi': 'r.xmi', 'no_column.xmi': 'no_column.xmi'}
 CASES_BEGIN = '# The examples of examples/, written by docs/check.py --cases.\n'
 CASES_END = '# Checks of the main script.'
 
@@ -38,8 +39,8 @@ def read(path):
 
 
 def documents():
-    found = subprocess.run(['git', 'ls-files', '--cached', '--others', '--exclude-standard', '*.md'], cwd=TOP, text=True,
-                           stdout=subprocess.PIPE, check=True).stdout.split()
+    words = ['git', 'ls-files', '--cached', '--others', '--exclude-standard', '*.md']
+    found = subprocess.run(words, cwd=TOP, text=True, stdout=subprocess.PIPE, check=True).stdout.split()
     return sorted(path for path in found if os.path.exists(os.path.join(TOP, path)))
 
 
@@ -96,8 +97,8 @@ def check_paths(faults, path, text):
     """Files that a document names by their crate are there."""
     for name in re.findall(r'`(\w+/(?:src|specs|proofs|stdin|stdout|data)\b[\w./]*)`', without_blocks(text)):
         faults.done += 1
-        places = [os.path.join(TOP, 'crates', name), os.path.join(TOP, 'crates', name + '.antt'), os.path.join(TOP, name)]
-        if not any(map(os.path.exists, places)):
+        places = ('crates/' + name, 'crates/' + name + '.antt', name)
+        if not any(os.path.exists(os.path.join(TOP, place)) for place in places):
             faults.say(path, f'no such file: {name}')
 
 
@@ -128,7 +129,8 @@ def run_block(faults, where, block, program, folder):
     script = 'exec 2>&1\nqvtr() { "$QVTR" "$@"; }\n'
     for command, _ in listed:
         script += f'{command}\n__s=$?; printf "\\036"; (exit $__s)\n'
-    done = subprocess.run(['bash', '-c', script], cwd=folder, stdout=subprocess.PIPE, env={**os.environ, 'QVTR': program})
+    done = subprocess.run(['bash', '-c', script], cwd=folder, stdout=subprocess.PIPE,
+                          env={**os.environ, 'QVTR': program})
     printed = done.stdout.decode('utf-8', 'replace').split('\036')
     for (command, wanted), got in zip(listed, printed):
         faults.compare(f'{where}: {command}', wanted, got)
@@ -170,12 +172,14 @@ META = '''<emof:Package xmi:id="K" name="K">
 def answer(program, script, files=None):
     """What a check of the script prints, over two models with one object each unless files are given."""
     with tempfile.TemporaryDirectory() as folder:
-        given = {'k.emof': META % '', 'a.xmi': '<xmi:XMI><X n="1"/></xmi:XMI>', 'b.xmi': '<xmi:XMI><X n="1"/></xmi:XMI>',
+        one = '<xmi:XMI><X n="1"/></xmi:XMI>'
+        given = {'k.emof': META % '', 'a.xmi': one, 'b.xmi': one,
                  'words': 'check s.qvtr b K=k.emof a=a.xmi b=b.xmi', 's.qvtr': script, **(files or {})}
         for name, text in given.items():
             with open(os.path.join(folder, name), 'w', encoding='utf-8') as file:
                 file.write(text)
-        return subprocess.run([program] + given['words'].split(), cwd=folder, stdout=subprocess.PIPE).stdout.decode('utf-8')
+        words = [program] + given['words'].split()
+        return subprocess.run(words, cwd=folder, stdout=subprocess.PIPE).stdout.decode('utf-8')
 
 
 def value_script(expression, value):
@@ -185,7 +189,11 @@ def value_script(expression, value):
         test = f'({expression})->isEmpty()'
     else:
         test = f'({expression}) = {value}'
-    return ('transformation T (a : K, b : K) { top relation R { domain a a0 : X {}; domain b b0 : X {}; where { %s } } }' % test)
+    return inside('top relation R { domain a a0 : X {}; domain b b0 : X {}; where { %s } }' % test)
+
+
+def inside(text):
+    return f'transformation T (a : K, b : K) {{ {text} }}'
 
 
 def rows_behind(mark, text):
@@ -212,8 +220,10 @@ LANGUAGE = 'examples/language'
 
 def check_script(faults, where, block, program):
     """A script over the models of examples/language, or the inside of one."""
-    script = block if 'transformation' in block else 'transformation T (left : Trees, right : Trees) {\n' + block + '}\n'
-    files = {name: read(f'{LANGUAGE}/{name}') for name in os.listdir(os.path.join(TOP, LANGUAGE)) if not name.endswith('.md')}
+    head = 'transformation T (left : Trees, right : Trees) {\n'
+    script = block if 'transformation' in block else head + block + '}\n'
+    names = [name for name in os.listdir(os.path.join(TOP, LANGUAGE)) if not name.endswith('.md')]
+    files = {name: read(f'{LANGUAGE}/{name}') for name in names}
     files['words'] = 'check s.qvtr right Trees=trees.emof left=left.xmi right=right.xmi'
     printed = answer(program, script, files)
     faults.done += 1
@@ -224,7 +234,7 @@ def check_script(faults, where, block, program):
 def check_refused(faults, path, text, program):
     """Tables of what is refused: the inside of a transformation, a model, what stands in a metamodel."""
     converting = 'convert xmi k.emof in.xmi out.xmi'
-    for kind, files in (('script', lambda given: {'s.qvtr': f'transformation T (a : K, b : K) {{ {given} }}'}),
+    for kind, files in (('script', lambda given: {'s.qvtr': inside(given)}),
                         ('text', lambda given: {'s.qvtr': given}),
                         ('model', lambda given: {'words': converting, 'in.xmi': given}),
                         ('metamodel', lambda given: {'words': converting, 'k.emof': META % given})):
@@ -242,11 +252,11 @@ def check_copies(faults):
     for file, wanted in (('stdin', questions), ('stdout', answers)):
         faults.done += 1
         if wanted not in read(f'crates/engine_cases/{file}'):
-            faults.say(f'crates/engine_cases/{file}', 'has not the examples as they are (docs/check.py --cases writes them)')
+            faults.say(f'crates/engine_cases/{file}', 'has not the examples as they are: run docs/check.py --cases')
 
 
 def cases():
-    """The examples as cases of the engine: their files, and each command of their documents with its answer."""
+    """The examples as cases of the engine: their files, and each command over them with its answer."""
     questions, answers = CASES_BEGIN, ''
     for folder in sorted(os.listdir(os.path.join(TOP, 'examples'))):
         here = os.path.join('examples', folder)
@@ -255,7 +265,8 @@ def cases():
         questions += f'# {folder}\n'
         for name in sorted(os.listdir(os.path.join(TOP, here))):
             if not name.endswith('.md'):
-                questions += f'file {name} \n' + ''.join(f'+ {line}\n' for line in read(f'{here}/{name}').split('\n')[:-1])
+                lines = read(f'{here}/{name}').split('\n')[:-1]
+                questions += f'file {name} \n' + ''.join(f'+ {line}\n' for line in lines)
         questions += 'vault\n'
         for command, printed, status in stored_commands(folder):
             line = 'run ' + command
@@ -277,18 +288,22 @@ def stored_commands(folder):
                 words = re.sub(r'\\\n\s*', '', command).split()
                 if words[0] == 'cd':
                     at = os.path.basename(words[1])
-                elif words[0] == 'qvtr' and at == folder and len(words) > 1 and ' '.join(words[1:]) not in met:
-                    met.add(' '.join(words[1:]))
-                    yield ' '.join(words[1:]), printed, status_of(printed)
+                given = ' '.join(words[1:])
+                if words[0] == 'qvtr' and at == folder and given not in met:
+                    met.add(given)
+                    yield given, printed, status_of(printed)
 
 
 def language_of(path):
     return path == 'README.md' or path.startswith(('docs/', 'examples/'))
 
 
+STATUSES = {'yes': 0, 'done': 0, 'no': 1, 'usage': 2, 'fault': 3, 'refused': 4, 'cycle': 7, 'deep': 7, 'limit': 9}
+
+
 def status_of(printed):
     first = printed.split('\n')[0].split(' ')[0]
-    return {'yes': 0, 'done': 0, 'no': 1, 'usage': 2, 'fault': 3, 'refused': 4, 'cycle': 7, 'deep': 7, 'limit': 9}[first]
+    return STATUSES[first]
 
 
 def write_cases():

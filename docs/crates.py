@@ -1,5 +1,5 @@
 #!/usr/bin/env python3
-"""Writes what the pages docs/crates/NAME.md say by the code: public calls, definitions, laws, and the crates above.
+"""Writes what the pages docs/crates/NAME.md say by the code: public calls, definitions, laws, crates above.
 
     python3 docs/crates.py           writes the end of each page, behind the mark
     python3 docs/crates.py --check   only tells which pages are not as they would be written
@@ -23,9 +23,9 @@ def read(*path):
 
 
 def files(crate, folder, ending):
-    found = []
-    for at, _, names in os.walk(os.path.join(TOP, 'crates', crate, folder)):
-        found += [os.path.relpath(os.path.join(at, n), os.path.join(TOP, 'crates', crate)) for n in names if n.endswith(ending)]
+    found, home = [], os.path.join(TOP, 'crates', crate)
+    for at, _, names in os.walk(os.path.join(home, folder)):
+        found += [os.path.relpath(os.path.join(at, n), home) for n in names if n.endswith(ending)]
     return sorted(found)
 
 
@@ -46,17 +46,19 @@ def sentence(text):
 
 
 def bullet(first, text):
-    return textwrap.wrap(text, width=EDGE, initial_indent=first, subsequent_indent=' ' * len(first), break_long_words=False,
-                         break_on_hyphens=False)
+    return textwrap.wrap(text, width=EDGE, initial_indent=first, subsequent_indent=' ' * len(first),
+                         break_long_words=False, break_on_hyphens=False)
 
 
 # ---- code
 
-ITEM = re.compile(r'((?:^[ \t]*///.*\n)*)((?:^[ \t]*#\[.*\]\n)*)^([ \t]*)pub (?:const )?(fn|struct|enum|trait|const|type) (\w+)', re.M)
+ITEM = re.compile(r'((?:^[ \t]*///.*\n)*)((?:^[ \t]*#\[.*\]\n)*)'
+                  r'^([ \t]*)pub (?:const )?(fn|struct|enum|trait|const|type) (\w+)', re.M)
+OWNER = re.compile(r'^(?:impl|pub trait)\b(?:<[^{]*?>)? ?(?:\w+ for )?(\w+)', re.M)
 
 
 def items(crate):
-    """The public items of a crate's files: name, kind, file, first sentence, and the type that a method is of."""
+    """The public items of a crate: name, kind, file, first sentence, the type that a method is of, a law or not."""
     found = []
     for path in files(crate, 'src', '.rt'):
         text = read('crates', crate, path)
@@ -64,7 +66,7 @@ def items(crate):
             comment = re.sub(r'^[ \t]*///', '', item[1], flags=re.M)
             owner = None
             if item[3]:
-                heads = re.findall(r'^(?:impl|pub trait)\b(?:<[^{]*?>)? ?(?:\w+ for )?(\w+)', text[:item.start(4)], re.M)
+                heads = OWNER.findall(text[:item.start(4)])
                 owner = heads[-1] if heads else None
             found.append((item[5], item[4], path, sentence(comment), owner, is_law(text, item.end())))
     return found
@@ -88,10 +90,6 @@ def exported(crate):
     return names
 
 
-def link(crate, path):
-    return f'[{path}](../../crates/{crate}/{path})'
-
-
 def calls(crate):
     names, lines = exported(crate), []
     if names is None:
@@ -100,7 +98,7 @@ def calls(crate):
     for name, kind, path, text, owner, law in every:
         if owner is None and name in names and not (kind == 'fn' and law) and kind != 'const':
             methods = [n for n, k, _, _, o, _ in every if o == name and k == 'fn']
-            line = f'`{name}`' + (f': {text}' if text else '') + (f'. Calls: {", ".join(f"`{m}`" for m in methods)}' if methods else '')
+            line = f'`{name}`' + (f': {text}' if text else '') + (f'. Calls: {listed(methods)}' if methods else '')
             lines += bullet('- ', f'{line} ({os.path.basename(path)}).')
     constants = sorted(n for n, k, _, _, o, _ in every if k == 'const' and n in names)
     if constants:
@@ -126,7 +124,8 @@ def definitions(crate):
     uses = {}
     for module, path in modules.items():
         text = read('crates', crate, path)
-        uses[module] = [m for m in re.findall(r'^(?:pub )?use Rattle\.%s\.specs\.([\w.]+?)(?:\.\{| as |$)' % crate, text, re.M) if m in modules]
+        used = re.findall(r'^(?:pub )?use Rattle\.%s\.specs\.([\w.]+?)(?:\.\{| as |$)' % crate, text, re.M)
+        uses[module] = [m for m in used if m in modules]
     done, order = set(), []
 
     def visit(module):
@@ -141,7 +140,8 @@ def definitions(crate):
     for module in order:
         head = re.match(r'(?:--.*\n)+', read('crates', crate, modules[module]))
         text = sentence(re.sub(r'^-- ?', '', head[0], flags=re.M)) if head else ''
-        lines += bullet('- ', f'[{module}](../../crates/{crate}/{modules[module]})' + (f': {text}.' if text else '.'))
+        link = f'[{module}](../../crates/{crate}/{modules[module]})'
+        lines += bullet('- ', link + (f': {text}.' if text else '.'))
     return lines
 
 
@@ -169,9 +169,11 @@ def end_of_page(crate, stands):
     lines += bullet('', (f'It stands on {listed(own)}' if own else 'It stands on no crate of the repository')
                     + (f', and on the toolchain\'s {listed(kit)}' if kit else '') + '.')
     upper = above(crate, stands)
-    lines += bullet('', f'A change of its code or contracts is proved again here and in what stands above: {listed(upper)}.' if upper
+    again = 'A change of its code or contracts is proved again here and in what stands above: '
+    lines += bullet('', again + listed(upper) + '.' if upper
                     else 'Nothing stands above it: a change is proved again here alone.') + ['']
-    for title, part in (('Public calls', calls(crate)), ('Definitions, those first on which others stand', definitions(crate)),
+    for title, part in (('Public calls', calls(crate)),
+                        ('Definitions, those first on which others stand', definitions(crate)),
                         ('Laws', laws(crate))):
         if part:
             lines += [f'## {title}', ''] + part + ['']
@@ -186,6 +188,11 @@ def head_of_code(crate):
     return ''
 
 
+def new_head(crate):
+    paragraphs = re.split(r'\n\s*\n', head_of_code(crate))
+    return f'# {crate}\n\n' + ''.join('\n'.join(bullet('', p)) + '\n\n' for p in paragraphs)
+
+
 def main():
     stands, amiss = dependencies(), []
     for crate in sorted(stands):
@@ -194,9 +201,7 @@ def main():
         if os.path.exists(path):
             with open(path, encoding='utf-8') as file:
                 before = file.read()
-        head = before.partition(MARK)[0] or f'# {crate}\n\n' + '\n'.join(
-            '\n'.join(bullet('', p)) if not p.startswith('|') else p for p in head_of_code(crate).split('\n\n')) + '\n\n'
-        text = head + end_of_page(crate, stands)
+        text = (before.partition(MARK)[0] or new_head(crate)) + end_of_page(crate, stands)
         if text != before:
             amiss.append(crate)
             if sys.argv[1:] != ['--check']:

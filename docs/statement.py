@@ -4,8 +4,8 @@
     python3 docs/statement.py           writes the page
     python3 docs/statement.py --check   only tells whether it is as it would be written
 
-It follows names from the contract of `run` through the definitions in specs/: a name leads to its definition, and that to the
-names in it. Types that are declared in code (src/) are followed through their fields.
+It follows names from the contract of `run` through the definitions in specs/: a name leads to its definition, and
+that to the names in it. Types that are declared in code (src/) are followed through their fields.
 """
 import collections
 import os
@@ -19,6 +19,7 @@ PAGE = os.path.join(TOP, 'docs', 'STATEMENT.md')
 ROOT = os.path.join('qvtr_engine', 'src', 'top.rt')
 WORD = re.compile(r"[^\s(){}\[\].,:;λ→×¬=|\\\"]+")
 QUALIFIED = re.compile(r"([^\s(){}\[\].,:;]+)\.([^\s(){}\[\].,:;]+)")
+KINDS = re.compile(r'\s*(pub )?(abbrev|unfoldable|data|record)')
 START = re.compile(r'\s*(?:(?:abbrev|unfoldable|pub|data|record|irreducible)\s+)+(\S+)')
 
 
@@ -72,7 +73,8 @@ class Spec:
     """A file of definitions: each with its own words, and a constructor leads to its type."""
 
     def __init__(self, path):
-        self.path, self.uses, self.words, self.owner, self.order, self.handed = path, Uses(), collections.defaultdict(set), {}, [], {}
+        self.path, self.uses, self.words = path, Uses(), collections.defaultdict(set)
+        self.owner, self.order, self.handed = {}, [], {}
         self.head = self.read_head(read(path).split('\n'))
         self.read_definitions(read(path).split('\n'))
 
@@ -105,8 +107,8 @@ class Spec:
             equation = WORD.match(line.strip())
             if line.startswith('module '):
                 name = self.define('module')
-            elif found and not is_field and not (name and deep > indent and not re.match(r'\s*(pub )?(abbrev|unfoldable|data|record)', line)):
-                name, is_record, indent = self.define(found[1]), bool(re.match(r'\s*(pub )?record', line)), deep
+            elif found and not is_field and not (name and deep > indent and not KINDS.match(line)):
+                name, is_record, indent = self.define(found[1]), 'record ' in line.partition(found[1])[0], deep
             elif equation and self.owner.get(equation[0]) and deep <= indent:
                 name = self.owner[equation[0]]
             if name:
@@ -153,8 +155,8 @@ def crates_by_level():
 
 class Walk:
     def __init__(self):
-        self.specs, self.codes, self.reached, self.library = {}, {}, collections.OrderedDict(), collections.defaultdict(set)
-        self.types = collections.OrderedDict()
+        self.specs, self.codes, self.library = {}, {}, collections.defaultdict(set)
+        self.reached, self.types = collections.OrderedDict(), collections.OrderedDict()
         self.open = collections.deque()
 
     def spec(self, crate, module):
@@ -164,10 +166,13 @@ class Walk:
         return self.specs[path]
 
     def code(self, crate, module):
-        for path in (os.path.join(crate, 'src', *module.split('.')) + '.rt', os.path.join(crate, 'src', *module.split('.'), 'mod.rt')):
-            if os.path.exists(os.path.join(CRATES, path)):
-                return self.codes.setdefault(path, None) or self.codes.__setitem__(path, Code(path)) or self.codes[path]
-        return None
+        path = os.path.join(crate, 'src', *module.split('.')) + '.rt'
+        return self.code_at(path) if os.path.exists(os.path.join(CRATES, path)) else None
+
+    def code_at(self, path):
+        if path not in self.codes:
+            self.codes[path] = Code(path)
+        return self.codes[path]
 
     def follow(self, path, name):
         """A name that the module of this path has."""
@@ -211,14 +216,14 @@ class Walk:
                 for other in sorted(code.words[word]):
                     self.reach_field(crate, code, other)
             return
-        found = re.search(r'^use (\w+)(?:::\w+)*::(?:\{[^}]*\b%s\b[^}]*\}|%s);' % (word, word), read(code.path), re.M)
+        brought = r'^use (\w+)(?:::\w+)*::(?:\{[^}]*\b%s\b[^}]*\}|%s);' % (word, word)
+        found = re.search(brought, read(code.path), re.M)
         if not found:
             return
         home = crate if found[1] == 'crate' else found[1]
         for path in files_of(home, 'src', '.rt'):
             if re.search(r'^pub (?:struct|enum|trait) %s\b' % word, read(path), re.M):
-                other = self.codes.setdefault(path, None) or Code(path)
-                self.codes[path] = other
+                other = self.code_at(path)
                 if (path, word) not in self.types:
                     self.types[path, word] = True
                     for inner in sorted(other.words[word]):
@@ -258,11 +263,18 @@ def files_of(crate, folder, ending):
 
 
 def wrapped(first, text, indent='  '):
-    return textwrap.wrap(text, width=106, initial_indent=first, subsequent_indent=indent, break_long_words=False, break_on_hyphens=False)
+    return textwrap.wrap(text, width=106, initial_indent=first, subsequent_indent=indent, break_long_words=False,
+                         break_on_hyphens=False)
+
+
+def quoted(names):
+    return ', '.join(f'`{n}`' for n in names)
 
 
 def more(count):
-    return '.' if count == 0 else '; one more isn\'t needed.' if count == 1 else f'; {count} more aren\'t needed.'
+    if count == 0:
+        return '.'
+    return '; one more isn\'t needed.' if count == 1 else f'; {count} more aren\'t needed.'
 
 
 def page():
@@ -288,21 +300,22 @@ def page():
             lines += wrapped('- ', f'**[{module}](../crates/{path})**: ' + ', '.join(f'`{n}`' for n in names)
                              + more(len([n for n in spec.order if n != 'module']) - len(names)))
         for path in declared:
-            lines += wrapped('- ', f'declared in the code, [{os.path.relpath(path, crate)}](../crates/{path}): '
+            link = f'[{os.path.relpath(path, crate)}](../crates/{path})'
+            lines += wrapped('- ', f'declared in the code, {link}: '
                              + ', '.join(f'`{n}`' for n in types[path]) + '.')
-        inner = [os.path.relpath(p, os.path.join(crate, 'specs'))[:-5] for p in files_of(crate, 'specs', '.antt')
-                 if p not in by_file and not p.endswith('Lib.antt')]
+        every = [p for p in files_of(crate, 'specs', '.antt') if not p.endswith('Lib.antt')]
+        inner = [os.path.relpath(p, os.path.join(crate, 'specs'))[:-5] for p in every if p not in by_file]
         if inner:
             lines += wrapped('- ', 'inner, not part of the statement of `run`: ' + ', '.join(inner) + '.')
         lines.append('')
     rest = [c for c in crates_by_level() if os.path.isdir(os.path.join(CRATES, c, 'specs'))
             and not any(p.split(os.sep)[0] == c for p in by_file)]
     lines += ['## Crates that the statement doesn\'t reach', '']
-    lines += wrapped('', 'All of their `specs/` are inner: ' + ', '.join(f'`{c}`' for c in rest) + '.', '') + ['']
+    lines += wrapped('', 'All of their `specs/` are inner: ' + quoted(rest) + '.', '') + ['']
     lines += ['## Words of the library', '']
-    lines += wrapped('', 'The definitions also use words of the toolchain\'s library, which are trusted as it is:', '') + ['']
+    lines += ['The definitions also use words of the toolchain\'s library, which are trusted as it is:', '']
     for module in sorted(walk.library):
-        lines += wrapped('- ', f'`{module}`: ' + ', '.join(f'`{n}`' for n in sorted(walk.library[module])) + '.')
+        lines += wrapped('- ', f'`{module}`: ' + quoted(sorted(walk.library[module])) + '.')
     return '\n'.join(lines) + '\n'
 
 
@@ -313,9 +326,9 @@ HEAD = '''# What a reader has to believe
 contract says the right thing, and trusts the toolchain, needs to read no other code and no proof.
 
 The contract is made of definitions. This page lists all that it reaches, by file: **{definitions} definitions
-in {files} files**, and {types} types and constants that the code declares. The script `docs/statement.py` makes
-the page by following names. The list is long since it holds a whole language: two file formats with their
-faults, the grammar, the types, and the meaning of relations.
+in {files} files**, and {types} types and constants that the code declares. The script
+`docs/statement.py` makes the page by following names. The list is long since it holds a whole language: two
+file formats with their faults, the grammar, the types, and the meaning of relations.
 
 How to read it:
 
