@@ -145,6 +145,19 @@ def definitions(crate):
     return lines
 
 
+# ---- what is refused
+
+def refused(crate):
+    """Edits of code that the prover has to refuse, and examples of wrong answers that the definitions exclude."""
+    edits = sorted(os.path.basename(p)[:-len('.edit')] for p in files(crate, 'must-fail', '.edit'))
+    lines = bullet('- ', f'Edits that must fail: {listed(edits)}.') if edits else []
+    if os.path.exists(os.path.join(TOP, 'crates', crate, 'proofs', 'Refuting.antt')):
+        text = read('crates', crate, 'proofs', 'Refuting.antt')
+        for comment, name in re.findall(r'((?:^-- .*\n)+)pub (\w+) :', text, re.M):
+            lines += bullet('- ', f'`{name}` excludes: {sentence(re.sub("^-- ", "", comment, flags=re.M))}.')
+    return lines
+
+
 # ---- pages
 
 def above(crate, stands):
@@ -174,7 +187,7 @@ def end_of_page(crate, stands):
                     else 'Nothing stands above it: a change is proved again here alone.') + ['']
     for title, part in (('Public calls', calls(crate)),
                         ('Definitions, those first on which others stand', definitions(crate)),
-                        ('Laws', laws(crate))):
+                        ('Laws', laws(crate)), ('What is refused', refused(crate))):
         if part:
             lines += [f'## {title}', ''] + part + ['']
     return '\n'.join(lines).rstrip('\n') + '\n'
