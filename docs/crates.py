@@ -214,7 +214,8 @@ def main():
         if os.path.exists(path):
             with open(path, encoding='utf-8') as file:
                 before = file.read()
-        text = (before.partition(MARK)[0] or new_head(crate)) + end_of_page(crate, stands)
+        head = before.partition(MARK)[0] or new_head(crate)
+        text = head.rstrip('\n') + '\n\n' + end_of_page(crate, stands)
         if text != before:
             amiss.append(crate)
             if sys.argv[1:] != ['--check']:
