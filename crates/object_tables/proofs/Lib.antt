@@ -2,6 +2,8 @@ pub mod ListLemmas
 pub mod RowLemmas
 pub mod ObjectLemmas
 pub mod FlatLemmas
+pub mod GrowLemmas
+pub mod StoredLemmas
 pub mod ModelLemmas
 pub mod EditLemmas
 pub mod AddLemmas

@@ -1,6 +1,7 @@
 pub mod Lists
 pub mod Rows
 pub mod Flat
+pub mod Stored
 pub mod Objects
 pub mod Models
 pub mod Tied

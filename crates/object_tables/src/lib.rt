@@ -17,8 +17,8 @@
 //! four bytes for each object while they run. `validity` and `least_on_cycle` take no memory: they are linear where
 //! containers come before what they contain, and at worst the square of the number of objects. What takes memory is
 //! amortised. Identifiers are hashed by SipHash.
-//! An object takes one place for each property of its class and two more, 64 bytes each besides the values: a million objects of
-//! nine properties take 1.25 GB, with the room that vectors keep for more. A deleted one keeps its places.
+//! An object takes one place for each property of its class and two more. A place that holds nothing takes eight bytes, one
+//! with values 24 more besides the values, one that is or was joined to others 40 more, and each link 48. A deleted object keeps its places.
 #![tactic(auto)]
 
 mod breach;

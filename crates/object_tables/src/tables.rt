@@ -1,14 +1,18 @@
 ghost use Rattle.std.specs.Prelude.{◌≡◌, ◌≢◌, ℕ, ◌+◌, ◌-◌, ◌<◌, ◌≤◌, ◌^◌, List, [], ◌∷◌, ◌++◌, length, replicate, ◌↔◌, IsTrue, IfOk, IfErr, OnOk, OnErr, Contains, Option, Some, None};
 ghost use Rattle.std.specs.Option.{option_copied};
 ghost use Rattle.std.specs.Vec.{vec_len, vec_capacity};
-ghost use Rattle.object_tables.specs.Flat.{end_at, entry_at, home_at, address, fresh_homes};
+ghost use Rattle.object_tables.specs.Flat.{number_at, end_at, entry_at, home_at, address};
 ghost use Rattle.object_tables.specs.Lists.{update_at};
 ghost use Rattle.object_tables.specs.Rows.{row_at, place_at, joined_at, with_place, with_joined, with_last, without_address, without_join, with_values, fresh_row, cleared_place, cleared_upto, unnamed, IsRanged, IsMutual};
 
 mod copies;
+mod ends;
 mod orders;
+mod stored;
 
+use crate::tables::ends::{need_ends, need_no_end};
 use crate::tables::orders::need_marks;
+use crate::tables::stored::{Stored, push_zeros};
 use crate::value::Value;
 use link_arena::{Arena, Others};
 use mof_metamodel::{Seq, Text};
@@ -30,19 +34,22 @@ pub(crate) struct Entry {
     count: u32,
 }
 
-/// A place: whose it is, which of its places it is, and the values there.
-#[derive(Drop)]
+/// A place that is an end: whose it is, and which of its places it is.
+#[derive(Clone, Copy)]
 pub(crate) struct Home {
     object: u32,
     place: u32,
-    values: Seq<Value>,
 }
 
 /// Objects with places that hold values and are joined to each other, in flat tables: an object's places stand one after
-/// another in the table of places, and each is an end of one arena of links.
+/// another, and each that has been joined to another is an end of one arena of links. A place that holds nothing costs
+/// eight bytes.
 #[derive(Drop)]
 pub(crate) struct Tables {
     entries: Vec<Entry>,
+    values: Stored,
+    /// For each place the end that it is, or 0, an end that is joined to nothing.
+    index: Vec<u32>,
     homes: Vec<Home>,
     arena: Arena,
     /// For each object room for an end.
@@ -58,13 +65,13 @@ impl Model for Tables {
 
     ghost Value = { List Row };
 
-    ghost use Rattle.std.specs.Prelude.{length, ◌≤◌};
+    ghost use Rattle.std.specs.Prelude.{length, ◌≡◌, ◌≤◌};
     ghost use Rattle.std.specs.Vec.{vec_capacity};
     ghost use Rattle.object_tables.specs.Flat.{rows_of, IsFlat};
 
-    ghost view = { λ t. rows_of t.entries.items t.homes.items t.arena };
+    ghost view = { λ t. rows_of t.entries.items t.values t.index.items t.homes.items t.arena };
 
-    ghost invariant = { λ t. IsFlat t.entries.items t.homes.items t.arena × (length t.entries.items ≤ length t.marks.items) × (length t.entries.items ≤ vec_capacity t.order) };
+    ghost invariant = { λ t. IsFlat t.entries.items t.index.items t.homes.items t.arena × (length t.values ≡ length t.index.items) × (length t.entries.items ≤ length t.marks.items) × (length t.entries.items ≤ vec_capacity t.order) };
 }
 
 impl Tables {
@@ -74,6 +81,8 @@ impl Tables {
     {
         Tables {
             entries: Vec::new(alloc),
+            values: Stored::new(alloc),
+            index: Vec::new(alloc),
             homes: Vec::new(alloc),
             arena: Arena::new(alloc),
             marks: Vec::new(alloc),
@@ -105,8 +114,8 @@ impl Tables {
         requires place { k < length (row_at self.now o).places }
         ensures { result.now ≡ (place_at self.now o k).values }
     {
-        let end = end_of(&self.entries, o, k);
-        values_at(&self.homes, end)
+        let n = number_of(&self.entries, o, k);
+        self.values.at(n)
     }
 }
 
@@ -122,8 +131,14 @@ impl Tables {
         ensures ok { OnOk result (self.new ≡ with_last (with_last self.old o k (other, place)) other place (o, k)) }
         ensures err { OnErr result (self.new ≡ self.old) }
     {
-        let first = end_of(&self.entries, o, k);
-        let second = end_of(&self.entries, other, place);
+        let (first, second) = need_ends(
+            &self.entries,
+            &mut self.index,
+            &mut self.homes,
+            &mut self.arena,
+            (o, k),
+            (other, place),
+        )?;
         self.arena.join(first, second)
     }
 
@@ -136,8 +151,8 @@ impl Tables {
         requires joined { Contains (joined_at self.old o k) (other, place) }
         ensures { self.new ≡ without_join (without_join self.old o k (other, place)) other place (o, k) }
     {
-        let first = end_of(&self.entries, o, k);
-        let second = end_of(&self.entries, other, place);
+        let first = end_of(&self.entries, &self.index, o, k);
+        let second = end_of(&self.entries, &self.index, other, place);
         let _ = self.arena.end_count();
         self.arena.part(first, second);
     }
@@ -149,24 +164,27 @@ impl Tables {
         ensures ok { OnOk result (self.new ≡ self.old ++ fresh_row named count ∷ []) }
         ensures err { IfErr result (λ back. (self.new ≡ self.old) × (back ≡ named)) }
     {
-        let first = self.arena.end_count();
+        let first = self.index.len() as u32;
         if count >= u32::MAX - first {
             return Err(named);
         }
-        let object = self.entries.len() as u32;
         if self.entries.reserve(1).is_err() {
             return Err(named);
         }
-        if self.homes.reserve(count as usize).is_err() {
+        if self.index.reserve(count as usize).is_err() {
             return Err(named);
         }
         let objects = self.entries.len() + 1;
         let Ok(()) = need_marks(&mut self.marks, &mut self.order, objects) else {
             return Err(named);
         };
-        match self.arena.add_ends(count) {
+        let Ok(()) = need_no_end(&self.entries, &self.index, &mut self.homes, &mut self.arena)
+        else {
+            return Err(named);
+        };
+        match self.values.add(count) {
             Ok(()) => {
-                push_homes(&mut self.homes, self.alloc, object, count);
+                push_zeros(&mut self.index, count);
                 self.entries.push_reserved(Entry {
                     named: Some(named),
                     first,
@@ -184,10 +202,11 @@ impl Tables {
         requires place { k < length (row_at self.old o).places }
         ensures { self.new ≡ cleared_place self.old o k }
     {
-        let end = end_of(&self.entries, o, k);
+        let end = end_of(&self.entries, &self.index, o, k);
         let _ = self.arena.end_count();
         self.arena.part_all(end);
-        put_values(&mut self.homes, end, Seq::new(self.alloc));
+        let n = number_of(&self.entries, o, k);
+        self.values.put(n, Seq::new(self.alloc));
     }
 
     /// How many places an object has.
@@ -204,7 +223,7 @@ impl Tables {
         requires place { k < length (row_at self.now o).places }
         ensures { result ≡ length (joined_at self.now o k) }
     {
-        let end = end_of(&self.entries, o, k);
+        let end = end_of(&self.entries, &self.index, o, k);
         self.arena.degree(end)
     }
 
@@ -244,7 +263,7 @@ impl Tables {
         requires place { k < length (row_at self.now o).places }
         ensures { result ≡ joined_at self.now o k }
     {
-        let end = end_of(&self.entries, o, k);
+        let end = end_of(&self.entries, &self.index, o, k);
         Joined {
             others: self.arena.others(end),
             homes: self.homes.as_slice(),
@@ -259,8 +278,8 @@ impl Tables {
         requires second_place { place < length (row_at self.now other).places }
         ensures { IsTrue result ↔ Contains (joined_at self.now o k) (other, place) }
     {
-        let first = end_of(&self.entries, o, k);
-        let second = end_of(&self.entries, other, place);
+        let first = end_of(&self.entries, &self.index, o, k);
+        let second = end_of(&self.entries, &self.index, other, place);
         let _ = self.arena.end_count();
         self.arena.is_joined(first, second)
     }
@@ -271,8 +290,8 @@ impl Tables {
         requires place { k < length (row_at self.old o).places }
         ensures { self.new ≡ with_values self.old o k values }
     {
-        let end = end_of(&self.entries, o, k);
-        put_values(&mut self.homes, end, values);
+        let n = number_of(&self.entries, o, k);
+        self.values.put(n, values);
     }
 }
 
@@ -321,43 +340,23 @@ fn address_of(homes: &[Home], end: u32) -> (u32, u32)
     (home.object, home.place)
 }
 
-/// The end at which a place stands.
-fn end_of(entries: &[Entry], o: u32, k: u32) -> u32
+/// The number of a place.
+fn number_of(entries: &[Entry], o: u32, k: u32) -> u32
     requires object { o < length entries.now }
-    requires small { end_at entries.now o k < 2 ^ 32 }
-    ensures { result ≡ end_at entries.now o k }
+    requires small { number_at entries.now o k < 2 ^ 32 }
+    ensures { result ≡ number_at entries.now o k }
 {
     entries[o as usize].first + k
 }
 
-/// The values at an end.
-fn values_at(homes: &[Home], end: u32) -> &[Value]
-    requires { end < length homes.now }
-    ensures { result.now ≡ (home_at homes.now end).values }
+/// The end that a place is, or 0.
+fn end_of(entries: &[Entry], index: &[u32], o: u32, k: u32) -> u32
+    requires object { o < length entries.now }
+    requires small { number_at entries.now o k < 2 ^ 32 }
+    requires within { number_at entries.now o k < length index.now }
+    ensures { result ≡ end_at entries.now index.now o k }
 {
-    homes[end as usize].values.as_slice()
-}
-
-/// Puts values at an end.
-fn put_values(homes: &mut Vec<Home>, end: u32, values: Seq<Value>)
-    requires { end < length homes.old.items }
-    ensures { homes.new.items ≡ update_at homes.old.items end (λ h. record h { values = values }) }
-{
-    homes[end as usize].values = values;
-}
-
-/// Adds the places of an object, for which there is room.
-fn push_homes(homes: &mut Vec<Home>, alloc: Global, object: u32, count: u32)
-    requires { vec_len homes.old + count ≤ vec_capacity homes.old }
-    ensures { homes.new.items ≡ homes.old.items ++ fresh_homes object count }
-{
-    for place in 0..count {
-        homes.push_reserved(Home {
-            object,
-            place,
-            values: Seq::new(alloc),
-        });
-    }
+    index[number_of(entries, o, k) as usize]
 }
 
 /// How many places an object has.

@@ -1,8 +1,7 @@
 ghost use Rattle.std.specs.Prelude.{◌≡◌, IfOk};
 
-use crate::tables::{Entry, Home, Named, Tables};
-use crate::value::Value;
-use mof_metamodel::{NoMemory, Seq, or_drop};
+use crate::tables::{Entry, Named, Tables};
+use mof_metamodel::{NoMemory, or_drop};
 use std::alloc::Global;
 
 impl Tables {
@@ -11,13 +10,18 @@ impl Tables {
         ensures { IfOk result (λ copy. copy ≡ self.now) }
     {
         let entries = copy_entries(alloc, &self.entries)?;
-        let homes = or_drop!(copy_homes(alloc, &self.homes); entries);
-        let arena = or_drop!(self.arena.duplicate(alloc); homes, entries);
-        let marks = or_drop!(Vec::from_slice(alloc, self.marks.as_slice()); arena, homes, entries);
+        let values = or_drop!(self.values.duplicate(alloc); entries);
+        let index = or_drop!(Vec::from_slice(alloc, self.index.as_slice()); values, entries);
+        let homes = or_drop!(Vec::from_slice(alloc, self.homes.as_slice()); index, values, entries);
+        let arena = or_drop!(self.arena.duplicate(alloc); homes, index, values, entries);
+        let marks = Vec::from_slice(alloc, self.marks.as_slice());
+        let marks = or_drop!(marks; arena, homes, index, values, entries);
         let order = Vec::with_capacity(alloc, self.entries.len());
-        let order = or_drop!(order; marks, arena, homes, entries);
+        let order = or_drop!(order; marks, arena, homes, index, values, entries);
         Ok(Tables {
             entries,
+            values,
+            index,
             homes,
             arena,
             marks,
@@ -60,40 +64,6 @@ fn copy_entries(alloc: Global, entries: &[Entry]) -> Result<Vec<Entry>, NoMemory
     let mut copies = Vec::with_capacity(alloc, entries.len())?;
     for entry in entries {
         copies.push(copy_entry(alloc, entry)?)?;
-    }
-    Ok(copies)
-}
-
-/// Copies of values.
-fn copy_values(alloc: Global, values: &[Value]) -> Result<Seq<Value>, NoMemory>
-    ensures { IfOk result (λ copies. copies ≡ values.now) }
-{
-    let mut copies = Seq::new(alloc);
-    for value in values {
-        copies.push(value.duplicate(alloc)?)?;
-    }
-    Ok(copies)
-}
-
-/// A copy of a place.
-fn copy_home(alloc: Global, home: &Home) -> Result<Home, NoMemory>
-    ensures { IfOk result (λ copy. copy ≡ home.now) }
-{
-    let values = copy_values(alloc, home.values.as_slice())?;
-    Ok(Home {
-        object: home.object,
-        place: home.place,
-        values,
-    })
-}
-
-/// Copies of places.
-fn copy_homes(alloc: Global, homes: &[Home]) -> Result<Vec<Home>, NoMemory>
-    ensures { IfOk result (λ copies. copies.items ≡ homes.now) }
-{
-    let mut copies = Vec::with_capacity(alloc, homes.len())?;
-    for home in homes {
-        copies.push(copy_home(alloc, home)?)?;
     }
     Ok(copies)
 }

@@ -18,7 +18,7 @@ impl Tables {
         requires same { IsPermutation (map (λ b. b.0) order.now) (map (λ e. e.0) (joined_at self.old o k)) }
         ensures { IsReordered self.old o k (map (λ b. b.0) order.now) self.new }
     {
-        let end = end_of(&self.entries, o, k);
+        let end = end_of(&self.entries, &self.index, o, k);
         mark_ends(
             &self.homes,
             self.arena.others(end),

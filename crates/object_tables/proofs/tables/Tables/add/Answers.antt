@@ -1,65 +1,105 @@
-use Rattle.std.proofs.Common.{◌≡◌, ◌+◌, arith, refl, ◌∙◌, ap, ◌++◌, ◌∷◌, [], Some, length}
-use Rattle.std.proofs.lemmas.List.{length_push}
-use Rattle.object_tables.specs.Flat.{fresh_homes}
+use Rattle.std.proofs.Common.{◌≡◌, ◌+◌, ℕ, List, arith, refl, ◌∙◌, ap, subst, ◌++◌, ◌∷◌, [], Some, length, replicate}
+use Rattle.std.proofs.lemmas.List.{length_push, length-append, length-replicate}
+use Rattle.object_tables.specs.declared.tables.Entry.{Entry}
+use Rattle.object_tables.specs.Flat.{IsGrown, rows_of}
 use Rattle.object_tables.proofs.FlatLemmas.{flat-add_at, rows-add_at}
+use Rattle.object_tables.proofs.GrowLemmas.{rows_grown}
 use Rattle.object_tables.proofs.tables.Tables.add.Goals as goal
 
-pub invariant_of-self-in-Ok-add_ends : goal.invariant_of-self-in-Ok-add_ends
-invariant_of-self-in-Ok-add_ends c =
-    let more : length c.push_reserved.new.self.items ≡ length c.self.inside.entries.items + 1 =
-    ap length (c.push_reserved.ensures.items ∙ ap (λ es. es ++ record { named = Some c.args.named; first = c.end_count-first.result; count = c.args.count } ∷ []) c.reserve.ensures.items)
-    ∙ length_push c.self.inside.entries.items _ in
+pub invariant_of-self-in-Ok-add : goal.invariant_of-self-in-Ok-add
+invariant_of-self-in-Ok-add c =
+    let g : IsGrown c.self.inside.entries.items c.self.inside.index.items c.self.inside.homes.items c.self.inside.arena c.self.inside.index.items
+    c.need_no_end.new.homes.items c.need_no_end.new.arena =
+    subst (λ (es : List Entry). IsGrown es c.self.inside.index.items c.self.inside.homes.items c.self.inside.arena c.self.inside.index.items
+    c.need_no_end.new.homes.items c.need_no_end.new.arena) (c.deref.ensures.value ∙ c.reserve.ensures.items)
+    (subst (λ (ix : List ℕ). IsGrown c.deref.result.now ix c.self.inside.homes.items c.self.inside.arena ix c.need_no_end.new.homes.items c.need_no_end.new.arena)
+    (c.deref-2.ensures.value ∙ c.reserve-2.ensures.items) c.need_no_end.ensures.grown) in
+    let first : c.len-first.result ≡ length c.self.inside.index.items = c.len-first.ensures ∙ c.self.inside.index.ok.0 in
+    let entries : c.push_reserved.new.self.items ≡ c.self.inside.entries.items ++ record {
+      named = Some c.args.named;
+      first = c.len-first.result;
+      count =
+          c.args.count;
+    } ∷ [] =
+    c.push_reserved.ensures.items ∙ ap (λ es. es ++ record {
+      named = Some c.args.named;
+      first = c.len-first.result;
+      count =
+          c.args.count;
+    } ∷ []) c.reserve.ensures.items in
+    let index : c.push_zeros.new.index.items ≡ c.self.inside.index.items ++ replicate c.args.count 0 = c.push_zeros.ensures
+    ∙ ap (λ xs. xs ++ replicate c.args.count 0) c.reserve-2.ensures.items in
+    let more : length c.push_reserved.new.self.items ≡ length c.self.inside.entries.items + 1 = ap length entries ∙ length_push c.self.inside.entries.items _ in
     let objects : c.len-objects.result ≡ length c.self.inside.entries.items = c.len-objects.ensures ∙ c.reserve.new.self.ok.0 ∙ ap length c.reserve.ensures.items in
+    let values : length c.add.new.self ≡ length c.self.inside.values + c.args.count = ap length c.in-Ok-add.ensures.ok
+    ∙ length-append c.self.inside.values (replicate c.args.count []) ∙ ap (λ n. length c.self.inside.values + n) (length-replicate c.args.count []) in
+    let places : length c.push_zeros.new.index.items ≡ length c.self.inside.index.items + c.args.count = ap length index
+    ∙ length-append c.self.inside.index.items (replicate c.args.count 0) ∙ ap (λ n. length c.self.inside.index.items + n) (length-replicate c.args.count 0) in
+    let both = c.self.invariant.1 in
     let marks = c.in-Ok.ensures.marks in
     let order = c.in-Ok.ensures.order in (
-      flat-add_at _ _ _ _ _ _ c.args.named c.args.count c.end_count-first.result c.len-object.result c.self.invariant.0
-          (let e = c.end_count-first.ensures.count in omega arith)
-          c.end_count-first.ensures.count
-          (c.len-object.ensures ∙ c.self.inside.entries.ok.0)
-          (c.push_reserved.ensures.items ∙ ap (λ es. es ++ record { named = Some c.args.named; first = c.end_count-first.result; count = c.args.count } ∷ []) c.reserve.ensures.items)
-          (c.push_homes.ensures ∙ ap (λ hs. hs ++ fresh_homes c.len-object.result c.args.count) c.reserve-2.ensures.items)
-          c.in-Ok-add_ends.ensures.ok,
+      flat-add_at _ _ _ _ _ _ c.args.named c.args.count c.len-first.result g.flat c.in-Ok-need_no_end.ensures.some (let t =
+          c.if-count-first.false in omega arith) first entries index,
+      omega arith,
       omega arith,
       omega arith,
     )
 
-pub returns-in-Ok-add_ends-clause-ok : goal.returns-in-Ok-add_ends-clause-ok
-returns-in-Ok-add_ends-clause-ok c =
-    rows-add_at _ _ _ _ _ _ _ c.args.named c.args.count c.end_count-first.result c.len-object.result c.self.invariant.0 c.end_count-first.ensures.simple c.self.view_is
-    c.end_count-first.ensures.count
-    (c.len-object.ensures ∙ c.self.inside.entries.ok.0)
-    (c.push_reserved.ensures.items ∙ ap (λ es. es ++ record { named = Some c.args.named; first = c.end_count-first.result; count = c.args.count } ∷ []) c.reserve.ensures.items)
-    (c.push_homes.ensures ∙ ap (λ hs. hs ++ fresh_homes c.len-object.result c.args.count) c.reserve-2.ensures.items)
-    c.in-Ok-add_ends.ensures.ok
+pub returns-in-Ok-add-clause-ok : goal.returns-in-Ok-add-clause-ok
+returns-in-Ok-add-clause-ok c =
+    let g : IsGrown c.self.inside.entries.items c.self.inside.index.items c.self.inside.homes.items c.self.inside.arena c.self.inside.index.items
+    c.need_no_end.new.homes.items c.need_no_end.new.arena =
+    subst (λ (es : List Entry). IsGrown es c.self.inside.index.items c.self.inside.homes.items c.self.inside.arena c.self.inside.index.items
+    c.need_no_end.new.homes.items c.need_no_end.new.arena) (c.deref.ensures.value ∙ c.reserve.ensures.items)
+    (subst (λ (ix : List ℕ). IsGrown c.deref.result.now ix c.self.inside.homes.items c.self.inside.arena ix c.need_no_end.new.homes.items c.need_no_end.new.arena)
+    (c.deref-2.ensures.value ∙ c.reserve-2.ensures.items) c.need_no_end.ensures.grown) in
+    let seen : rows_of c.self.inside.entries.items c.self.inside.values c.self.inside.index.items c.need_no_end.new.homes.items c.need_no_end.new.arena ≡
+    c.args.self.now =
+    rows_grown c.self.inside.entries.items c.self.inside.values c.self.inside.index.items c.self.inside.index.items c.self.inside.homes.items
+    c.need_no_end.new.homes.items c.self.inside.arena c.need_no_end.new.arena c.args.self.now g c.self.view_is in
+    let first : c.len-first.result ≡ length c.self.inside.index.items = c.len-first.ensures ∙ c.self.inside.index.ok.0 in
+    let entries : c.push_reserved.new.self.items ≡ c.self.inside.entries.items ++ record {
+      named = Some c.args.named;
+      first = c.len-first.result;
+      count =
+          c.args.count;
+    } ∷ [] =
+    c.push_reserved.ensures.items ∙ ap (λ es. es ++ record {
+      named = Some c.args.named;
+      first = c.len-first.result;
+      count =
+          c.args.count;
+    } ∷ []) c.reserve.ensures.items in
+    let index : c.push_zeros.new.index.items ≡ c.self.inside.index.items ++ replicate c.args.count 0 = c.push_zeros.ensures
+    ∙ ap (λ xs. xs ++ replicate c.args.count 0) c.reserve-2.ensures.items in
+    rows-add_at c.self.inside.entries.items c.push_reserved.new.self.items c.self.inside.values c.add.new.self c.self.inside.index.items c.push_zeros.new.index.items
+    c.need_no_end.new.homes.items c.need_no_end.new.arena c.args.self.now c.args.named c.args.count c.len-first.result
+    g.flat c.self.invariant.1 seen first entries c.in-Ok-add.ensures.ok index
 
-pub invariant_of-self : goal.invariant_of-self
-invariant_of-self c = rw c.reserve.ensures.items c.self.invariant
-
-pub returns-then-is_err-clause-err : goal.returns-then-is_err-clause-err
-returns-then-is_err-clause-err c = (rw c.reserve.ensures.items c.self.view_is, refl)
-
-pub invariant_of-self-then-is_err-2 : goal.invariant_of-self-then-is_err-2
-invariant_of-self-then-is_err-2 c = rw (c.reserve.ensures.items, c.reserve-2.ensures.items) c.self.invariant
-
-pub returns-then-is_err-2-clause-err : goal.returns-then-is_err-2-clause-err
-returns-then-is_err-2-clause-err c = (rw (c.reserve.ensures.items, c.reserve-2.ensures.items) c.self.view_is, refl)
-
-pub invariant_of-self-in_default : goal.invariant_of-self-in_default
-invariant_of-self-in_default c = (
-  rw (c.reserve.ensures.items, c.reserve-2.ensures.items) c.self.invariant.0,
-  rw c.reserve.ensures.items (let less = c.self.invariant.1 in let more = c.need_marks.ensures.more_marks in omega arith),
-  rw c.reserve.ensures.items (let less = c.self.invariant.2 in let more = c.need_marks.ensures.more_order in omega arith),
-)
-
-pub returns-in_default-clause-err : goal.returns-in_default-clause-err
-returns-in_default-clause-err c = (rw (c.reserve.ensures.items, c.reserve-2.ensures.items) c.self.view_is, refl)
-
-pub invariant_of-self-in-Err : goal.invariant_of-self-in-Err
-invariant_of-self-in-Err c = (
-  rw (c.reserve.ensures.items, c.reserve-2.ensures.items, c.in-Err.ensures.err) c.self.invariant.0,
-  rw c.reserve.ensures.items (let less = c.self.invariant.1 in let more = c.need_marks.ensures.more_marks in omega arith),
-  rw c.reserve.ensures.items (let less = c.self.invariant.2 in let more = c.need_marks.ensures.more_order in omega arith),
-)
+pub returns-in_default-need_no_end-clause-err : goal.returns-in_default-need_no_end-clause-err
+returns-in_default-need_no_end-clause-err c =
+    let g : IsGrown c.self.inside.entries.items c.self.inside.index.items c.self.inside.homes.items c.self.inside.arena c.self.inside.index.items
+    c.need_no_end.new.homes.items c.need_no_end.new.arena =
+    subst (λ (es : List Entry). IsGrown es c.self.inside.index.items c.self.inside.homes.items c.self.inside.arena c.self.inside.index.items
+    c.need_no_end.new.homes.items c.need_no_end.new.arena) (c.deref.ensures.value ∙ c.reserve.ensures.items)
+    (subst (λ (ix : List ℕ). IsGrown c.deref.result.now ix c.self.inside.homes.items c.self.inside.arena ix c.need_no_end.new.homes.items c.need_no_end.new.arena)
+    (c.deref-2.ensures.value ∙ c.reserve-2.ensures.items) c.need_no_end.ensures.grown) in
+    let seen : rows_of c.self.inside.entries.items c.self.inside.values c.self.inside.index.items c.need_no_end.new.homes.items c.need_no_end.new.arena ≡
+    c.args.self.now =
+    rows_grown c.self.inside.entries.items c.self.inside.values c.self.inside.index.items c.self.inside.index.items c.self.inside.homes.items
+    c.need_no_end.new.homes.items c.self.inside.arena c.need_no_end.new.arena c.args.self.now g c.self.view_is in
+    (rw (c.reserve.ensures.items, c.reserve-2.ensures.items) seen, refl)
 
 pub returns-in-Err-clause-err : goal.returns-in-Err-clause-err
-returns-in-Err-clause-err c = (rw (c.reserve.ensures.items, c.reserve-2.ensures.items, c.in-Err.ensures.err) c.self.view_is, refl)
+returns-in-Err-clause-err c =
+    let g : IsGrown c.self.inside.entries.items c.self.inside.index.items c.self.inside.homes.items c.self.inside.arena c.self.inside.index.items
+    c.need_no_end.new.homes.items c.need_no_end.new.arena =
+    subst (λ (es : List Entry). IsGrown es c.self.inside.index.items c.self.inside.homes.items c.self.inside.arena c.self.inside.index.items
+    c.need_no_end.new.homes.items c.need_no_end.new.arena) (c.deref.ensures.value ∙ c.reserve.ensures.items)
+    (subst (λ (ix : List ℕ). IsGrown c.deref.result.now ix c.self.inside.homes.items c.self.inside.arena ix c.need_no_end.new.homes.items c.need_no_end.new.arena)
+    (c.deref-2.ensures.value ∙ c.reserve-2.ensures.items) c.need_no_end.ensures.grown) in
+    let seen : rows_of c.self.inside.entries.items c.self.inside.values c.self.inside.index.items c.need_no_end.new.homes.items c.need_no_end.new.arena ≡
+    c.args.self.now =
+    rows_grown c.self.inside.entries.items c.self.inside.values c.self.inside.index.items c.self.inside.index.items c.self.inside.homes.items
+    c.need_no_end.new.homes.items c.self.inside.arena c.need_no_end.new.arena c.args.self.now g c.self.view_is in
+    (rw (c.reserve.ensures.items, c.reserve-2.ensures.items, c.in-Err.ensures.err) seen, refl)

@@ -1,18 +1,41 @@
-use Rattle.std.proofs.Common.{sym, ◌∙◌, ap, length, get_or, []}
+use Rattle.std.proofs.Common.{◌≡◌, sym, ◌∙◌, ap, length, get_or, []}
+use Rattle.object_tables.specs.Flat.{IsSpot, end_at, address}
+use Rattle.object_tables.proofs.FlatLemmas.{spot_of, number_small, number_placed, end_placed, joined_seen}
 use Rattle.std.proofs.lemmas.List.{length-map}
-use Rattle.object_tables.specs.Flat.{end_at, address}
-use Rattle.object_tables.proofs.FlatLemmas.{spot_of, end_small, end_placed, joined_seen}
 use Rattle.object_tables.proofs.tables.Tables.degree.Goals as goal
 
 pub end_of-end-requires-clause-small : goal.end_of-end-requires-clause-small
-end_of-end-requires-clause-small c = rw c.deref.ensures.value (end_small _ _ _ _ _ c.self.invariant.0 (spot_of _ _ _ _ _ _ c.self.view_is c.requires.object c.requires.place))
+end_of-end-requires-clause-small c =
+    let s : IsSpot c.self.inside.entries.items c.args.o c.args.k =
+    spot_of c.self.inside.entries.items c.self.inside.values c.self.inside.index.items c.self.inside.homes.items c.self.inside.arena c.args.self.now c.args.o c.args.k
+    c.self.view_is c.requires.object c.requires.place in
+    rw c.deref.ensures.value (number_small _ _ _ _ _ _ c.self.invariant.0 s)
+
+pub end_of-end-requires-clause-within : goal.end_of-end-requires-clause-within
+end_of-end-requires-clause-within c =
+    let s : IsSpot c.self.inside.entries.items c.args.o c.args.k =
+    spot_of c.self.inside.entries.items c.self.inside.values c.self.inside.index.items c.self.inside.homes.items c.self.inside.arena c.args.self.now c.args.o c.args.k
+    c.self.view_is c.requires.object c.requires.place in
+    rw (c.deref.ensures.value, c.deref-2.ensures.value) (number_placed _ _ _ _ _ _ c.self.invariant.0 s)
 
 pub degree-requires : goal.degree-requires
-degree-requires c = rw (c.end_of-end.ensures, c.deref.ensures.value, c.self.invariant.0.ends) (end_placed _ _ _ _ _ c.self.invariant.0 (spot_of _ _ _ _ _ _ c.self.view_is c.requires.object c.requires.place))
+degree-requires c =
+    let s : IsSpot c.self.inside.entries.items c.args.o c.args.k =
+    spot_of c.self.inside.entries.items c.self.inside.values c.self.inside.index.items c.self.inside.homes.items c.self.inside.arena c.args.self.now c.args.o c.args.k
+    c.self.view_is c.requires.object c.requires.place in
+    let e : c.end_of-end.result ≡ end_at c.self.inside.entries.items c.self.inside.index.items c.args.o c.args.k =
+    rw (c.deref.ensures.value, c.deref-2.ensures.value) at c.end_of-end.ensures in
+    rw (e, c.self.invariant.0.ends) (end_placed _ _ _ _ _ _ c.self.invariant.0 s)
 
 pub returns : goal.returns
 returns c =
-    c.degree.ensures
-    ∙ ap (λ e. length (get_or c.self.inside.arena e [])) (c.end_of-end.ensures ∙ ap (λ x. end_at x c.args.o c.args.k) c.deref.ensures.value)
-    ∙ sym (length-map (get_or c.self.inside.arena (end_at c.self.inside.entries.items c.args.o c.args.k) []) (address c.self.inside.homes.items))
-    ∙ ap length (sym (joined_seen _ _ _ _ _ _ c.self.view_is (spot_of _ _ _ _ _ _ c.self.view_is c.requires.object c.requires.place)))
+    let s : IsSpot c.self.inside.entries.items c.args.o c.args.k =
+    spot_of c.self.inside.entries.items c.self.inside.values c.self.inside.index.items c.self.inside.homes.items c.self.inside.arena c.args.self.now c.args.o c.args.k
+    c.self.view_is c.requires.object c.requires.place in
+    let e : c.end_of-end.result ≡ end_at c.self.inside.entries.items c.self.inside.index.items c.args.o c.args.k =
+    rw (c.deref.ensures.value, c.deref-2.ensures.value) at c.end_of-end.ensures in
+    c.degree.ensures ∙ ap (λ x. length (get_or c.self.inside.arena x [])) e
+    ∙ sym (length-map (get_or c.self.inside.arena (end_at c.self.inside.entries.items c.self.inside.index.items c.args.o c.args.k) []) (address
+    c.self.inside.homes.items))
+    ∙ ap length (sym (joined_seen c.self.inside.entries.items c.self.inside.values c.self.inside.index.items c.self.inside.homes.items c.self.inside.arena
+    c.args.self.now c.args.o c.args.k c.self.view_is s))

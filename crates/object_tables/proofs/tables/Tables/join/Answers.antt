@@ -1,63 +1,120 @@
-use Rattle.std.proofs.Common.{◌∙◌, ap, length}
-use Rattle.std.specs.Prelude.{Result, Ok, Err, OnOk, OnErr}
-use Rattle.object_tables.specs.Flat.{end_at, rows_of}
+use Rattle.std.proofs.Common.{◌≡◌, ◌∙◌, ℕ, List, [], sym, ap, subst, get_or}
+use Rattle.std.specs.Prelude.{Result, Ok, Err, OnErr, Contains}
+use Rattle.object_tables.specs.declared.tables.Entry.{Entry}
+use Rattle.object_tables.specs.Flat.{IsSpot, IsGrown, end_at, rows_of}
 use Rattle.object_tables.proofs.ListLemmas.{on_ok}
-use Rattle.object_tables.proofs.FlatLemmas.{flat-links, length-joined, spot_of, end_small, end_placed, ends_apart, contains_seen, rows-joined_at}
+use Rattle.object_tables.proofs.FlatLemmas.{spot_of, ends_apart, contains_seen, rows-joined_at}
+use Rattle.object_tables.proofs.GrowLemmas.{rows_grown}
 use Rattle.object_tables.proofs.tables.Tables.join.Goals as goal
 
-on_either : {T E : Type 0} (r : Result T E) {P Q R : Type 0} → OnOk r P → OnErr r Q → (P → R) → (Q → R) → R
-on_either (Ok x) h k f g = f h
-on_either (Err e) h k f g = g k
+on_err : {T E : Type 0} (r : Result T E) {P Q : Type 0} → (P → Q) → OnErr r P → OnErr r Q
+on_err (Ok x) f h = h
+on_err (Err e) f h = f h
 
-on_err : {T E : Type 0} (r : Result T E) {P Q : Type 0} → OnErr r P → (P → Q) → OnErr r Q
-on_err (Ok x) h f = h
-on_err (Err e) h f = f h
+on_any : {T E : Type 0} (r : Result T E) {P : Type 0} → P → OnErr r P
+on_any (Ok x) h = tt
+on_any (Err e) h = h
 
-pub end_of-first-requires-clause-small : goal.end_of-first-requires-clause-small
-end_of-first-requires-clause-small c = rw c.deref.ensures.value (end_small _ _ _ _ _ c.self.invariant.0 (spot_of _ _ _ _ _ _ c.self.view_is c.requires.first_object c.requires.first_place))
+pub need_ends-requires-clause-spot : goal.need_ends-requires-clause-spot
+need_ends-requires-clause-spot c =
+    let s : IsSpot c.self.inside.entries.items c.args.o c.args.k =
+    spot_of c.self.inside.entries.items c.self.inside.values c.self.inside.index.items c.self.inside.homes.items c.self.inside.arena c.args.self.now c.args.o c.args.k
+    c.self.view_is c.requires.first_object c.requires.first_place in
+    subst (λ (es : List Entry). IsSpot es c.args.o c.args.k) (sym c.deref.ensures.value) s
 
-pub end_of-second-requires-clause-small : goal.end_of-second-requires-clause-small
-end_of-second-requires-clause-small c = rw c.deref-2.ensures.value (end_small _ _ _ _ _ c.self.invariant.0 (spot_of _ _ _ _ _ _ c.self.view_is c.requires.second_object c.requires.second_place))
+pub need_ends-requires-clause-other_spot : goal.need_ends-requires-clause-other_spot
+need_ends-requires-clause-other_spot c =
+    let t : IsSpot c.self.inside.entries.items c.args.other c.args.place =
+    spot_of c.self.inside.entries.items c.self.inside.values c.self.inside.index.items c.self.inside.homes.items c.self.inside.arena c.args.self.now c.args.other
+    c.args.place c.self.view_is c.requires.second_object c.requires.second_place in
+    subst (λ (es : List Entry). IsSpot es c.args.other c.args.place) (sym c.deref.ensures.value) t
 
-pub join-requires-clause-first_within : goal.join-requires-clause-first_within
-join-requires-clause-first_within c =
-    rw (c.end_of-first.ensures, c.deref.ensures.value, c.self.invariant.0.ends) (end_placed _ _ _ _ _ c.self.invariant.0 (spot_of _ _ _ _ _ _ c.self.view_is c.requires.first_object c.requires.first_place))
-
-pub join-requires-clause-second_within : goal.join-requires-clause-second_within
-join-requires-clause-second_within c =
-    rw (c.end_of-second.ensures, c.deref-2.ensures.value, c.self.invariant.0.ends) (end_placed _ _ _ _ _ c.self.invariant.0 (spot_of _ _ _ _ _ _ c.self.view_is c.requires.second_object c.requires.second_place))
+pub returns-in_err-first-clause-err : goal.returns-in_err-first-clause-err
+returns-in_err-first-clause-err c =
+    let g : IsGrown c.self.inside.entries.items c.self.inside.index.items c.self.inside.homes.items c.self.inside.arena c.need_ends.new.index.items
+    c.need_ends.new.homes.items c.need_ends.new.arena = subst (λ (es : List Entry). IsGrown es c.self.inside.index.items c.self.inside.homes.items c.self.inside.arena
+    c.need_ends.new.index.items c.need_ends.new.homes.items c.need_ends.new.arena) c.deref.ensures.value c.need_ends.ensures.grown in
+    let seen : rows_of c.self.inside.entries.items c.self.inside.values c.need_ends.new.index.items c.need_ends.new.homes.items c.need_ends.new.arena ≡ c.args.self.now
+    =
+    rows_grown c.self.inside.entries.items c.self.inside.values c.self.inside.index.items c.need_ends.new.index.items c.self.inside.homes.items
+    c.need_ends.new.homes.items c.self.inside.arena c.need_ends.new.arena c.args.self.now g c.self.view_is in
+    on_any c.from_residual.result seen
 
 pub join-requires-clause-apart : goal.join-requires-clause-apart
 join-requires-clause-apart c =
-    rw (c.end_of-first.ensures, c.deref.ensures.value, c.end_of-second.ensures, c.deref-2.ensures.value)
-    (ends_apart _ _ _ _ _ _ _ c.self.invariant.0
-    (spot_of _ _ _ _ _ _ c.self.view_is c.requires.first_object c.requires.first_place)
-    (spot_of _ _ _ _ _ _ c.self.view_is c.requires.second_object c.requires.second_place) c.requires.apart)
+    let s : IsSpot c.self.inside.entries.items c.args.o c.args.k =
+    spot_of c.self.inside.entries.items c.self.inside.values c.self.inside.index.items c.self.inside.homes.items c.self.inside.arena c.args.self.now c.args.o c.args.k
+    c.self.view_is c.requires.first_object c.requires.first_place in
+    let t : IsSpot c.self.inside.entries.items c.args.other c.args.place =
+    spot_of c.self.inside.entries.items c.self.inside.values c.self.inside.index.items c.self.inside.homes.items c.self.inside.arena c.args.self.now c.args.other
+    c.args.place c.self.view_is c.requires.second_object c.requires.second_place in
+    let g : IsGrown c.self.inside.entries.items c.self.inside.index.items c.self.inside.homes.items c.self.inside.arena c.need_ends.new.index.items
+    c.need_ends.new.homes.items c.need_ends.new.arena = subst (λ (es : List Entry). IsGrown es c.self.inside.index.items c.self.inside.homes.items c.self.inside.arena
+    c.need_ends.new.index.items c.need_ends.new.homes.items c.need_ends.new.arena) c.deref.ensures.value c.need_ends.ensures.grown in
+    let e : c.in_ok-first.first ≡ end_at c.self.inside.entries.items c.need_ends.new.index.items c.args.o c.args.k =
+    rw c.deref.ensures.value at c.in_ok-first.ensures.first in
+    let d : c.in_ok-first.second ≡ end_at c.self.inside.entries.items c.need_ends.new.index.items c.args.other c.args.place =
+    rw c.deref.ensures.value at c.in_ok-first.ensures.second in
+    λ h. ends_apart _ _ _ _ _ _ _ _ g.flat s t (λ z. c.in_ok-first.ensures.second_some (d ∙ z)) c.requires.apart (sym e ∙ h ∙ d)
 
 pub join-requires-clause-unjoined : goal.join-requires-clause-unjoined
 join-requires-clause-unjoined c =
-    rw (c.end_of-first.ensures, c.deref.ensures.value, c.end_of-second.ensures, c.deref-2.ensures.value)
-    (λ h. c.requires.unjoined (contains_seen _ _ _ _ _ _ _ _ c.self.invariant.0 c.self.view_is
-    (spot_of _ _ _ _ _ _ c.self.view_is c.requires.first_object c.requires.first_place)
-    (spot_of _ _ _ _ _ _ c.self.view_is c.requires.second_object c.requires.second_place) h))
+    let s : IsSpot c.self.inside.entries.items c.args.o c.args.k =
+    spot_of c.self.inside.entries.items c.self.inside.values c.self.inside.index.items c.self.inside.homes.items c.self.inside.arena c.args.self.now c.args.o c.args.k
+    c.self.view_is c.requires.first_object c.requires.first_place in
+    let t : IsSpot c.self.inside.entries.items c.args.other c.args.place =
+    spot_of c.self.inside.entries.items c.self.inside.values c.self.inside.index.items c.self.inside.homes.items c.self.inside.arena c.args.self.now c.args.other
+    c.args.place c.self.view_is c.requires.second_object c.requires.second_place in
+    let g : IsGrown c.self.inside.entries.items c.self.inside.index.items c.self.inside.homes.items c.self.inside.arena c.need_ends.new.index.items
+    c.need_ends.new.homes.items c.need_ends.new.arena = subst (λ (es : List Entry). IsGrown es c.self.inside.index.items c.self.inside.homes.items c.self.inside.arena
+    c.need_ends.new.index.items c.need_ends.new.homes.items c.need_ends.new.arena) c.deref.ensures.value c.need_ends.ensures.grown in
+    let seen : rows_of c.self.inside.entries.items c.self.inside.values c.need_ends.new.index.items c.need_ends.new.homes.items c.need_ends.new.arena ≡ c.args.self.now
+    =
+    rows_grown c.self.inside.entries.items c.self.inside.values c.self.inside.index.items c.need_ends.new.index.items c.self.inside.homes.items
+    c.need_ends.new.homes.items c.self.inside.arena c.need_ends.new.arena c.args.self.now g c.self.view_is in
+    let e : c.in_ok-first.first ≡ end_at c.self.inside.entries.items c.need_ends.new.index.items c.args.o c.args.k =
+    rw c.deref.ensures.value at c.in_ok-first.ensures.first in
+    let d : c.in_ok-first.second ≡ end_at c.self.inside.entries.items c.need_ends.new.index.items c.args.other c.args.place =
+    rw c.deref.ensures.value at c.in_ok-first.ensures.second in
+    λ h. c.requires.unjoined
+    (contains_seen c.self.inside.entries.items c.self.inside.values c.need_ends.new.index.items c.need_ends.new.homes.items c.need_ends.new.arena c.args.self.now
+    c.args.o c.args.k c.args.other c.args.place g.flat seen s t (λ z. c.in_ok-first.ensures.second_some (d ∙ z))
+    (subst (λ (x : ℕ). Contains (get_or c.need_ends.new.arena x []) (end_at c.self.inside.entries.items c.need_ends.new.index.items c.args.other c.args.place)) e
+    (subst (λ (x : ℕ). Contains (get_or c.need_ends.new.arena c.in_ok-first.first []) x) d h)))
 
 pub returns-clause-ok : goal.returns-clause-ok
-returns-clause-ok c = on_ok c.join.result
-    (rows-joined_at _ _ _ _ _ _ _ _ _ _ _ c.self.invariant.0
-    (spot_of _ _ _ _ _ _ c.self.view_is c.requires.first_object c.requires.first_place)
-    (spot_of _ _ _ _ _ _ c.self.view_is c.requires.second_object c.requires.second_place) c.self.view_is
-    (c.end_of-first.ensures ∙ ap (λ x. end_at x c.args.o c.args.k) c.deref.ensures.value)
-    (c.end_of-second.ensures ∙ ap (λ x. end_at x c.args.other c.args.place) c.deref-2.ensures.value))
+returns-clause-ok c =
+    let s : IsSpot c.self.inside.entries.items c.args.o c.args.k =
+    spot_of c.self.inside.entries.items c.self.inside.values c.self.inside.index.items c.self.inside.homes.items c.self.inside.arena c.args.self.now c.args.o c.args.k
+    c.self.view_is c.requires.first_object c.requires.first_place in
+    let t : IsSpot c.self.inside.entries.items c.args.other c.args.place =
+    spot_of c.self.inside.entries.items c.self.inside.values c.self.inside.index.items c.self.inside.homes.items c.self.inside.arena c.args.self.now c.args.other
+    c.args.place c.self.view_is c.requires.second_object c.requires.second_place in
+    let g : IsGrown c.self.inside.entries.items c.self.inside.index.items c.self.inside.homes.items c.self.inside.arena c.need_ends.new.index.items
+    c.need_ends.new.homes.items c.need_ends.new.arena = subst (λ (es : List Entry). IsGrown es c.self.inside.index.items c.self.inside.homes.items c.self.inside.arena
+    c.need_ends.new.index.items c.need_ends.new.homes.items c.need_ends.new.arena) c.deref.ensures.value c.need_ends.ensures.grown in
+    let seen : rows_of c.self.inside.entries.items c.self.inside.values c.need_ends.new.index.items c.need_ends.new.homes.items c.need_ends.new.arena ≡ c.args.self.now
+    =
+    rows_grown c.self.inside.entries.items c.self.inside.values c.self.inside.index.items c.need_ends.new.index.items c.self.inside.homes.items
+    c.need_ends.new.homes.items c.self.inside.arena c.need_ends.new.arena c.args.self.now g c.self.view_is in
+    let e : c.in_ok-first.first ≡ end_at c.self.inside.entries.items c.need_ends.new.index.items c.args.o c.args.k =
+    rw c.deref.ensures.value at c.in_ok-first.ensures.first in
+    let d : c.in_ok-first.second ≡ end_at c.self.inside.entries.items c.need_ends.new.index.items c.args.other c.args.place =
+    rw c.deref.ensures.value at c.in_ok-first.ensures.second in
+    on_ok c.join.result
+    (rows-joined_at c.self.inside.entries.items c.self.inside.values c.need_ends.new.index.items c.need_ends.new.homes.items c.need_ends.new.arena c.join.new.self
+    c.args.self.now c.args.o c.args.k c.args.other c.args.place c.in_ok-first.first c.in_ok-first.second
+    g.flat s t seen e d c.in_ok-first.ensures.first_some c.in_ok-first.ensures.second_some)
     c.join.ensures.ok
 
-pub invariant_of-self : goal.invariant_of-self
-invariant_of-self c = (
-  on_either c.join.result c.join.ensures.ok c.join.ensures.err
-      (λ e. flat-links _ _ _ _ c.self.invariant.0 (ap length e ∙ length-joined _ _ _))
-      (λ e. flat-links _ _ _ _ c.self.invariant.0 (ap length e)),
-  c.self.invariant.1,
-  c.self.invariant.2,
-)
-
 pub returns-clause-err : goal.returns-clause-err
-returns-clause-err c = on_err c.join.result c.join.ensures.err (λ e. ap (rows_of c.self.inside.entries.items c.self.inside.homes.items) e ∙ c.self.view_is)
+returns-clause-err c =
+    let g : IsGrown c.self.inside.entries.items c.self.inside.index.items c.self.inside.homes.items c.self.inside.arena c.need_ends.new.index.items
+    c.need_ends.new.homes.items c.need_ends.new.arena = subst (λ (es : List Entry). IsGrown es c.self.inside.index.items c.self.inside.homes.items c.self.inside.arena
+    c.need_ends.new.index.items c.need_ends.new.homes.items c.need_ends.new.arena) c.deref.ensures.value c.need_ends.ensures.grown in
+    let seen : rows_of c.self.inside.entries.items c.self.inside.values c.need_ends.new.index.items c.need_ends.new.homes.items c.need_ends.new.arena ≡ c.args.self.now
+    =
+    rows_grown c.self.inside.entries.items c.self.inside.values c.self.inside.index.items c.need_ends.new.index.items c.self.inside.homes.items
+    c.need_ends.new.homes.items c.self.inside.arena c.need_ends.new.arena c.args.self.now g c.self.view_is in
+    on_err c.join.result (λ q. ap (rows_of c.self.inside.entries.items c.self.inside.values c.need_ends.new.index.items c.need_ends.new.homes.items) q
+    ∙ seen) c.join.ensures.err

@@ -1,5 +1,5 @@
 use Rattle.std.proofs.Common.{◌≡◌, take}
-use Rattle.object_tables.proofs.tables.copies.copy_values.Given as goal
+use Rattle.object_tables.proofs.tables.stored.copy_values.Given as goal
 
 abbrev pub invariant-loop-value : goal.invariant-loop-value
 invariant-loop-value l = l.copies ≡ take l.value-index l.values
