@@ -24,6 +24,7 @@ pub mod ClimbLemmas
 pub mod DepthLemmas
 pub mod BreachLemmas
 pub mod DistinctLemmas
+pub mod EqualLaws
 pub mod ContainerLemmas
 pub mod PlaceLemmas
 pub mod ConditionLemmas

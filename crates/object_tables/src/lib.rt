@@ -8,7 +8,7 @@
 //! What an edit asks of its caller is told by a test, exactly: `has_property`, `has_reference`, `has_attribute`, `may_hold`,
 //! `may_be_partner`, `is_free`, `linked` and `is_order`.
 //!
-//! Costs: `class_of`, `id_of`, `by_id`, `is_live`, `len`, `end` and the tests of properties are constant; `attr`, `set_attr`
+//! Costs: `class_of`, `id_of`, `by_id`, `is_live`, `len`, `end`, `partner_count` and the tests of properties are constant; `attr`, `set_attr`
 //! and `partners` take what is given or returned, `collect_into` the partners that are left, and `may_hold` the square of the number of values; `linked`, `link` and
 //! `unlink` the smaller of the numbers of partners of the two ends; `set_order` the number of partners, and `is_order` sorts
 //! them; `add`, `container`, `is_top` and `is_free` the number of properties of the objects' classes; `delete` that and the
@@ -38,5 +38,5 @@ pub use keys::HashKey;
 pub use limit::{LimitKind, MAX_ADDED, MAX_DEPTH, MAX_OBJECTS};
 pub use model::Model;
 pub use partners::Partners;
-pub use sameness::{same_back, same_through};
+pub use sameness::{models_equal, same_back, same_through};
 pub use value::{ObjId, Value};

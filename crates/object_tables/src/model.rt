@@ -153,4 +153,13 @@ impl<'m> Model<'m> {
         let place = near_place(self.meta, self.class_of(o), p);
         Partners::new(self.tables.joined(o.0, place))
     }
+
+    /// How many partners an object has at a reference.
+    pub fn partner_count(&self, o: ObjId, p: PropId) -> usize
+        requires { IsReferenceOf self.now o.0 p.0 }
+        ensures { result ≡ length (partners_at self.now o.0 p.0) }
+    {
+        let place = near_place(self.meta, self.class_of(o), p);
+        self.tables.degree(o.0, place)
+    }
 }

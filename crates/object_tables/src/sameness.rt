@@ -1,4 +1,5 @@
-ghost use Rattle.object_tables.specs.Sameness.{IsSame};
+ghost use Rattle.std.specs.Prelude.{◌≡◌};
+ghost use Rattle.object_tables.specs.Sameness.{IsSame, HasSameParts};
 
 use crate::model::Model;
 
@@ -21,4 +22,12 @@ pub fn same_through(first: &Model<'_>, second: &Model<'_>, third: &Model<'_>)
 {
     let _ = (first.end(), second.end());
     let _ = third;
+}
+
+/// Models with equal classes, identifiers and slots are equal. It does nothing: its contract is this law.
+pub fn models_equal(first: &Model<'_>, second: &Model<'_>)
+    requires { HasSameParts first.now second.now }
+    ensures { second.now ≡ first.now }
+{
+    let _ = (first.end(), second.end());
 }
