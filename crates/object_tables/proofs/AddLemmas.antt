@@ -276,6 +276,16 @@ room_from meta rows v number live t e l m h =
     let en : length rows ≡ length v.objects = sym (length-map rows object_of) ∙ ap (λ m. length m.objects) e in
     elim h [ inl a ↦ (let a' : MAX_OBJECTS ≤ live = subst (λ (z : ℕ). MAX_OBJECTS ≤ z) (sym el) a in absurd (omega arith)) | inr b ↦ absurd (omega arith) ]
 
+-- a model that isn't full has room for a live object
+pub below_full : (meta : MetaDesc) (rows : List Row) (v : ModelData) (number : List ℕ → Option ℕ) (live : ℕ) → IsTied meta rows number live → seen meta rows ≡ v → (IsFull v → ⊥) → live < MAX_OBJECTS
+below_full meta rows v number live t e h =
+    let el : live ≡ live_count v = t.count ∙ sym (count_seen rows) ∙ ap live_count e in
+    elim (cases_lt live MAX_OBJECTS) [ inl l ↦ l | inr le ↦ absurd (h (inl (subst (λ (z : ℕ). MAX_OBJECTS ≤ z) el le))) ]
+
+-- how many objects a model shows
+pub live_seen : (meta : MetaDesc) (rows : List Row) (v : ModelData) (number : List ℕ → Option ℕ) (live : ℕ) → IsTied meta rows number live → seen meta rows ≡ v → live_count v ≡ live
+live_seen meta rows v number live t e = sym (t.count ∙ sym (count_seen rows) ∙ ap live_count e)
+
 few_from : (meta : MetaDesc) (rows : List Row) (v : ModelData) → seen meta rows ≡ v → (IsFull v → ⊥) → length rows < MAX_ADDED
 few_from meta rows v e h =
     let en : length rows ≡ length v.objects = sym (length-map rows object_of) ∙ ap (λ m. length m.objects) e in

@@ -1,18 +1,27 @@
 -- That a model's parts stay whole: what an edit shows is kept where what was shown before it is.
-use Rattle.std.proofs.Common.{◌≡◌, ℕ, List, sym, subst, Option}
+use Rattle.std.proofs.Common.{◌≡◌, ℕ, ◌≤◌, List, sym, subst, Option}
 use Rattle.mof_metamodel.specs.declared.desc.MetaDesc.{MetaDesc}
 use Rattle.object_tables.specs.Rows.{Row}
-use Rattle.object_tables.specs.Models.{ModelData}
+use Rattle.object_tables.specs.declared.limit.TheConstants.{MAX_OBJECTS}
+use Rattle.object_tables.specs.Models.{ModelData, live_count}
 use Rattle.object_tables.specs.Kept.{Kept}
 use Rattle.object_tables.specs.Whole.{IsWhole}
 use Rattle.object_tables.proofs.ModelLemmas.{seen}
+use Rattle.object_tables.proofs.AddLemmas.{live_seen}
 
-pub kept_seen : (meta : MetaDesc) (rows : List Row) (number : List ℕ → Option ℕ) (live : ℕ) (v : ModelData) → IsWhole meta rows number live → seen meta rows ≡ v → Kept v
+pub kept_seen : (meta : MetaDesc) (rows : List Row) (number : List ℕ → Option ℕ) (live : ℕ) (v : ModelData) → IsWhole meta rows number live → seen meta rows ≡ v
+    → Kept v
 kept_seen meta rows number live v w e = subst Kept e w.kept
 
-pub kept_after : (meta : MetaDesc) (rows new : List Row) (number : List ℕ → Option ℕ) (live : ℕ) (v v' : ModelData) → IsWhole meta rows number live → seen meta rows ≡ v → seen meta new ≡ v' → (Kept v → Kept v')
+pub kept_after : (meta : MetaDesc) (rows new : List Row) (number : List ℕ → Option ℕ) (live : ℕ) (v v' : ModelData) → IsWhole meta rows number live
+    → seen meta rows ≡ v → seen meta new ≡ v' → (Kept v → Kept v')
     → Kept (seen meta new)
 kept_after meta rows new number live v v' w e e' f = subst Kept (sym e') (f (kept_seen meta rows number live v w e))
 
 pub kept_unchanged : (meta : MetaDesc) (rows new : List Row) (number : List ℕ → Option ℕ) (live : ℕ) → IsWhole meta rows number live → new ≡ rows → Kept (seen meta new)
 kept_unchanged meta rows new number live w e = subst (λ rs. Kept (seen meta rs)) (sym e) w.kept
+
+-- a model has at most so many live objects, and numbers
+pub few_seen : (meta : MetaDesc) (rows : List Row) (number : List ℕ → Option ℕ) (live : ℕ) (v : ModelData) → IsWhole meta rows number live → seen meta rows ≡ v
+    → live_count v ≤ MAX_OBJECTS
+few_seen meta rows number live v w e = subst (λ (n : ℕ). n ≤ MAX_OBJECTS) (sym (live_seen meta rows v number live w.tied e)) w.few

@@ -1,6 +1,7 @@
 ghost use Rattle.std.specs.Prelude.{false, ◌≡◌, ◌≢◌, ℕ, ◌+◌, ◌<◌, ◌≤◌, ◌^◌, List, [], ◌∷◌, ◌++◌, length, map, ◌↔◌, IsTrue, IsSome, IfOk, OnOk, OnErr, IfSome, IfNone, Contains, Option, Some, None, chars, count_by, is_some, All};
 ghost use Rattle.mof_metamodel.specs.Metamodels.{class_count, class_at as meta_class};
 ghost use Rattle.object_tables.specs.Ids.{object_ids};
+ghost use Rattle.object_tables.specs.declared.limit.TheConstants.{MAX_OBJECTS};
 ghost use Rattle.object_tables.specs.Kept.{Kept};
 ghost use Rattle.object_tables.specs.Models.{object_at, IsLive, class_at, id_at, values_at, partners_at, IsLinked, IsReferenceOf, IsAttributeOf, live_count};
 
@@ -84,10 +85,12 @@ impl<'m> Model<'m> {
         self.live
     }
 
-    /// The number that the next object gets. A caller also learns here what every model keeps.
+    /// The number that the next object gets. A caller also learns here what every model keeps, and that no more objects are
+    /// live than a model may have.
     pub fn end(&self) -> u32
         ensures number { result ≡ length self.now.objects }
         ensures kept { Kept self.now }
+        ensures few { live_count self.now ≤ MAX_OBJECTS }
     {
         self.tables.len() as u32
     }

@@ -30,6 +30,7 @@ invariant_of-self c =
           (live_above _ _ _ _ c.args.o.0 c.in-Some.named.now c.self.invariant.tied named)
           c.as_str.ensures.bytes
           (λ cs. hash_map_updates_text c.as_str.result.now c.self.inside.names c.remove.new.self None c.remove.ensures.updates cs);
+      few = let l = c.self.invariant.few in omega arith;
       kept = kept_after _ _ _ _ _ _ _ c.self.invariant c.self.view_is
           (seen-delete _ _ _ _ c.args.o.0 c.in-Some.named.now c.self.view_is c.clear.ensures.ranged named (below_named _ _ _ named)
           (c.forget.ensures ∙ ap (λ r. unnamed r c.args.o.0) c.clear.ensures.cleared))

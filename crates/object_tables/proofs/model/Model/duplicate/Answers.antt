@@ -8,6 +8,7 @@ use Rattle.object_tables.proofs.model.Model.duplicate.Goals as goal
 pub invariant_of-result : goal.invariant_of-result
 invariant_of-result c = record {
   tied = tied-copy _ _ _ _ _ _ c.self.invariant.tied c.in_ok-tables.ensures (λ cs. lookup_cloned cs _ _ c.in-Ok-or_drop.ensures.cases);
+  few = c.self.invariant.few;
   kept = kept_unchanged _ _ _ _ _ c.self.invariant c.in_ok-tables.ensures;
 }
 

@@ -4,7 +4,7 @@ use Rattle.std.proofs.lemmas.List.Sums.{count_by-le-length}
 use Rattle.std.specs.String.{string_bytes}
 use Rattle.std.specs.Prelude.{encode_utf8_all, is_some}
 use Rattle.object_tables.proofs.ModelLemmas.{seen}
-use Rattle.object_tables.proofs.AddLemmas.{tied-enter, seen-enter, tied-given_up}
+use Rattle.object_tables.proofs.AddLemmas.{below_full, tied-enter, seen-enter, tied-given_up}
 use Rattle.object_tables.proofs.KeptObjects.{kept_added}
 use Rattle.object_tables.proofs.WholeLemmas.{kept_after, kept_unchanged}
 use Rattle.object_tables.proofs.model.Model.enter.Goals as goal
@@ -15,6 +15,7 @@ invariant_of-self-in-Ok-add c =
       tied = tied-enter _ _ _ _ _ _ _ _ _ _ c.len-number.result c.args.id (string_bytes c.in-Ok.key) c.self.invariant.tied c.self.view_is c.requires.addable c.requires.class c.requires.count c.ranges.count.fits
           c.in-Ok-add.ensures.ok refl (c.in-Ok.ensures.ok ∙ c.as_str.ensures.bytes) c.len-number.ensures
           (λ cs. hash_map_updates_text (string_bytes c.in-Ok.key) c.self.inside.names c.insert.new.self (Some c.len-number.result) c.in-Ok-insert.ensures.updates cs);
+      few = let l = below_full _ _ _ _ _ c.self.invariant.tied c.self.view_is c.requires.addable.room in omega arith;
       kept = kept_after _ _ _ _ _ _ _ c.self.invariant c.self.view_is (seen-enter _ _ _ _ _ _ _ _ c.self.view_is c.requires.count c.in-Ok-add.ensures.ok c.len-number.ensures).1
           (λ k. kept_added _ _ _ k c.requires.class c.requires.addable.concrete c.requires.identifier c.requires.addable.new);
     }
@@ -26,6 +27,7 @@ invariant_of-self-in-Err c =
           c.in-Err.ensures.err.0 (c.in-Ok.ensures.ok ∙ c.as_str.ensures.bytes) (c.as_str-in-Err.ensures.bytes ∙ ap (λ n. encode_utf8_all n.id) c.in-Err.ensures.err.1)
           (λ cs. hash_map_updates_text (string_bytes c.in-Ok.key) c.self.inside.names c.insert.new.self (Some c.len-number.result) c.in-Ok-insert.ensures.updates cs)
           (λ cs. hash_map_updates_text c.as_str-in-Err.result.now c.insert.new.self c.remove.new.self None c.remove.ensures.updates cs);
+      few = c.self.invariant.few;
       kept = kept_unchanged _ _ _ _ _ c.self.invariant c.in-Err.ensures.err.0;
     }
 

@@ -31,6 +31,7 @@ invariant_of-self-2 c =
     let pair = pair_of _ _ _ _ _ _ _ _ _ _ c.self.invariant.tied c.self.view_is c.requires.reference (live_from_class c.args.self.now c.args.b.0 c.requires.partner.class c.requires.partner.class_is) c.ends-near.ensures.near c.ends-near.ensures.far in
     record {
       tied = pair-tied_link _ _ _ _ _ _ _ _ _ _ c.self.invariant.tied pair c.in_ok-join.ensures.ok;
+      few = c.self.invariant.few;
       kept = kept_after _ _ _ _ _ _ _ c.self.invariant c.self.view_is
           (pair-seen_link _ _ _ _ _ _ _ _ _ _ _ c.self.invariant.tied c.self.view_is pair c.in_ok-join.ensures.ok)
           (λ k. kept_linked _ _ _ _ k c.requires.reference c.requires.partner c.requires.new c.requires.free);

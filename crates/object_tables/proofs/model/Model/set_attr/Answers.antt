@@ -19,6 +19,7 @@ set_values-requires-clause-place c =
 pub invariant_of-self : goal.invariant_of-self
 invariant_of-self c = record {
   tied = tied-values _ _ _ _ _ _ _ _ c.self.invariant.tied c.set_values.ensures;
+  few = c.self.invariant.few;
   kept = kept_after _ _ _ _ _ _ _ c.self.invariant c.self.view_is
       (seen-values _ _ _ _ _ c.class_of.result.0 _ _ _ c.self.view_is (class_of_rows _ _ _ _ _ c.self.view_is c.class_of.ensures.class) c.near_place-place.ensures c.set_values.ensures)
       (λ k. kept_with_values _ _ _ _ k c.requires.attribute c.requires.slot);

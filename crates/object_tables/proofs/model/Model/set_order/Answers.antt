@@ -26,6 +26,7 @@ set_order-requires-clause-same c = order_seen _ _ _ _ _ _ _ _ c.self.view_is c.c
 pub invariant_of-self : goal.invariant_of-self
 invariant_of-self c = record {
   tied = tied-order _ _ _ _ _ _ _ _ c.self.invariant.tied c.set_order.ensures;
+  few = c.self.invariant.few;
   kept = kept_after _ _ _ _ _ _ _ c.self.invariant c.self.view_is
       (seen-order _ _ _ _ _ _ _ _ _ c.self.view_is (class_of_rows _ _ _ _ _ c.self.view_is c.class_of.ensures.class) c.near_place-place.ensures c.set_order.ensures)
       (λ k. kept_reordered _ _ _ _ k c.requires.reference c.requires.partners);

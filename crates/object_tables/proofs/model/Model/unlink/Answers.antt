@@ -19,6 +19,7 @@ part-requires-clause-joined c =
 pub invariant_of-self : goal.invariant_of-self
 invariant_of-self c = record {
   tied = pair-tied_unlink _ _ _ _ _ _ _ _ _ c.self.invariant.tied c.part.ensures;
+  few = c.self.invariant.few;
   kept = kept_after _ _ _ _ _ _ _ c.self.invariant c.self.view_is
       (pair-seen_unlink _ _ _ _ _ _ _ _ _ _ _ c.self.invariant.tied c.self.view_is
       (pair_of _ _ _ _ _ _ _ _ _ _ c.self.invariant.tied c.self.view_is c.requires.reference c.requires.live c.ends-near.ensures.near c.ends-near.ensures.far) c.part.ensures)
