@@ -3,6 +3,7 @@ pub mod DistinctLemmas
 pub mod FirstLemmas
 pub mod JoinLemmas
 pub mod KnownLemmas
+pub mod LineLemmas
 pub mod LineageLemmas
 pub mod MetaLaws
 pub mod NameIndexLemmas
@@ -12,10 +13,11 @@ pub mod OnceLemmas
 pub mod OrderLemmas
 pub mod PlaceLemmas
 pub mod PropLemmas
+pub mod QueueLemmas
 pub mod ReachLemmas
 pub mod RepeatLemmas
-pub mod RoundLemmas
 pub mod SearchLemmas
+pub mod SubclassLemmas
 pub mod TableLemmas
 pub mod WalkLemmas
 pub mod WellLemmas

@@ -156,6 +156,18 @@ module _ (f : ℕ → Option (List ℕ)) where
       by None k rest e = (t, or_left _ _ (eq-eqb t t refl), k)
       by (Some ys) k rest e = let m = rest ys e in (m.0, or_right _ _ m.1, m.2)
 
+  -- and where one of them is missing, there is no joint list
+  pub all_united-none : (acc ss : List ℕ) (s : ℕ) → Has ss s → f s ≡ None → all_united acc (map f ss) ≡ None
+  all_united-none acc [] s h none = absurd (cc)
+  all_united-none acc (t ∷ ss) s h none = by (f t) refl (λ ys k. all_united-none (united acc ys) ss s k none)
+    where
+      by : (o : Option (List ℕ)) → f t ≡ o → ((ys : List ℕ) → Has ss s → all_united (united acc ys) (map f ss) ≡ None) → all_united acc (o ∷ map f ss) ≡ None
+      by None e rest = refl
+      by (Some ys) e rest = elim (or_cases _ _ h) [
+        | inl same ↦ absurd (let is : f s ≡ f t = ap f (eqb-true s t same) in cc)
+        | inr k ↦ rest ys k
+      ]
+
 -- more lists that are there, and the same of those that were
 pub all_united-agree : (f g : ℕ → Option (List ℕ)) → ((s : ℕ) (r : List ℕ) → f s ≡ Some r → g s ≡ Some r) → (acc ss out : List ℕ) → all_united acc (map f ss) ≡ Some out → all_united acc (map g ss) ≡ Some out
 all_united-agree f g more acc [] out = λ e. e
@@ -165,11 +177,6 @@ all_united-agree f g more acc (s ∷ ss) out = by (f s) refl (λ ys. all_united-
         → all_united acc (o ∷ map f ss) ≡ Some out → all_united acc (g s ∷ map g ss) ≡ Some out
     by None k rest e = absurd (cc)
     by (Some ys) k rest e = ap (λ o. all_united acc (o ∷ map g ss)) (more s ys k) ∙ rest ys e
-
--- two functions that agree on the items of a list give one list
-pub map_agree_on : {X : Type 0} (f g : ℕ → X) (ss : List ℕ) → ((s : ℕ) → Has ss s → f s ≡ g s) → map f ss ≡ map g ss
-map_agree_on f g [] same = refl
-map_agree_on f g (s ∷ ss) same = ap (λ x. x ∷ map f ss) (same s (or_left _ _ (eq-eqb s s refl))) ∙ ap (λ xs. g s ∷ xs) (map_agree_on f g ss (λ t h. same t (or_right _ _ h)))
 
 -- ---- class orders
 
@@ -219,6 +226,11 @@ module _ (desc : MetaDesc) where
       let above : all_united [] (map (lineage_within desc (suc n)) (supers_of desc c)) ≡ Some p.0 =
       all_united-agree (lineage_within desc n) (lineage_within desc (suc n)) (lineage_more n) [] (supers_of desc c) p.0 p.1 in
       ap (option_map (λ cs. with_item cs c)) above ∙ ap Some p.2
+
+  -- the same of several steps more
+  pub lineage_upto : (j n c : ℕ) (r : List ℕ) → lineage_within desc n c ≡ Some r → lineage_within desc (j + n) c ≡ Some r
+  lineage_upto zero n c r e = ap (λ m. lineage_within desc m c) (omega arith) ∙ e
+  lineage_upto (suc j) n c r e = ap (λ m. lineage_within desc m c) (let m : suc j + n ≡ suc (j + n) = omega arith in m) ∙ lineage_more (j + n) c r (lineage_upto j n c r e)
 
   -- ---- circles
 
@@ -335,21 +347,3 @@ module _ (desc : MetaDesc) where
       let P : List ℕ → Type 0 = λ xs. Contains xs (get_or (class_numbers ids) k d.0) in
       let within = supers_within c _ (Has-from_Contains (supers_of desc c) _ (subst P same inside)) in
       omega (arith, within, at)
-
-  -- ---- rounds
-
-  -- an order that was found stays, and a later one is that of one more step
-  pub lineage_later : (n c : ℕ) → option_or (lineage_within desc n c) (cond (is_some (lineage_within desc n c)) None (lineage_within desc (suc n) c)) ≡ lineage_within desc (suc n) c
-  lineage_later n c = by (lineage_within desc n c) refl
-    where
-      by : (o : Option (List ℕ)) → lineage_within desc n c ≡ o → option_or o (cond (is_some o) None (lineage_within desc (suc n) c)) ≡ lineage_within desc (suc n) c
-      by None e = refl
-      by (Some r) e = sym (lineage_more n c r e)
-
-  -- where one more step finds none, no more steps do
-  pub lineage_stays : (n j : ℕ) → ((c : ℕ) → c < class_count desc → lineage_within desc (suc n) c ≡ lineage_within desc n c) → (c : ℕ) → c < class_count desc → lineage_within desc (j + n) c ≡ lineage_within desc n c
-  lineage_stays n zero stays c l = ap (λ m. lineage_within desc m c) (omega arith)
-  lineage_stays n (suc j) stays c l =
-      ap (λ m. lineage_within desc m c) (let e : suc j + n ≡ suc (j + n) = omega arith in e)
-      ∙ ap (λ rows. option_map (λ cs. with_item cs c) (all_united [] rows)) (map_agree_on _ _ (supers_of desc c) (λ s h. lineage_stays n j stays s (supers_within c s h)))
-      ∙ stays c l

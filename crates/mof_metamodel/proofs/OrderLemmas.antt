@@ -15,7 +15,7 @@ use Rattle.mof_metamodel.specs.Tables.{line, line_at, lineage_in, AreLines, IsGr
 use Rattle.mof_metamodel.proofs.TableLemmas.{own_within}
 use Rattle.mof_metamodel.proofs.LineageLemmas.{Has, Has-from_Contains}
 use Rattle.mof_metamodel.proofs.ReachLemmas.{lineage_within_classes}
-use Rattle.mof_metamodel.proofs.RoundLemmas.{line_at_is, line_at_read, lines_count}
+use Rattle.mof_metamodel.proofs.LineLemmas.{line_at_is, line_at_read, lines_count}
 
 -- what holds of each number that a list has
 pub All-from_Has : (P : ℕ → Type 0) (xs : List ℕ) → ((q : ℕ) → Has xs q → P q) → All P xs

@@ -51,7 +51,7 @@ pub united-at : (xs ys : List ℕ) (i d : ℕ) → i < length xs → get_or (uni
 united-at xs [] i d l = refl
 united-at xs (y ∷ ys) i d l = united-at (with_item xs y) ys i d (omega (arith, l, with_item-longer xs y)) ∙ with_item-at xs y i d l
 
-distinct_from_once : (xs : List ℕ) → IsOnce xs → IsDistinct eqb xs
+pub distinct_from_once : (xs : List ℕ) → IsOnce xs → IsDistinct eqb xs
 unfolding IsDistinct
 distinct_from_once [] h = tt
 distinct_from_once (x ∷ xs) h = (apart xs (λ k d l. h 0 (suc k) d (omega arith) (omega arith)), distinct_from_once xs (λ i j d l m. h (suc i) (suc j) d (omega arith) (omega arith)))

@@ -1,5 +1,5 @@
 -- What the tables of a metamodel hold: what its description says, by number.
-use Rattle.std.specs.Prelude.{◌≡◌, ◌≢◌, ℕ, ◌<◌, Bool, true, false, List, [], ◌∷◌, ◌++◌, Option, None, Some, map, length, slice_index_or, position, All, IsSome, IsTrue, is_some, nat_eq, take, Contains, if◌then◌else◌}
+use Rattle.std.specs.Prelude.{◌≡◌, ◌≢◌, ℕ, ◌<◌, ◌≤◌, ◌⊎◌, Bool, true, false, List, [], ◌∷◌, ◌++◌, Option, None, Some, map, length, slice_index_or, position, All, IsSome, IsTrue, is_some, nat_eq, take, Contains, if◌then◌else◌}
 use Rattle.std.specs.List.{range_with_len, list_any, flat_map, position_or_len, AllPairs}
 use Rattle.std.specs.Map.{lookup}
 use Rattle.std.specs.Option.{option_map, unwrap_or}
@@ -136,13 +136,57 @@ HasOrders orders xs = (q : ℕ) (s : List ℕ) → IsTrue (list_any (nat_eq q) x
 abbrev pub new_line : {S : Type 0} → MetaDesc → List (Option (IndexSet ℕ S)) → ℕ → Option (List ℕ)
 new_line desc orders c = option_map (λ cs. with_item cs c) (all_united [] (map (line_at orders) (supers_of desc c)))
 
--- the same, for a class that has none yet
-abbrev pub later_line : {S : Type 0} → MetaDesc → List (Option (IndexSet ℕ S)) → ℕ → Option (List ℕ)
-later_line desc orders c = if is_some (line_at orders c) then None else new_line desc orders c
-
 -- the classes of a class order; of a class without one those that it reaches
 abbrev pub lineage_in : {S : Type 0} → MetaDesc → Option (IndexSet ℕ S) → ℕ → List ℕ
 lineage_in desc order c = unwrap_or (line order) (reached_classes desc c)
+
+-- so many numbers at the head of the list have orders
+abbrev pub HaveLines : {S : Type 0} → List (Option (IndexSet ℕ S)) → List ℕ → ℕ → Type 0
+HaveLines orders cs n = (i : ℕ) → i < n → i < length cs → IsSome (line_at orders (slice_index_or cs i 0))
+
+-- Classes whose superclasses all have orders: each stands once among those that are ready, and is marked. Of each class so many
+-- superclasses in a row are known to have orders.
+pub record IsQueue {S : Type 0} (desc : MetaDesc) (orders : List (Option (IndexSet ℕ S))) (known ready : List ℕ) (marks : List Bool) : Type 0 where
+  pub orders_count : length orders ≡ class_count desc
+  pub known_count : length known ≡ class_count desc
+  pub marks_count : length marks ≡ class_count desc
+  pub known_are : (c : ℕ) → c < class_count desc → HaveLines orders (supers_of desc c) (slice_index_or known c 0)
+  pub once : AllPairs (λ x y. x ≢ y) ready
+  pub below : AreBelow (class_count desc) ready
+  pub supers_have : (c s : ℕ) → IsTrue (list_any (nat_eq c) ready) → IsTrue (list_any (nat_eq s) (supers_of desc c)) → IsSome (line_at orders s)
+  pub marked : AreMarks marks ready
+
+-- a superclass of the class has no order
+abbrev pub Waits : {S : Type 0} → MetaDesc → List (Option (IndexSet ℕ S)) → ℕ → Type 0
+Waits desc orders c = (s : ℕ) × IsTrue (list_any (nat_eq s) (supers_of desc c)) × (line_at orders s ≡ None)
+
+-- the class is ready, or waits for the order of a superclass
+abbrev pub IsSettled : {S : Type 0} → MetaDesc → List (Option (IndexSet ℕ S)) → List ℕ → ℕ → Type 0
+IsSettled desc orders ready c = IsTrue (list_any (nat_eq c) ready) ⊎ Waits desc orders c
+
+-- the second list begins with the first
+abbrev pub Begins : List ℕ → List ℕ → Type 0
+Begins xs ys = (zs : List ℕ) × (ys ≡ xs ++ zs)
+
+-- The orders of so many classes that are ready were found, within as many steps. Each class is ready, or waits.
+pub record IsFinding {S : Type 0} (desc : MetaDesc) (orders : List (Option (IndexSet ℕ S))) (next : ℕ) (ready : List ℕ) : Type 0 where
+  pub within : next ≤ length ready
+  pub found : (c : ℕ) (r : List ℕ) → line_at orders c ≡ Some r → lineage_within desc next c ≡ Some r
+  pub done : HaveLines orders ready next
+  pub settled : (c : ℕ) → c < class_count desc → IsSettled desc orders ready c
+
+-- lists that have one number more in those of the first n rows, and at least what they had
+pub record AddsUnder (old new : List (List ℕ)) (rows : List ℕ) (n c : ℕ) : Type 0 where
+  pub count : length new ≡ length old
+  pub kept : (s q : ℕ) → IsTrue (list_any (nat_eq q) (slice_index_or old s [])) → IsTrue (list_any (nat_eq q) (slice_index_or new s []))
+  pub only : (s q : ℕ) → IsTrue (list_any (nat_eq q) (slice_index_or new s [])) → IsTrue (list_any (nat_eq q) (slice_index_or old s [])) ⊎ (q ≡ c)
+  pub added : (i : ℕ) → i < n → i < length rows → IsTrue (list_any (nat_eq c) (slice_index_or new (slice_index_or rows i 0) []))
+
+-- each of the first n classes stands in the lists of its superclasses
+pub record AreSubclasses (desc : MetaDesc) (n : ℕ) (lists : List (List ℕ)) : Type 0 where
+  pub count : length lists ≡ class_count desc
+  pub below : (s : ℕ) → AreBelow (class_count desc) (slice_index_or lists s [])
+  pub listed : (c s : ℕ) → c < n → IsTrue (list_any (nat_eq s) (supers_of desc c)) → IsTrue (list_any (nat_eq c) (slice_index_or lists s []))
 
 -- for each class of a class order, how many properties the classes before it have
 abbrev pub starts_of : MetaDesc → List ℕ → List ℕ

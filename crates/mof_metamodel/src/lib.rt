@@ -21,9 +21,11 @@ mod names;
 mod numbering;
 mod ordered;
 mod reached;
+mod ready;
 mod resolved;
 mod seq;
 mod span;
+mod subclasses;
 mod text;
 
 pub use boxed::Boxed;

@@ -1,22 +1,22 @@
 //! The class orders of a description: for each class itself and the classes that it inherits from.
 //!
-//! They are found in rounds. A round finds the order of each class whose superclasses' orders were found in earlier
-//! rounds, so there are at most as many rounds as there are classes, and no more once a round finds none. What remains
-//! without an order reaches a circle of superclasses. Each written superclass is looked at once, until its order is there,
-//! and a round looks once at each class. An order is made once, when all that it is made of are there; the order of a
-//! superclass that stands in it already is passed over, and each other one is read once.
-ghost use Rattle.std.specs.Prelude.{◌≡◌, ◌≢◌, ℕ, ◌<◌, [], length, map, nat_eq, All, IfOk, OnOk, IsTrue, None, false};
-ghost use Rattle.std.specs.Option.{option_map, option_or, is_some};
+//! The order of a class is found once those of its superclasses are there (`ready.rt`): it is made once, the order of a
+//! superclass that stands in it already is passed over, and each other one is read once. What remains without an order
+//! reaches a circle of superclasses.
+ghost use Rattle.std.specs.Prelude.{◌≡◌, ◌<◌, [], length, map, nat_eq, All, IfOk, OnOk, IsTrue, None};
+ghost use Rattle.std.specs.Option.{is_some};
 ghost use Rattle.std.specs.List.{list_any, list_all};
-ghost use Rattle.mof_metamodel.specs.Metamodels.{class_count, supers_of, united, all_united, with_item, lineage_of, reached_classes as reached_by_number};
-ghost use Rattle.mof_metamodel.specs.Tables.{class_numbers, lines, line, line_at, AreLines, table, new_line, later_line, lineage_in, AreBelow, AreAmong, AreMarks, AreClosed};
+ghost use Rattle.mof_metamodel.specs.Metamodels.{class_count, united, all_united, lineage_of, reached_classes as reached_by_number};
+ghost use Rattle.mof_metamodel.specs.Tables.{class_numbers, lines, line, line_at, AreLines, table, new_line, lineage_in, AreBelow, AreAmong, AreMarks, AreClosed, AreSubclasses, IsQueue, IsFinding};
 
 use crate::desc::ClassId;
 use crate::hierarchy::Hierarchy;
 use crate::memory::NoMemory;
 use crate::or_drop;
 use crate::reached::{marked, reached};
+use crate::ready::{advance_all, advance_each};
 use crate::seq::Seq;
+use crate::subclasses::all_subclasses;
 use indexmap::IndexSet;
 use std::alloc::Global;
 
@@ -88,21 +88,6 @@ fn join_all(alloc: Global, orders: &[Line], supers: &[ClassId]) -> Result<Line, 
     Ok(Some(joint))
 }
 
-/// How many superclasses in a row have orders, where so many are known to have them.
-fn found_first(orders: &[Line], supers: &[ClassId], known: usize) -> usize
-    requires { All (λ c. c.0 < length orders.now) supers.now }
-    ensures { result < length supers.now → all_united [] (map (line_at orders.now) (class_numbers supers.now)) ≡ None }
-{
-    let mut next = known;
-    while next < supers.len() {
-        if orders[supers[next].0 as usize].is_none() {
-            return next;
-        }
-        next += 1;
-    }
-    next
-}
-
 /// The order of a class, where those of its superclasses are found.
 fn line_of(alloc: Global, hierarchy: &Hierarchy, orders: &[Line], c: u32) -> Result<Line, NoMemory>
     requires class { c < class_count hierarchy.now }
@@ -117,80 +102,6 @@ fn line_of(alloc: Global, hierarchy: &Hierarchy, orders: &[Line], c: u32) -> Res
         }
         None => Ok(None),
     }
-}
-
-/// The order that a round finds for a class: none, where it had one. So many of its superclasses are known to have orders.
-fn later_line_of(
-    alloc: Global,
-    hierarchy: &Hierarchy,
-    orders: &[Line],
-    known: &mut usize,
-    c: u32,
-) -> Result<Line, NoMemory>
-    requires class { c < class_count hierarchy.now }
-    requires rows { length orders.now ≡ class_count hierarchy.now }
-    requires orders { AreClosed orders.now }
-    ensures { IfOk result (λ o. line o ≡ later_line hierarchy.now orders.now c) }
-{
-    if orders[c as usize].is_some() {
-        return Ok(None);
-    }
-    let supers = hierarchy.supers(c);
-    *known = found_first(orders, supers, *known);
-    if *known < supers.len() {
-        return Ok(None);
-    }
-    line_of(alloc, hierarchy, orders, c)
-}
-
-/// The orders that a round finds: of classes that had none.
-fn next_lines(
-    alloc: Global,
-    hierarchy: &Hierarchy,
-    orders: &[Line],
-    known: &mut [usize],
-) -> Result<Vec<Line>, NoMemory>
-    requires rows { length orders.now ≡ class_count hierarchy.now }
-    requires known { length known.old ≡ class_count hierarchy.now }
-    requires orders { AreClosed orders.now }
-    ensures { IfOk result (λ found. lines found.items ≡ table (later_line hierarchy.now orders.now) (class_count hierarchy.now)) }
-{
-    let mut found = Vec::new(alloc);
-    for c in 0..hierarchy.named().class_count() {
-        let order = later_line_of(alloc, hierarchy, orders, &mut known[c as usize], c)?;
-        found.push(order)?;
-    }
-    Ok(found)
-}
-
-/// Moves the order that a round found for a class to its place.
-fn put_line(orders: &mut [Line], found: &mut [Line], c: usize)
-    requires within { c < length orders.old }
-    requires alike { length found.old ≡ length orders.old }
-    ensures here { line_at orders.new c ≡ option_or (line_at orders.old c) (line_at found.old c) }
-    ensures others { (k : ℕ) → k ≢ c → line_at orders.new k ≡ line_at orders.old k }
-    ensures rest { (k : ℕ) → k ≢ c → line_at found.new k ≡ line_at found.old k }
-{
-    if orders[c].is_none() {
-        orders[c] = found[c].take();
-    }
-}
-
-/// Moves the orders that a round found to their places.
-fn put_lines(orders: &mut [Line], found: &mut [Line])
-    requires { length found.old ≡ length orders.old }
-    ensures { (k : ℕ) → k < length orders.old → line_at orders.new k ≡ option_or (line_at orders.old k) (line_at found.old k) }
-{
-    for c in 0..orders.len() {
-        put_line(orders, found, c);
-    }
-}
-
-/// Whether an order was found.
-fn has_line(found: &[Line]) -> bool
-    ensures { result ≡ list_any (λ o. is_some o) found.now }
-{
-    found.iter().any(|order| order.is_some())
 }
 
 /// Whether each class has an order.
@@ -211,21 +122,61 @@ fn no_lines(alloc: Global, count: u32) -> Result<Vec<Line>, NoMemory>
     Ok(none)
 }
 
+/// Finds the orders of the classes that are ready, and looks at the classes below each of these, which may be ready then.
+fn find_lines(
+    alloc: Global,
+    hierarchy: &Hierarchy,
+    subclasses: &[Seq<u32>],
+    orders: &mut [Line],
+    known: &mut [usize],
+    ready: &mut Seq<u32>,
+    marks: &mut [bool],
+) -> Result<(), NoMemory>
+    requires subclasses { AreSubclasses hierarchy.now (class_count hierarchy.now) subclasses.now }
+    requires queue { IsQueue hierarchy.now orders.old known.old ready.old marks.old }
+    requires begun { IsFinding hierarchy.now orders.old 0 ready.old }
+    ensures { OnOk result (AreLines hierarchy.now (class_count hierarchy.now) orders.new) }
+{
+    let mut next = 0;
+    while next < ready.len() {
+        let class = ready.as_slice()[next];
+        let order = line_of(alloc, hierarchy, orders, class)?;
+        orders[class as usize] = order;
+        let below = subclasses[class as usize].as_slice();
+        advance_all(hierarchy, orders, known, ready, marks, below)?;
+        next += 1;
+    }
+    Ok(())
+}
+
 /// The orders of the classes of a description: none for a class that reaches a circle of superclasses.
 pub(crate) fn all_lines(alloc: Global, hierarchy: &Hierarchy) -> Result<Vec<Line>, NoMemory>
     ensures { IfOk result (λ orders. AreLines hierarchy.now (class_count hierarchy.now) orders.items) }
 {
     let count = hierarchy.named().class_count();
+    let subclasses = all_subclasses(alloc, hierarchy)?;
     let mut orders = no_lines(alloc, count)?;
     let mut known = Vec::new(alloc);
     known.resize(count as usize, 0usize)?;
-    for _round in 0..count {
-        let mut found = next_lines(alloc, hierarchy, orders.as_slice(), known.as_mut_slice())?;
-        if !has_line(found.as_slice()) {
-            return Ok(orders);
-        }
-        put_lines(orders.as_mut_slice(), found.as_mut_slice());
-    }
+    let mut marks = Vec::new(alloc);
+    marks.resize(count as usize, false)?;
+    let mut ready = Seq::new(alloc);
+    advance_each(
+        hierarchy,
+        orders.as_slice(),
+        known.as_mut_slice(),
+        &mut ready,
+        marks.as_mut_slice(),
+    )?;
+    find_lines(
+        alloc,
+        hierarchy,
+        subclasses.as_slice(),
+        orders.as_mut_slice(),
+        known.as_mut_slice(),
+        &mut ready,
+        marks.as_mut_slice(),
+    )?;
     Ok(orders)
 }
 

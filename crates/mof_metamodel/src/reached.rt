@@ -13,7 +13,7 @@ use crate::seq::Seq;
 use std::alloc::Global;
 
 /// Adds a class, unless it was met, and marks it. The classes that were met are marked.
-fn meet_one(met: &mut Seq<u32>, marks: &mut [bool], c: u32) -> Result<(), NoMemory>
+pub(crate) fn meet_one(met: &mut Seq<u32>, marks: &mut [bool], c: u32) -> Result<(), NoMemory>
     requires within { c < length marks.old }
     requires marks { AreMarks marks.old met.old }
     ensures met { OnOk result (met.new ≡ with_item met.old c) }

@@ -1,7 +1,7 @@
 use Rattle.std.proofs.Common.{◌<◌, ap, ◌∙◌, arith}
 use Rattle.mof_metamodel.specs.Metamodels.{class_count, lineage_of}
 use Rattle.mof_metamodel.proofs.TableLemmas.{entry_more}
-use Rattle.mof_metamodel.proofs.RoundLemmas.{lines_count}
+use Rattle.mof_metamodel.proofs.LineLemmas.{lines_count}
 use Rattle.mof_metamodel.proofs.OrderLemmas.{lineage_is}
 use Rattle.mof_metamodel.proofs.lineages.all_lineages.Goals as goal
 

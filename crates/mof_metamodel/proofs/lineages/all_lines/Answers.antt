@@ -1,43 +1,27 @@
-use Rattle.std.proofs.Common.{◌≡◌, ap, ◌∙◌, sym, subst, arith, length}
-use Rattle.std.specs.Option.{option_or, is_some}
-use Rattle.std.specs.List.{list_any}
-use Rattle.std.proofs.lemmas.Grind.{common_steps}
+use Rattle.std.proofs.Common.{◌≡◌, ◌≤◌, ◌<◌, ℕ, None, false, [], ap, ◌∙◌, sym, subst, arith, length, get_or, refl}
+use Rattle.std.specs.Prelude.{vec_len}
 use Rattle.mof_metamodel.specs.Metamodels.{class_count}
-use Rattle.mof_metamodel.specs.Tables.{line_at, later_line, table, AreClosed}
-use Rattle.mof_metamodel.proofs.RoundLemmas.{lines_count, round_more, round_last, put_back}
-use Rattle.mof_metamodel.proofs.JoinLemmas.{lines_closed}
+use Rattle.mof_metamodel.specs.Tables.{lines, table, AreMarks, IsSettled}
+use Rattle.mof_metamodel.proofs.QueueLemmas.{queue_none, finding_none}
 use Rattle.mof_metamodel.proofs.lineages.all_lines.Goals as goal
 
-pub next_lines-requires-clause-rows : goal.next_lines-requires-clause-rows
-next_lines-requires-clause-rows c = ap length c.as_slice.ensures.value ∙ lines_count c.args.hierarchy.now c.loop-round._round c.loop-round.orders.items c.loop-round.invariant.0
+pub advance_each-requires : goal.advance_each-requires
+advance_each-requires c =
+    let n = c.class_count-count.ensures ∙ ap class_count c.named.ensures in
+    let known_count : length c.as_mut_slice.result.now ≡ class_count c.args.hierarchy.now = c.as_mut_slice.ensures.len ∙ c.in_ok-resize.ensures.len ∙ n in
+    let marks_count : length c.as_mut_slice-2.result.now ≡ class_count c.args.hierarchy.now = c.as_mut_slice-2.ensures.len ∙ c.in_ok-resize-2.ensures.len ∙ n in
+    let no_known = c.new-known.ensures.len in
+    let no_marks = c.new-marks.ensures.len in
+    let marked : AreMarks c.as_mut_slice-2.result.now [] =
+    λ q l. ap (λ xs. get_or xs q false) c.as_mut_slice-2.ensures.value ∙ c.in_ok-resize-2.ensures.by_index.1 q false refl (omega (arith, no_marks)) (omega (arith, l, marks_count, n)) in
+    queue_none c.args.hierarchy.now c.as_slice.result.now (ap lines c.as_slice.ensures.value ∙ c.in_ok-orders.ensures ∙ ap (table (λ _. None)) n)
+    c.as_mut_slice.result.now c.new-ready.result c.as_mut_slice-2.result.now known_count
+    (λ k l. ap (λ xs. get_or xs k 0) c.as_mut_slice.ensures.value ∙ c.in_ok-resize.ensures.by_index.1 k 0 refl (omega (arith, no_known)) (omega (arith, l, n)))
+    c.new-ready.ensures marks_count marked
 
-pub next_lines-requires-clause-orders : goal.next_lines-requires-clause-orders
-next_lines-requires-clause-orders c =
-    subst AreClosed (sym c.as_slice.ensures.value) (lines_closed c.loop-round.orders.items c.args.hierarchy.now c.loop-round._round c.loop-round.invariant.0)
-
-pub returns-then-not-has_line : goal.returns-then-not-has_line
-returns-then-not-has_line c =
-    round_last c.args.hierarchy.now c.loop-round._round c.loop-round.orders.items c.loop-round.invariant.0 c.in_ok-found.found.items
-    (c.in_ok-found.ensures ∙ ap (λ xs. table (later_line c.args.hierarchy.now xs) (class_count c.args.hierarchy.now)) c.as_slice.ensures.value)
-    (sym (c.has_line.ensures ∙ ap (λ xs. list_any (λ o. is_some o) xs) c.as_slice-in-loop-round.ensures.value) ∙ c.if-not-has_line.true)
-    (let n = c.class_count-count.ensures ∙ ap class_count c.named.ensures in omega (arith, n))
-
-pub next_lines-requires-clause-known : goal.next_lines-requires-clause-known
-next_lines-requires-clause-known c = ap length c.as_mut_slice.ensures.value ∙ c.loop-round.invariant.1
-
-pub loop-round-preserved : goal.loop-round-preserved
-loop-round-preserved c =
-    let same : length c.put_lines.new.orders ≡ length c.loop-round.orders.items = let e = ap length c.as_mut_slice-in-loop-round.ensures.value in omega (arith, e) in
-    let kept : length c.next_lines.new.known ≡ length c.loop-round.known.items = let e = ap length c.as_mut_slice.ensures.value in omega (arith, e) in (
-      rw (put_back c.put_lines.new.orders c.loop-round.orders.items c.loop-round.orders.len same (omega arith))
-          (round_more c.args.hierarchy.now c.loop-round._round c.loop-round.orders.items c.loop-round.invariant.0 c.in_ok-found.found.items c.put_lines.new.orders
-          (c.in_ok-found.ensures ∙ ap (λ xs. table (later_line c.args.hierarchy.now xs) (class_count c.args.hierarchy.now)) c.as_slice.ensures.value)
-          same
-          (λ k l. c.put_lines.ensures k (let e = ap length c.as_mut_slice-in-loop-round.ensures.value in omega (arith, e))
-          ∙ ap (λ xs. option_or (line_at xs k) (line_at c.as_mut_slice-in-loop-round-2.result.now k)) c.as_mut_slice-in-loop-round.ensures.value
-          ∙ ap (λ xs. option_or (line_at c.loop-round.orders.items k) (line_at xs k)) c.as_mut_slice-in-loop-round-2.ensures.value)),
-      ap length (put_back c.next_lines.new.known c.loop-round.known.items c.loop-round.known.len kept (omega arith)) ∙ kept ∙ c.loop-round.invariant.1,
-    )
-
-pub put_lines-requires : goal.put_lines-requires
-put_lines-requires c = grind (arith, common_steps)
+pub find_lines-requires-clause-begun : goal.find_lines-requires-clause-begun
+find_lines-requires-clause-begun c =
+    let n = c.class_count-count.ensures ∙ ap class_count c.named.ensures in
+    finding_none c.args.hierarchy.now c.as_mut_slice-3.result.now (ap lines c.as_mut_slice-3.ensures.value ∙ c.in_ok-orders.ensures ∙ ap (table (λ _. None)) n) c.advance_each.new.ready
+    (subst (λ xs. (k : ℕ) → k < class_count c.args.hierarchy.now → IsSettled c.args.hierarchy.now xs c.advance_each.new.ready k)
+    (c.as_slice.ensures.value ∙ sym c.as_mut_slice-3.ensures.value) c.in_ok-advance_each.ensures.settled)

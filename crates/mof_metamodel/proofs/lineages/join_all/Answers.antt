@@ -4,7 +4,7 @@ use Rattle.std.proofs.lemmas.Grind.{common_steps}
 use Rattle.mof_metamodel.specs.declared.desc.ClassId.{ClassId}
 use Rattle.mof_metamodel.specs.Metamodels.{united, all_united}
 use Rattle.mof_metamodel.specs.Tables.{class_numbers, line, line_at, AreMarks, HasOrders}
-use Rattle.mof_metamodel.proofs.RoundLemmas.{line_at_read, put_back}
+use Rattle.mof_metamodel.proofs.LineLemmas.{line_at_read, put_back}
 use Rattle.mof_metamodel.proofs.JoinLemmas.{united_step, has_more}
 use Rattle.mof_metamodel.proofs.lineages.join_all.Goals as goal
 

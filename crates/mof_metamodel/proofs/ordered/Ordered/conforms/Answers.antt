@@ -4,7 +4,7 @@ use Rattle.mof_metamodel.specs.declared.desc.MetaDesc.{MetaDesc}
 use Rattle.mof_metamodel.specs.Metamodels.{class_count, lineage_of, Conforms}
 use Rattle.mof_metamodel.specs.Tables.{IsGrounded, lineage_in}
 use Rattle.mof_metamodel.proofs.LineageLemmas.{Has, conforms_exactly}
-use Rattle.mof_metamodel.proofs.RoundLemmas.{lines_count}
+use Rattle.mof_metamodel.proofs.LineLemmas.{lines_count}
 use Rattle.mof_metamodel.proofs.OrderLemmas.{lineage_is, grounded_some}
 use Rattle.mof_metamodel.proofs.ordered.Ordered.conforms.Goals as goal
 

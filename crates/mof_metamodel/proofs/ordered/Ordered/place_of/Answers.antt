@@ -5,7 +5,7 @@ use Rattle.mof_metamodel.specs.declared.desc.MetaDesc.{MetaDesc}
 use Rattle.mof_metamodel.specs.Metamodels.{class_count, lineage_of, own_props, props_of, prop_count}
 use Rattle.mof_metamodel.specs.Tables.{IsGrounded, lineage_in, starts_of, prop_numbers}
 use Rattle.mof_metamodel.proofs.TableLemmas.{rows_count, row_is, entry_count, entry_is}
-use Rattle.mof_metamodel.proofs.RoundLemmas.{lines_count}
+use Rattle.mof_metamodel.proofs.LineLemmas.{lines_count}
 use Rattle.mof_metamodel.proofs.OrderLemmas.{lineage_is, grounded_some}
 use Rattle.mof_metamodel.proofs.PlaceLemmas.{past_none}
 use Rattle.mof_metamodel.proofs.ordered.Ordered.place_of.Goals as goal

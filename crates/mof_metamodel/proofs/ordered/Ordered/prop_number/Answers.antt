@@ -3,7 +3,7 @@ use Rattle.std.specs.Prelude.{All, chars}
 use Rattle.mof_metamodel.specs.declared.desc.MetaDesc.{MetaDesc}
 use Rattle.mof_metamodel.specs.Metamodels.{class_count, lineage_of, own_number, first_found}
 use Rattle.mof_metamodel.specs.Tables.{IsGrounded, lineage_in}
-use Rattle.mof_metamodel.proofs.RoundLemmas.{lines_count}
+use Rattle.mof_metamodel.proofs.LineLemmas.{lines_count}
 use Rattle.mof_metamodel.proofs.OrderLemmas.{lineage_is, lineage_classes, grounded_some}
 use Rattle.mof_metamodel.proofs.ordered.Ordered.prop_number.Goals as goal
 
