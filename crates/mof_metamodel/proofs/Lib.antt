@@ -1,6 +1,8 @@
 pub mod ClassOrderLemmas
 pub mod DistinctLemmas
+pub mod EntryLemmas
 pub mod FirstLemmas
+pub mod HolderLemmas
 pub mod JoinLemmas
 pub mod KnownLemmas
 pub mod LineLemmas

@@ -27,7 +27,7 @@ module _ (desc : MetaDesc) where
   ]
 
   -- the first property with the name has it
-  number_name : (p : ℕ) → p < prop_count desc → (prop_at desc p).name ≡ (prop_at desc (name_number desc p)).name
+  pub number_name : (p : ℕ) → p < prop_count desc → (prop_at desc p).name ≡ (prop_at desc (name_number desc p)).name
   number_name p l =
       same_text _ _ (sym (passes_at_first (λ d. same_name (prop_at desc p).name d.1.name) (declared_props desc) (0, no_prop) (let w = number_within p l in omega (arith, w))))
 

@@ -192,12 +192,12 @@ module _ {S : Type 0} (desc : MetaDesc) (orders : List (Option (IndexSet ℕ S))
           | inr ne ↦ lineage_more desc next c r (finding.found c r (sym (line_at-set_other orders x c o ne) ∙ e))
         ];
         done = λ i a b. (
-          let m : i < length ready = omega (arith, a, l) in
-          let P : ℕ → Type 0 = λ z. IsSome (line_at (set orders x o) z) in
-          subst P (sym (begins_at ready ready' i grown m)) (elim (cases_lt i next) [
-            | inl before ↦ kept (get_or ready i 0) (finding.done i before m)
-            | inr past ↦ (let same : next ≡ i = omega (arith, a, past) in subst P (sym at ∙ ap (λ k. get_or ready k 0) same) (ap is_some here))
-          ]));
+            let m : i < length ready = omega (arith, a, l) in
+            let P : ℕ → Type 0 = λ z. IsSome (line_at (set orders x o) z) in
+            subst P (sym (begins_at ready ready' i grown m)) (elim (cases_lt i next) [
+              | inl before ↦ kept (get_or ready i 0) (finding.done i before m)
+              | inr past ↦ (let same : next ≡ i = omega (arith, a, past) in subst P (sym at ∙ ap (λ k. get_or ready k 0) same) (ap is_some here))
+            ]));
         settled = λ c m. elim (finding.settled c m) [
           | inl h ↦ inl (begins_has ready ready' c grown h)
           | inr w ↦ elim (cases_eq w.0 x) [

@@ -1,11 +1,13 @@
 -- What the tables of a metamodel hold: what its description says, by number.
-use Rattle.std.specs.Prelude.{◌≡◌, ◌≢◌, ℕ, ◌<◌, ◌≤◌, ◌⊎◌, Bool, true, false, List, [], ◌∷◌, ◌++◌, Option, None, Some, map, length, slice_index_or, position, All, IsSome, IsTrue, is_some, nat_eq, take, Contains, if◌then◌else◌}
+use Rattle.std.specs.Prelude.{◌≡◌, ◌≢◌, ℕ, ◌+◌, ◌<◌, ◌≤◌, ◌⊎◌, Bool, true, false, List, [], ◌∷◌, ◌++◌, Option, None, Some, map, length, slice_index_or, position, All, IsSome, IsTrue, is_some, nat_eq, take, Contains, if◌then◌else◌}
 use Rattle.std.specs.List.{range_with_len, list_any, flat_map, position_or_len, AllPairs}
+use Rattle.std.specs.List.Sorted.{IsNonDecreasingBy}
 use Rattle.std.specs.Map.{lookup}
 use Rattle.std.specs.Option.{option_map, unwrap_or}
 use Rattle.indexmap.specs.IndexSet.{IndexSet}
 use Rattle.mof_metamodel.specs.declared.desc.PropDesc.{PropDesc}
 use Rattle.mof_metamodel.specs.declared.named.Place.{Place}
+use Rattle.mof_metamodel.specs.declared.entries.Entry.{Entry}
 use Rattle.mof_metamodel.specs.declared.desc.MetaDesc.{MetaDesc}
 use Rattle.mof_metamodel.specs.declared.desc.ClassId.{ClassId}
 use Rattle.mof_metamodel.specs.declared.desc.EnumId.{EnumId}
@@ -222,7 +224,39 @@ pub record IsFirstCircle (desc : MetaDesc) (c : ℕ) : Type 0 where
   pub circular : IsCircular desc c
   pub first : (d : ℕ) → d < c → IsCircular desc d → ⊥
 
-pub record IsTabled (desc : MetaDesc) (props : List Prop) : Type 0 where
+-- Numbers that classes have, each beside its class.
+
+abbrev pub entry : ℕ → ℕ → Entry
+entry c v = record { class = c; value = v }
+
+-- the entries go by their classes
+abbrev pub AreRising : List Entry → Type 0
+AreRising entries = IsNonDecreasingBy (λ e. e.class) entries
+
+-- lists of entries, each in the order of their classes, which are below n
+pub record AreOfClasses (n : ℕ) (rows : List (List Entry)) : Type 0 where
+  pub rising : (k : ℕ) → AreRising (slice_index_or rows k [])
+  pub below : (k : ℕ) (e : Entry) → Contains (slice_index_or rows k []) e → e.class < n
+
+-- lists to which entries of class c came: the i-th of the values to the list of the i-th key, for each of the first n
+pub record AddsEntries (old new : List (List Entry)) (keys values : List ℕ) (n c : ℕ) : Type 0 where
+  pub count : length new ≡ length old
+  pub kept : (k : ℕ) (e : Entry) → Contains (slice_index_or old k []) e → Contains (slice_index_or new k []) e
+  pub added : (i : ℕ) → i < n → i < length keys → Contains (slice_index_or new (slice_index_or keys i 0) []) (entry c (slice_index_or values i 0))
+  pub only : (k : ℕ) (e : Entry) → Contains (slice_index_or new k []) e
+      → Contains (slice_index_or old k []) e ⊎ ((i : ℕ) × (i < length keys) × (k ≡ slice_index_or keys i 0) × (e ≡ entry c (slice_index_or values i 0)))
+  pub classes : AreOfClasses c old → AreOfClasses (c + 1) new
+
+-- for the number of each name the classes below n that have a property of this name, each with the property
+pub record AreHolders (desc : MetaDesc) (n : ℕ) (holders : List (List Entry)) : Type 0 where
+  pub count : length holders ≡ prop_count desc
+  pub classes : AreOfClasses n holders
+  pub sound : (k : ℕ) (e : Entry) → Contains (slice_index_or holders k []) e → Contains (props_of desc e.class) e.value × (name_number desc e.value ≡ k)
+  pub complete : (c p : ℕ) → c < n → Contains (props_of desc c) p → Contains (slice_index_or holders (name_number desc p) []) (entry c p)
+
+pub record IsTabled (desc : MetaDesc) (props : List Prop) (names : Names) (holders : List (List Entry)) : Type 0 where
   pub well : WellMeta desc
   pub grounded : IsGrounded desc
   pub props_are : ArePropsOf desc props
+  pub names_are : Numbers (λ d. d.1.name) (declared_props desc) names
+  pub holders_are : AreHolders desc (class_count desc) holders

@@ -1,8 +1,8 @@
 //! Names that stand twice.
 ghost use Rattle.std.specs.Prelude.{◌≡◌, ◌<◌, [], map, All, IfOk, is_some};
 ghost use Rattle.std.specs.List.{range_with_len};
-ghost use Rattle.mof_metamodel.specs.Metamodels.{class_count, enum_count, prop_count, prop_at, declared_props};
-ghost use Rattle.mof_metamodel.specs.Tables.{prop_numbers, number_in, name_number, table, Numbers, IsPropOf};
+ghost use Rattle.mof_metamodel.specs.Metamodels.{class_count, enum_count, prop_count, prop_at};
+ghost use Rattle.mof_metamodel.specs.Tables.{prop_numbers, number_in, name_number, table, IsPropOf};
 ghost use Rattle.mof_metamodel.specs.MetaFaults.{first_repeat as repeat_in};
 ghost use Rattle.mof_metamodel.specs.MetaFaults as faults;
 
@@ -13,6 +13,7 @@ use crate::named::Named;
 use crate::names::{is_number, is_primitive, qualified};
 use crate::or_drop;
 use crate::ordered::Ordered;
+use crate::prop_names::{all_names, name_numbers};
 use crate::text::Text;
 use std::alloc::Global;
 
@@ -37,38 +38,6 @@ fn first_repeat(alloc: Global, names: &[&Text]) -> Result<Option<Text>, NoMemory
     }
     drop(met);
     Ok(None)
-}
-
-/// The names of all properties.
-fn all_names(alloc: Global, named: &Named) -> Result<NameTable<u32>, NoMemory>
-    ensures { IfOk result (Numbers (λ d. d.1.name) (declared_props named.now)) }
-{
-    let mut names = NameTable::new(alloc);
-    for p in 0..named.prop_count() {
-        names.add(alloc, &named.prop(p).name, p)?;
-    }
-    Ok(names)
-}
-
-/// The number of the first property that has the name of a property.
-fn number_of(names: &NameTable<u32>, named: &Named, p: u32) -> u32
-    requires prop { p < prop_count named.now }
-    requires names { Numbers (λ d. d.1.name) (declared_props named.now) names.now }
-    ensures { result ≡ name_number named.now p }
-{
-    names.number(named.prop(p).name.as_str()).unwrap_or(p)
-}
-
-/// The same of each property: two of them have one name exactly where they have one number here.
-fn name_numbers(alloc: Global, named: &Named) -> Result<Vec<u32>, NoMemory>
-    ensures { IfOk result (λ numbers. numbers.items ≡ table (name_number named.now) (prop_count named.now)) }
-{
-    let names = all_names(alloc, named)?;
-    let mut numbers = Vec::new(alloc);
-    for p in 0..named.prop_count() {
-        numbers.push(number_of(&names, named, p))?;
-    }
-    Ok(numbers)
 }
 
 /// The first name that a property shares with one before it in the list.
@@ -176,7 +145,8 @@ fn duplicate_in_enum(alloc: Global, named: &Named, e: u32) -> Result<Option<Text
 fn duplicate_in_classes(alloc: Global, ordered: &Ordered) -> Result<Option<Text>, NoMemory>
     ensures { IfOk result (λ o. o ≡ faults.first_of (faults.duplicate_in_class ordered.now) (range_with_len 0 (class_count ordered.now))) }
 {
-    let numbers = name_numbers(alloc, ordered.named())?;
+    let names = all_names(alloc, ordered.named())?;
+    let numbers = name_numbers(alloc, ordered.named(), &names)?;
     for c in 0..ordered.named().class_count() {
         let found = duplicate_in_class(alloc, ordered, numbers.as_slice(), c)?;
         if found.is_some() {

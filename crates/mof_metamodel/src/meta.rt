@@ -7,12 +7,15 @@ use crate::checks::{first_bad_bounds, first_bad_name, is_within_limits};
 use crate::circles::first_circle;
 use crate::desc::{ClassId, EnumId, MetaDesc, Prop, PropId};
 use crate::duplicates::first_duplicate;
+use crate::entries::{Entry, value_of};
 use crate::fault::{MetaError, MetaFault, MetaKind};
 use crate::hierarchy::Hierarchy;
 use crate::memory::NoMemory;
+use crate::name_table::NameTable;
 use crate::named::Named;
 use crate::or_drop;
 use crate::ordered::Ordered;
+use crate::prop_names::{all_holders, all_names};
 use crate::resolved::{first_bad_opposite, first_two_containers, first_unknown, resolved_props};
 use crate::seq::Seq;
 use crate::text::Text;
@@ -31,6 +34,8 @@ use std::marker::Model;
 pub struct MetaModel {
     ordered: Ordered,
     props: Seq<Prop>,
+    names: NameTable<u32>,
+    holders: Vec<Seq<Entry>>,
 }
 
 impl Model for MetaModel {
@@ -41,7 +46,7 @@ impl Model for MetaModel {
 
     ghost view = { λ m. m.ordered };
 
-    ghost invariant = { λ m. IsTabled m.ordered m.props };
+    ghost invariant = { λ m. IsTabled m.ordered m.props m.names m.holders.items };
 }
 
 /// Refuses a description for a fault of this kind, if there is one.
@@ -143,8 +148,23 @@ impl MetaModel {
         let ordered = order(alloc, desc)?;
         or_drop!(check_order(alloc, &ordered); ordered);
         or_drop!(check_props(alloc, &ordered); ordered);
+        Ok(MetaModel::tabled(alloc, ordered)?)
+    }
+
+    /// The metamodel of a description in which no fault was found.
+    fn tabled(alloc: Global, ordered: Ordered) -> Result<MetaModel, NoMemory>
+        requires { IsSearchedWell ordered }
+        ensures { IfOk result (λ m. m ≡ ordered) }
+    {
         let props = or_drop!(resolved_props(alloc, ordered.named()); ordered);
-        Ok(MetaModel { ordered, props })
+        let names = or_drop!(all_names(alloc, ordered.named()); props, ordered);
+        let holders = or_drop!(all_holders(alloc, &ordered, &names); names, props, ordered);
+        Ok(MetaModel {
+            ordered,
+            props,
+            names,
+            holders,
+        })
     }
 
     /// The name of the metamodel.
@@ -229,14 +249,26 @@ impl MetaModel {
         self.ordered.place_of(c.0, p.0)
     }
 
-    /// The property of this name of a class, inherited ones included.
+    /// The property of this name of a class, inherited ones included: one look-up of the name, and a binary search of the class.
     pub fn prop_of(&self, c: ClassId, name: &str) -> Option<PropId>
         requires { c.0 < class_count self.now }
         ensures number { option_map (λ p. p.0) result ≡ prop_number self.now c.0 (chars name.now) }
         ensures within { IfSome result (IsPropOf self.now) }
         ensures named { MatchOption result (HasNoPropNamed self.now c.0 (chars name.now)) (IsPropNamed self.now c.0 (chars name.now)) }
     {
-        self.ordered.prop_number(c.0, name).map(PropId)
+        self.prop_number(c.0, name).map(PropId)
+    }
+
+    /// The number of this property.
+    fn prop_number(&self, c: u32, name: &str) -> Option<u32>
+        requires { c < class_count self.now }
+        ensures number { result ≡ prop_number self.now c (chars name.now) }
+        ensures within { IfSome result (λ p. p < prop_count self.now) }
+    {
+        match self.names.number(name) {
+            Some(number) => value_of(self.holders[number as usize].as_slice(), c),
+            None => None,
+        }
     }
 
     /// A property with its names resolved.

@@ -1,6 +1,6 @@
-ghost use Rattle.std.specs.Prelude.{nat_eq, position, ◌≡◌, ◌<◌, ◌↔◌, ◌++◌, All, map, chars, is_some, IsTrue, IfOk, IfSome, OnOk};
+ghost use Rattle.std.specs.Prelude.{nat_eq, position, ◌≡◌, ◌<◌, ◌↔◌, ◌++◌, All, map, IsTrue, IfOk, OnOk};
 ghost use Rattle.std.specs.List.{flat_map};
-ghost use Rattle.mof_metamodel.specs.Metamodels.{class_count, prop_count, own_props, own_number, first_found, props_of, lineage_of};
+ghost use Rattle.mof_metamodel.specs.Metamodels.{class_count, prop_count, own_props, props_of, lineage_of};
 ghost use Rattle.mof_metamodel.specs.Tables.{prop_numbers, table, starts_of};
 
 use crate::desc::PropId;
@@ -36,7 +36,7 @@ impl Model for Ordered {
 
 impl Ordered {
     ghost use Rattle.mof_metamodel.specs.Tables.{IsPropOf, IsGrounded};
-    ghost use Rattle.mof_metamodel.specs.Metamodels.{Conforms, prop_number};
+    ghost use Rattle.mof_metamodel.specs.Metamodels.{Conforms};
 
     /// The orders of a description.
     pub(crate) fn new(alloc: Global, hierarchy: Hierarchy) -> Result<Ordered, NoMemory>
@@ -117,34 +117,6 @@ impl Ordered {
             None => false,
         }
     }
-
-    /// The property of this name of a class, inherited ones included.
-    pub(crate) fn prop_number(&self, c: u32, name: &str) -> Option<u32>
-        requires class { c < class_count self.now }
-        requires grounded { IsGrounded self.now }
-        ensures number { result ≡ prop_number self.now c (chars name.now) }
-        ensures within { IfSome result (λ p. p < prop_count self.now) }
-    {
-        match &self.lines[c as usize] {
-            Some(line) => first_own_of(self.named(), line.as_slice(), name),
-            None => None,
-        }
-    }
-}
-
-/// The first property of this name that one of the classes owns.
-fn first_own_of(named: &Named, classes: &[u32], name: &str) -> Option<u32>
-    requires { All (λ a. a < class_count named.now) classes.now }
-    ensures number { result ≡ first_found (λ a. own_number named.now a (chars name.now)) classes.now }
-    ensures within { IfSome result (λ p. p < prop_count named.now) }
-{
-    for a in classes {
-        let found = named.own_number(*a, name);
-        if found.is_some() {
-            return found;
-        }
-    }
-    None
 }
 
 /// Adds the properties that a class owns.

@@ -32,7 +32,10 @@ fn add_under(lists: &mut [Seq<u32>], supers: &[ClassId], c: u32) -> Result<(), N
 }
 
 /// For each class those that write it as a superclass.
-pub(crate) fn all_subclasses(alloc: Global, hierarchy: &Hierarchy) -> Result<Vec<Seq<u32>>, NoMemory>
+pub(crate) fn all_subclasses(
+    alloc: Global,
+    hierarchy: &Hierarchy,
+) -> Result<Vec<Seq<u32>>, NoMemory>
     ensures { IfOk result (λ lists. AreSubclasses hierarchy.now (class_count hierarchy.now) lists.items) }
 {
     let count = hierarchy.named().class_count();

@@ -77,10 +77,11 @@ loop-next-preserved c =
     let within = read_below (class_count c.args.hierarchy.now) c.loop-next.next c.loop-next.ready c.as_slice.result.now c.loop-next.invariant.0.below c.as_slice.ensures (omega (arith, test, len)) in
     let class : ℕ = get_or c.as_slice.result.now c.loop-next.next 0 in
     let count = c.requires.subclasses.count in
-    let short : class < length c.args.subclasses.now = omega (arith, within, count) in
-    (c.in_ok-advance_all.ensures.queue,
-    finding_more c.args.hierarchy.now c.loop-next.orders c.loop-next.known c.loop-next.ready c.loop-next.marks c.loop-next.next c.loop-next.invariant.0 c.loop-next.invariant.1
-    class c.in_ok-order.order (ap (λ xs. get_or xs c.loop-next.next 0) (sym c.as_slice.ensures)) (omega (arith, test, len)) c.in_ok-order.ensures
-    c.args.subclasses.now c.as_slice-below.result.now c.advance_all.new.ready c.requires.subclasses
-    (c.as_slice-below.ensures ∙ c.index-subclasses-class.is ∙ get_or_default c.args.subclasses.now class c.index-subclasses-class.result [] short)
-    c.in_ok-advance_all.ensures.grown c.in_ok-advance_all.ensures.settled)
+    let short : class < length c.args.subclasses.now = omega (arith, within, count) in (
+      c.in_ok-advance_all.ensures.queue,
+      finding_more c.args.hierarchy.now c.loop-next.orders c.loop-next.known c.loop-next.ready c.loop-next.marks c.loop-next.next c.loop-next.invariant.0 c.loop-next.invariant.1
+          class c.in_ok-order.order (ap (λ xs. get_or xs c.loop-next.next 0) (sym c.as_slice.ensures)) (omega (arith, test, len)) c.in_ok-order.ensures
+          c.args.subclasses.now c.as_slice-below.result.now c.advance_all.new.ready c.requires.subclasses
+          (c.as_slice-below.ensures ∙ c.index-subclasses-class.is ∙ get_or_default c.args.subclasses.now class c.index-subclasses-class.result [] short)
+          c.in_ok-advance_all.ensures.grown c.in_ok-advance_all.ensures.settled,
+    )

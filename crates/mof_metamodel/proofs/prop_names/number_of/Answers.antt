@@ -3,7 +3,7 @@ use Rattle.std.specs.Option.{unwrap_or}
 use Rattle.mof_metamodel.specs.declared.desc.PropDesc.{PropDesc}
 use Rattle.mof_metamodel.specs.Tables.{number_in}
 use Rattle.mof_metamodel.proofs.NumberLemmas.{number_found}
-use Rattle.mof_metamodel.proofs.duplicates.number_of.Goals as goal
+use Rattle.mof_metamodel.proofs.prop_names.number_of.Goals as goal
 
 pub returns : goal.returns
 returns c =

@@ -2,7 +2,7 @@ use Rattle.std.proofs.Common.{ap, ◌∙◌, arith}
 use Rattle.mof_metamodel.specs.declared.desc.PropDesc.{PropDesc}
 use Rattle.mof_metamodel.specs.Tables.{with_name}
 use Rattle.mof_metamodel.proofs.NumberLemmas.{names_more}
-use Rattle.mof_metamodel.proofs.duplicates.all_names.Goals as goal
+use Rattle.mof_metamodel.proofs.prop_names.all_names.Goals as goal
 
 pub loop-p-preserved : goal.loop-p-preserved
 loop-p-preserved c =

@@ -1,7 +1,7 @@
 use Rattle.std.proofs.Common.{take}
 use Rattle.mof_metamodel.specs.Metamodels.{declared_props}
 use Rattle.mof_metamodel.specs.Tables.{Numbers}
-use Rattle.mof_metamodel.proofs.duplicates.all_names.Given as goal
+use Rattle.mof_metamodel.proofs.prop_names.all_names.Given as goal
 
 -- the names so far number the properties so far
 abbrev pub invariant-loop-p : goal.invariant-loop-p
