@@ -8,7 +8,7 @@ ghost use Rattle.xmi_profile.specs.AssemblyNamings.{IsFirstPlace, IsSecondWhole,
 
 use super::entry::Entry;
 use super::met::Met;
-use super::naming::{Naming, Saying};
+use super::naming::{Naming, Saying, key_of, with_sayings};
 use mof_metamodel::{ClassId, MetaModel, NoMemory, PropId, PropType};
 use std::alloc::Global;
 
@@ -185,9 +185,10 @@ pub(super) fn first_unanswered(
     requires within { All (λ n. n.property < prop_count meta.now) namings.now }
     ensures { IfOk result (λ i. firsts.IsFirstUnanswered meta.now namings.now sayings.now i) }
 {
+    let after = with_sayings(key_of(namings), sayings);
     let ends = Ends {
-        namings: Met::all_of(alloc, namings)?,
-        sayings: Met::all_of(alloc, sayings)?,
+        namings: Met::all_of(alloc, after, namings)?,
+        sayings: Met::all_of(alloc, after, sayings)?,
     };
     for (i, naming) in namings.iter().enumerate() {
         if is_unanswered(meta, &ends, *naming) {

@@ -6,7 +6,7 @@ ghost use Rattle.xmi_profile.specs.AssemblyFirsts.{same_naming};
 ghost use Rattle.xmi_profile.specs.AssemblyLinks as links;
 
 use super::met::Met;
-use super::naming::Naming;
+use super::naming::{Naming, key_of};
 use mof_metamodel::{MetaModel, NoMemory, PropId};
 use object_tables::{Model, ObjId};
 use std::alloc::Global;
@@ -59,7 +59,7 @@ pub(super) fn link_all(
     requires may { links.MayBeLinked model.old namings.now }
     ensures { OnOk result (model.new ≡ links.linked_all model.old namings.now) }
 {
-    let mut pairs = Met::new(alloc);
+    let mut pairs = Met::new(alloc, key_of(namings));
     for naming in namings {
         link_once(model, &mut pairs, *naming)?;
     }

@@ -3,23 +3,25 @@ ghost use Rattle.std.specs.Bool.{OnFalse};
 ghost use Rattle.std.specs.List.{list_any};
 
 use mof_metamodel::NoMemory;
+use object_tables::HashKey;
 use std::alloc::Global;
 use std::collections::HashSet;
-use std::hash::{BuildHasherDefault, DefaultHasher, Hash};
+use std::hash::Hash;
 
-/// What was met. It is found by hashing that who writes a file can't tell beforehand.
+/// What was met. It is found by hashing after a key that all makes that may be met, so that nothing that
+/// collides can be made.
 #[derive(Drop)]
 pub(super) struct Met<K: Eq + Hash> {
-    set: HashSet<K, BuildHasherDefault<DefaultHasher>>,
+    set: HashSet<K, HashKey>,
 }
 
 impl<K: Eq + Hash + Drop> Met<K> {
     /// Nothing.
-    pub(super) fn new(alloc: Global) -> Met<K>
+    pub(super) fn new(alloc: Global, after: HashKey) -> Met<K>
         ensures { result.set.keys ≡ [] }
     {
         Met {
-            set: HashSet::with_hasher(alloc, BuildHasherDefault::default()),
+            set: HashSet::with_hasher(alloc, after),
         }
     }
 
@@ -43,10 +45,10 @@ impl<K: Eq + Hash + Drop> Met<K> {
 
 impl<K: Eq + Hash + Copy> Met<K> {
     /// All of a list.
-    pub(super) fn all_of(alloc: Global, keys: &[K]) -> Result<Met<K>, NoMemory>
+    pub(super) fn all_of(alloc: Global, after: HashKey, keys: &[K]) -> Result<Met<K>, NoMemory>
         ensures { IfOk result (λ met. (other : K) → list_any (K.eq other) met.set.keys ≡ list_any (K.eq other) keys.now) }
     {
-        let mut met = Met::new(alloc);
+        let mut met = Met::new(alloc, after);
         for key in keys {
             met.meet(*key)?;
         }

@@ -4,6 +4,7 @@ ghost use Rattle.xmi_profile.specs.AssemblyNamings as words;
 use super::entry::Entry;
 use crate::filed::Mention;
 use mof_metamodel::NoMemory;
+use object_tables::HashKey;
 use std::alloc::Global;
 
 /// An object that names another one at a reference, by the numbers of the three.
@@ -19,6 +20,29 @@ pub(super) struct Naming {
 pub(super) struct Saying {
     pub(super) object: u32,
     pub(super) property: u32,
+}
+
+/// What the pairs of a file are hashed after: all of them, so that none can be made that collide.
+pub(super) fn key_of(namings: &[Naming]) -> HashKey {
+    let mut key = HashKey::none();
+    for naming in namings {
+        key = key
+            .after(&naming.object.to_le_bytes())
+            .after(&naming.property.to_le_bytes())
+            .after(&naming.target.to_le_bytes());
+    }
+    key
+}
+
+/// The same with where objects speak.
+pub(super) fn with_sayings(key: HashKey, sayings: &[Saying]) -> HashKey {
+    let mut key = key;
+    for saying in sayings {
+        key = key
+            .after(&saying.object.to_le_bytes())
+            .after(&saying.property.to_le_bytes());
+    }
+    key
 }
 
 /// What an entry names.

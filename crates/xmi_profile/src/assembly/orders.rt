@@ -4,9 +4,9 @@ ghost use Rattle.xmi_profile.specs.AssemblyOrders as orders;
 ghost use Rattle.xmi_profile.specs.Source.{is_at};
 
 use super::met::Met;
-use super::naming::Naming;
+use super::naming::{Naming, key_of};
 use mof_metamodel::{NoMemory, PropId};
-use object_tables::{Model, ObjId};
+use object_tables::{HashKey, Model, ObjId};
 use std::alloc::Global;
 
 /// Whether a naming stands at a reference of an object.
@@ -19,13 +19,14 @@ fn is_at(naming: Naming, object: u32, property: u32) -> bool
 /// The objects that are named at a reference with which a list begins, each once and at its first place.
 fn distinct_targets(
     alloc: Global,
+    after: HashKey,
     object: u32,
     property: u32,
     namings: &[Naming],
 ) -> Result<Vec<ObjId>, NoMemory>
     ensures { IfOk result (λ v. map (λ b. b.0) v.items ≡ united [] (orders.targets_run object property namings.now)) }
 {
-    let mut met = Met::new(alloc);
+    let mut met = Met::new(alloc, after);
     let mut targets = Vec::new(alloc);
     for naming in namings {
         if !is_at(*naming, object, property) {
@@ -53,6 +54,7 @@ fn is_first(namings: &[Naming], i: usize) -> bool
 /// Puts the partners at the reference of a naming into the order in which they are named.
 fn order_at(
     alloc: Global,
+    after: HashKey,
     model: &mut Model<'_>,
     namings: &[Naming],
     i: usize,
@@ -63,7 +65,7 @@ fn order_at(
 {
     if is_first(namings, i) {
         let naming = namings[i];
-        let order = distinct_targets(alloc, naming.object, naming.property, &namings[i..])?;
+        let order = distinct_targets(alloc, after, naming.object, naming.property, &namings[i..])?;
         model.set_order(
             PropId(naming.property),
             ObjId(naming.object),
@@ -82,8 +84,9 @@ pub(super) fn order_all(
     requires { (i : ℕ) → i < length namings.now → orders.is_first namings.now i ≡ true → orders.MayBeOrdered (orders.ordered model.old namings.now i) namings.now i }
     ensures { OnOk result (model.new ≡ orders.ordered model.old namings.now (length namings.now)) }
 {
+    let after = key_of(namings);
     for i in 0..namings.len() {
-        order_at(alloc, model, namings, i)?;
+        order_at(alloc, after, model, namings, i)?;
     }
     Ok(())
 }

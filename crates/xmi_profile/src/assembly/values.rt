@@ -6,7 +6,7 @@ ghost use Rattle.xmi_profile.specs.Values.{same_value, without_repeats};
 use super::met::Met;
 use crate::filed::WrittenValue;
 use mof_metamodel::{NoMemory, PropId, Seq, or_drop};
-use object_tables::{Model, ObjId, Value};
+use object_tables::{HashKey, Model, ObjId, Value};
 use std::alloc::{AllocError, Global};
 use std::hash::{Hash, Hasher};
 
@@ -81,16 +81,36 @@ fn is_at(written: &WrittenValue, object: u32, property: PropId) -> bool
     written.object == object && written.property.0 == property.0
 }
 
+/// A key with what a value is besides.
+fn with_value(key: HashKey, value: &Value) -> HashKey {
+    match value {
+        Value::Str(text) => key.after(text.as_str().as_bytes()),
+        Value::Int(number) => key.after(&number.to_le_bytes()),
+        Value::Bool(_) => key,
+        Value::Lit(_, place) => key.after(&place.to_le_bytes()),
+    }
+}
+
+/// What the values of a file are hashed after: all of them, so that none can be made that collide.
+fn key_of(values: &[WrittenValue]) -> HashKey {
+    let mut key = HashKey::none();
+    for value in values {
+        key = with_value(key, &value.value);
+    }
+    key
+}
+
 /// The values at an attribute with which a list begins, each once and at its first place.
 fn distinct_run(
     alloc: Global,
+    after: HashKey,
     object: u32,
     property: PropId,
     values: &[WrittenValue],
 ) -> Result<Seq<Value>, NoMemory>
     ensures { IfOk result (λ slot. slot ≡ without_repeats (written.run object property.0 values.now)) }
 {
-    let mut met = Met::new(alloc);
+    let mut met = Met::new(alloc, after);
     let mut slot = Seq::new(alloc);
     for value in values {
         if !is_at(value, object, property) {
@@ -124,6 +144,7 @@ fn is_begin(values: &[WrittenValue], i: usize) -> bool
 /// Puts the values that stand together at a place into the model.
 fn set_at(
     alloc: Global,
+    after: HashKey,
     model: &mut Model<'_>,
     values: &[WrittenValue],
     i: usize,
@@ -134,15 +155,16 @@ fn set_at(
 {
     if is_begin(values, i) {
         let value = &values[i];
-        let slot = distinct_run(alloc, value.object, value.property, &values[i..])?;
+        let slot = distinct_run(alloc, after, value.object, value.property, &values[i..])?;
         model.set_attr(ObjId(value.object), value.property, slot);
     }
     Ok(())
 }
 
 /// Puts the values of a list into the model, where those of one attribute stand together.
-pub(super) fn set_all(
+fn set_all(
     alloc: Global,
+    after: HashKey,
     model: &mut Model<'_>,
     values: &[WrittenValue],
 ) -> Result<(), NoMemory>
@@ -150,7 +172,7 @@ pub(super) fn set_all(
     ensures { OnOk result (model.new ≡ written.valued model.old values.now (length values.now)) }
 {
     for i in 0..values.len() {
-        set_at(alloc, model, values, i)?;
+        set_at(alloc, after, model, values, i)?;
     }
     Ok(())
 }
@@ -177,5 +199,6 @@ pub(super) fn put_values(
     let _ = model.end();
     let mut values = values.into_vec();
     sort(&mut values)?;
-    set_all(alloc, model, values.as_slice())
+    let after = key_of(values.as_slice());
+    set_all(alloc, after, model, values.as_slice())
 }
