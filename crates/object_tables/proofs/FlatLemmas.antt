@@ -16,6 +16,7 @@ use Rattle.object_tables.specs.declared.tables.Named.{Named}
 use Rattle.object_tables.specs.declared.tables.Entry.{Entry}
 use Rattle.object_tables.specs.declared.tables.Home.{Home}
 use Rattle.object_tables.specs.declared.value.Value.{Value}
+use Rattle.object_tables.proofs.ZeroLemmas.{zeros-add}
 use Rattle.object_tables.proofs.RowLemmas.{length-block, get_or-block, rows_update, rows_same, rows_map, block_const}
 
 pub length-rows : (es : List Entry) (vs : List (List Value)) (ix : List ℕ) (hs : List Home) (ls : List (List ℕ)) → length (rows_of es vs ix hs ls) ≡ length es
@@ -118,6 +119,7 @@ flat-links es ix hs ls ms f e b = record {
   placed = f.placed;
   sorted = f.sorted;
   listed = f.listed;
+  few = f.few;
   blank = b;
   known = f.known;
   owned = f.owned;
@@ -360,7 +362,7 @@ number-new : (ix : List ℕ) (n k : ℕ) → k < n → get_or (ix ++ replicate n
 number-new ix n k l = get_or-append-add ix (replicate n 0) k 0 ∙ get_or-replicate n k 0 0 l
 
 pub flat-add : (es : List Entry) (ix : List ℕ) (hs : List Home) (ls : List (List ℕ)) (named : Named) (n : ℕ) → IsFlat es ix hs ls → 0 < length hs
-    → length ix + n < 2 ^ 32
+    → length ix + n + 1 < 2 ^ 32
     → IsFlat (es ++ new_entry named (length ix) n ∷ []) (ix ++ replicate n 0) hs ls
 flat-add es ix hs ls named n f some small =
     let x : Entry = new_entry named (length ix) n in
@@ -393,6 +395,7 @@ flat-add es ix hs ls named n f some small =
         | inr b ↦ (let q : a ≡ length ix + (a - length ix) = omega arith in
             subst (λ (z : ℕ). z < length hs) (sym (ap (λ y. get_or jx y 0) q ∙ number-new ix n (a - length ix) (omega arith))) some)
       ];
+      few = let z = zeros-add ix n in let q = f.few in omega arith;
       blank = f.blank;
       known = λ o k l m ne. elim (cases_lt o (length es)) [
         | inl a ↦ (let m' : k < (entry_at es o).count = subst (λ (z : Entry). k < z.count) (old o a) m in
@@ -434,7 +437,7 @@ rows-add es vs ix hs ls v named n f len e =
     ∙ ap (λ r. v ++ r ∷ []) new
 
 pub flat-add_at : (es fs : List Entry) (ix jx : List ℕ) (hs : List Home) (ls : List (List ℕ)) (named : Named) (n first : ℕ) → IsFlat es ix hs ls → 0 < length hs
-    → length ix + n < 2 ^ 32
+    → length ix + n + 1 < 2 ^ 32
     → first ≡ length ix → fs ≡ es ++ record { named = Some named; first = first; count = n } ∷ [] → jx ≡ ix ++ replicate n 0
     → IsFlat fs jx hs ls
 flat-add_at es fs ix jx hs ls named n first f some small e1 ef ej =
@@ -528,6 +531,7 @@ flat-forget es fs ix hs ls o f e =
       placed = λ i l. let p = f.placed i (omega arith) in let a = fst_is i in let b = cnt_is i in omega arith;
       sorted = λ i j a l. let p = f.sorted i j a (omega arith) in let b = fst_is i in let d = cnt_is i in let h = fst_is j in omega arith;
       listed = f.listed;
+      few = f.few;
       blank = f.blank;
       known = λ i k l m ne. ap (λ z. address hs (get_or ix (z + k) 0)) (fst_is i)
           ∙ f.known i k (omega arith) (subst (λ (z : ℕ). k < z) (cnt_is i) m) (λ z. ne (ap (λ y. get_or ix (y + k) 0) (fst_is i) ∙ z));

@@ -1,7 +1,9 @@
 -- Places that are given ends.
-use Rattle.std.proofs.Common.{◌≡◌, ◌≢◌, ℕ, ◌+◌, ◌<◌, List, [], ◌∷◌, ◌++◌, length, get_or, set, map, refl, ap, sym, ◌∙◌, arith, subst, inl, inr}
+use Rattle.std.proofs.Common.{◌≡◌, ◌≢◌, ℕ, ◌+◌, ◌<◌, ◌^◌, List, [], ◌∷◌, ◌++◌, length, get_or, set, map, refl, ap, sym, ◌∙◌, arith, subst, inl, inr}
+use Rattle.std.specs.Prelude.{◌==◌}
 use Rattle.std.proofs.lemmas.Bool.{cases_eq}
 use Rattle.std.proofs.lemmas.List.{length-set, length_push, get_or_push, get_or_append_left, get_or-set_same, get_or-set_other}
+use Rattle.std.proofs.lemmas.List.Sums.{count_by-le-length}
 use Rattle.link_arena.specs.Links.{IsSimple}
 use Rattle.object_tables.specs.declared.tables.Entry.{Entry}
 use Rattle.object_tables.specs.declared.tables.Home.{Home}
@@ -9,6 +11,7 @@ use Rattle.object_tables.specs.declared.value.Value.{Value}
 use Rattle.object_tables.specs.Rows.{Row}
 use Rattle.object_tables.specs.Flat.{rows_of, entry_at, home_at, no_home, address, joined_of, place_of, number_at, end_at, IsFlat, IsSpot, IsGrown}
 use Rattle.object_tables.proofs.ListLemmas.{map-same_all}
+use Rattle.object_tables.proofs.ZeroLemmas.{zeros-set}
 use Rattle.object_tables.proofs.RowLemmas.{rows_same}
 use Rattle.object_tables.proofs.FlatLemmas.{number_placed, same_spot, others_good}
 
@@ -34,6 +37,7 @@ grown_first es ix hs gs ls ms h f none eg em =
         placed = f.placed;
         sorted = f.sorted;
         listed = λ n l. absurd (bare n l);
+        few = let z = count_by-le-length (λ i. i == 0) ix in omega arith;
         blank = empty;
         known = λ o k l m ne. absurd (bare (number_at es o k) (let p = f.placed o l in omega arith));
         owned = λ e l ne. absurd (ne (omega arith));
@@ -142,6 +146,7 @@ module _ (es : List Entry) (ix : List ℕ) (hs : List Home) (ls : List (List ℕ
       placed = λ i l. let p = f.placed i l in let q = same_length in omega arith;
       sorted = f.sorted;
       listed = listed_grown;
+      few = let z = zeros-set ix here (length hs) inside none (λ e. let l = some in absurd (omega arith)) in let p = f.few in let q = longer in let r = same_length in omega arith;
       blank = links_old 0 some ∙ f.blank;
       known = known_grown;
       owned = owned_grown;
@@ -166,6 +171,16 @@ module _ (es : List Entry) (ix : List ℕ) (hs : List Home) (ls : List (List ℕ
       seen = seen_grown simple;
       kept = λ n ne. index_old n (λ z. ne (ap (λ x. get_or ix x 0) z ∙ none));
     }
+
+-- where a place is no end, there is a number for one more
+pub ends_few : (es : List Entry) (ix : List ℕ) (hs : List Home) (ls : List (List ℕ)) (o k n : ℕ) → IsFlat es ix hs ls → IsSpot es o k → n ≡ number_at es o k → get_or ix n 0 ≡ 0 → length ls + 1 < 2 ^ 32
+ends_few es ix hs ls o k n f s en none =
+    let l : n < length ix = (let p = number_placed es ix hs ls o k f s in omega arith) in
+    let z = zeros-set ix n 1 l none (λ e. absurd (omega arith)) in
+    let p = f.few in
+    let q = f.small in
+    let r = f.ends in
+    omega arith
 
 pub grown_at : (es : List Entry) (ix jx : List ℕ) (hs gs : List Home) (ls ms : List (List ℕ)) (o k n e : ℕ) → IsFlat es ix hs ls → IsSimple ls → IsSpot es o k
     → n ≡ number_at es o k → get_or ix n 0 ≡ 0 → e ≡ length hs → jx ≡ set ix n e → gs ≡ hs ++ record { object = o; place = k } ∷ [] → ms ≡ ls ++ [] ∷ []

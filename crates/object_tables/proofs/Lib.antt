@@ -1,6 +1,7 @@
 pub mod ListLemmas
 pub mod RowLemmas
 pub mod ObjectLemmas
+pub mod ZeroLemmas
 pub mod FlatLemmas
 pub mod GrowLemmas
 pub mod StoredLemmas

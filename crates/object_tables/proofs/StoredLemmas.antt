@@ -1,13 +1,13 @@
 -- Values that are stored by the numbers that their places have.
-use Rattle.std.proofs.Common.{◌≡◌, ◌≢◌, ℕ, ◌+◌, ◌<◌, ◌≤◌, ◌^◌, List, [], ◌∷◌, ◌++◌, zero, suc, length, get_or, set, map, replicate, cond, refl, ap, sym, ◌∙◌, arith, subst, inl, inr, ◌-◌, eq-eqb}
-use Rattle.std.specs.Prelude.{count_by, sum_by, ◌==◌}
-use Rattle.std.proofs.lemmas.Bool.{cases_lt, cases_eq, ne_eqb}
+use Rattle.std.proofs.Common.{◌≡◌, ◌≢◌, ℕ, ◌+◌, ◌<◌, ◌≤◌, ◌^◌, List, [], ◌∷◌, ◌++◌, zero, suc, length, get_or, set, map, replicate, refl, ap, sym, ◌∙◌, arith, subst, inl, inr, ◌-◌}
+use Rattle.std.specs.Prelude.{◌==◌}
+use Rattle.std.proofs.lemmas.Bool.{cases_lt, cases_eq}
 use Rattle.std.proofs.lemmas.List.{length-map, length-append, length-replicate, length-set, length_push, get_or_push, get_or_append_left, get_or-append-add, get_or-replicate, get_or-set_same, get_or-set_other, get_or-map, map-append, map-set}
-use Rattle.std.proofs.lemmas.List.Sums.{sum_by-set, sum_by-append, count_by-le-length}
-use Rattle.std.proofs.lemmas.List.Folds.{sum_by-replicate}
+use Rattle.std.proofs.lemmas.List.Sums.{count_by-le-length}
 use lib.LanesLaws.{map-replicate}
 use Rattle.object_tables.specs.declared.value.Value.{Value}
 use Rattle.object_tables.specs.Stored.{stored, IsStored}
+use Rattle.object_tables.proofs.ZeroLemmas.{zeros, zeros-set, zeros-add}
 
 -- two maps that agree at each element
 map-same_each : {X : Type 0} (f g : ℕ → X) (xs : List ℕ) → ((m : ℕ) → m < length xs → f (get_or xs m 0) ≡ g (get_or xs m 0)) → map f xs ≡ map g xs
@@ -24,29 +24,6 @@ map-one f g [] n y l e h = absurd (omega arith)
 map-one f g (x ∷ xs) zero y l e h = ap (λ z. z ∷ map g xs) e ∙ ap (λ zs. y ∷ zs) (map-same_each g f xs (λ m lm. h (suc m) (omega arith) (λ z. absurd (omega arith))))
 map-one f g (x ∷ xs) (suc n) y l e h = ap (λ z. z ∷ map g xs) (h 0 (omega arith) (λ z. absurd (omega arith)))
     ∙ ap (λ zs. f x ∷ zs) (map-one f g xs n y (omega arith) e (λ m lm ne. h (suc m) (omega arith) (λ z. ne (omega arith))))
-
-abbrev zeros : List ℕ → ℕ
-zeros ix = count_by (λ i. i == 0) ix
-
-abbrev weight : ℕ → ℕ
-weight i = cond (i == 0) 1 0
-
-weight_zero : (i : ℕ) → i ≡ 0 → weight i ≡ 1
-weight_zero i e = ap (λ b. cond b 1 0) (eq-eqb i 0 e)
-
-weight_some : (i : ℕ) → i ≢ 0 → weight i ≡ 0
-weight_some i ne = ap (λ b. cond b 1 0) (ne_eqb i 0 ne)
-
-zeros-set : (ix : List ℕ) (n y : ℕ) → n < length ix → get_or ix n 0 ≡ 0 → y ≢ 0 → zeros (set ix n y) + 1 ≡ zeros ix
-zeros-set ix n y l e ne =
-    let p : sum_by weight (set ix n y) + weight (get_or ix n 0) ≡ sum_by weight ix + weight y = sum_by-set weight ix n y 0 l in
-    let q : weight (get_or ix n 0) ≡ 1 = weight_zero (get_or ix n 0) e in
-    let r : weight y ≡ 0 = weight_some y ne in
-    omega arith
-
-zeros-add : (ix : List ℕ) (n : ℕ) → zeros (ix ++ replicate n 0) ≡ zeros ix + n
-zeros-add ix n =
-    sum_by-append weight ix (replicate n 0) ∙ ap (λ x. zeros ix + x) (sum_by-replicate weight n 0 ∙ (omega arith))
 
 -- a place that has no number yet leaves room for its values
 pub room_for : (ix : List ℕ) (lists : List (List Value)) (capacity n : ℕ) → IsStored ix lists capacity → n < length ix → get_or ix n 0 ≡ 0 → length lists < capacity

@@ -1,6 +1,6 @@
 -- How rows are kept in flat tables: an object's places stand one after another. A place that has been joined to another is an end of
 -- the arena of links, and the table of ends has its number; the other places have no end, and the number 0, at which nothing is joined.
-use Rattle.std.specs.Prelude.{◌≡◌, ◌≢◌, ℕ, ◌+◌, ◌<◌, ◌≤◌, ◌^◌, List, [], ◌∷◌, map, length, slice_index_or, None}
+use Rattle.std.specs.Prelude.{◌≡◌, ◌≢◌, ℕ, ◌+◌, ◌<◌, ◌≤◌, ◌^◌, ◌==◌, count_by, List, [], ◌∷◌, map, length, slice_index_or, None}
 use Prim.Native.Nat.{zero, suc}
 use Rattle.object_tables.specs.declared.value.Value.{Value}
 use Rattle.object_tables.specs.declared.tables.Entry.{Entry}
@@ -58,10 +58,11 @@ end_at entries index o k = slice_index_or index (number_at entries o k) 0
 -- each object's places have numbers of their own, each end knows whose place it is, and the arena has an end for each
 pub record IsFlat (entries : List Entry) (index : List ℕ) (homes : List Home) (links : List (List ℕ)) : Type 0 where
   pub ends : length links ≡ length homes
-  pub small : length index < 2 ^ 32
+  pub small : length index + 1 < 2 ^ 32
   pub placed : (o : ℕ) → o < length entries → (entry_at entries o).first + (entry_at entries o).count ≤ length index
   pub sorted : (o i : ℕ) → o < i → i < length entries → (entry_at entries o).first + (entry_at entries o).count ≤ (entry_at entries i).first
   pub listed : (n : ℕ) → n < length index → slice_index_or index n 0 < length homes
+  pub few : count_by (λ i. i == 0) index + length homes ≤ length index + 1
   pub blank : slice_index_or links 0 [] ≡ []
   pub known : (o k : ℕ) → o < length entries → k < (entry_at entries o).count → end_at entries index o k ≢ 0 → address homes (end_at entries index o k) ≡ (o, k)
   pub owned : (end : ℕ) → end < length homes → end ≢ 0 → (home_at homes end).object < length entries

@@ -1,4 +1,4 @@
-ghost use Rattle.std.specs.Prelude.{◌≡◌, ◌≢◌, ℕ, ◌<◌, [], ◌∷◌, ◌++◌, length, IfOk, OnOk, OnErr};
+ghost use Rattle.std.specs.Prelude.{◌≡◌, ◌≢◌, ℕ, ◌+◌, ◌<◌, ◌^◌, [], ◌∷◌, ◌++◌, length, IfOk, OnOk, OnErr};
 ghost use Rattle.link_arena.specs.Links.{IsSimple};
 ghost use Rattle.object_tables.specs.Flat.{number_at, end_at, IsSpot, IsFlat, IsGrown};
 
@@ -7,9 +7,10 @@ use crate::tables::{Entry, Home, number_of};
 use link_arena::Arena;
 use std::alloc::AllocError;
 
-/// Adds an end that is joined to nothing, and gives its number. That the numbers have run out counts as want of memory.
+/// Adds an end that is joined to nothing, and gives its number.
 fn add_end(homes: &mut Vec<Home>, arena: &mut Arena, home: Home) -> Result<u32, AllocError>
-    requires { length arena.old ≡ length homes.old.items }
+    requires same { length arena.old ≡ length homes.old.items }
+    requires room { length arena.old + 1 < 2 ^ 32 }
     ensures simple { IsSimple arena.old }
     ensures number { IfOk result (λ e. e ≡ length homes.old.items) }
     ensures homes { OnOk result (homes.new.items ≡ homes.old.items ++ home ∷ []) }
@@ -18,9 +19,6 @@ fn add_end(homes: &mut Vec<Home>, arena: &mut Arena, home: Home) -> Result<u32, 
     ensures arena_stays { OnErr result (arena.new ≡ arena.old) }
 {
     let count = arena.end_count();
-    if count == u32::MAX {
-        return Err(AllocError);
-    }
     homes.reserve(1)?;
     arena.add_ends(1)?;
     homes.push_reserved(home);
