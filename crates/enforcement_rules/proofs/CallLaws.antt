@@ -25,35 +25,17 @@ use Rattle.ocl_environments.proofs.TypeLaws.{same_is_one}
 use Rattle.enforcement_rules.specs.declared.clause.Clause.{Clause}
 use Rattle.enforcement_rules.specs.declared.clause.Clause.TheVariants as clauses
 use Rattle.enforcement_rules.specs.Calls.{IsTargetArgument, IsVariable, IsTaken, HasUnmatchedCall, HasTypes, IsPassedInWhen, IsPassedInWhere, HasWrongArgument}
-use Rattle.enforcement_rules.specs.CallTests.{Pair, argument_pairs, pairs_of, is_top_called, is_right_call, taken_by_pair, taken_by_call, taken_by_conjunct, taken_by_clause, is_untaken, has_untaken, has_unmatched, type_of_variable, type_at, type_of_target, target_type, fits_in, is_passed_as, is_passed, is_right_pair, are_right_pairs, passes_conjunct}
+use Rattle.enforcement_rules.specs.CallTests.{Pair, root_pairs, is_top_called, is_right_call, taken_by_pair, taken_by_called, taken_by_call, taken_by_conjunct, taken_by_clause, is_untaken, has_untaken, has_unmatched, type_of_variable, type_at, type_of_target, target_type, fits_in, is_passed_as, is_passed, is_right_pair, are_right_pairs, passes_conjunct}
 use Rattle.enforcement_rules.specs.ExpressionTests.{variable_alone}
 use Rattle.enforcement_rules.specs.NumberSets.{is_among}
 use Rattle.enforcement_rules.specs.TargetParts.{IsTargetVariable}
-use Rattle.enforcement_rules.specs.TargetTests.{is_of_target, is_target_variable}
-use Rattle.enforcement_rules.proofs.ExpressionLaws.{target_model, model_target, target_there, there_target, alone_is, is_alone}
+use Rattle.enforcement_rules.specs.TargetTests.{is_target_variable}
+use Rattle.enforcement_rules.proofs.ExpressionLaws.{target_there, there_target, alone_is, is_alone}
 use Rattle.enforcement_rules.proofs.FitLaws.{fits_told, told_fits}
+use Rattle.enforcement_rules.proofs.GivenLaws.{given_last, last_given}
 use Rattle.enforcement_rules.proofs.KnownLaws.{listed_universal, universal_listed}
 use Rattle.enforcement_rules.proofs.ListLaws.{first_in, later_in, nothing_in, in_either, only_in, or_cases, or_first, or_second, and_first, and_second, and_both, and_cases, not_true, not_false, false_unless, any_there, any_here, all_each, all_from, all_fails}
 use Rattle.enforcement_rules.proofs.UnmadeLaws.{among_told, told_among}
-
--- ---- arguments by their places
-
-pair_at : (doms : List Dom) (args : List Typed) (p : Pair) → Contains (argument_pairs doms args) p → (place : ℕ) × (slice_get doms place ≡ Some p.0) × (slice_get args place ≡ Some p.1)
-pair_at [] args p among = absurd (nothing_in p among)
-pair_at (d ∷ ds) [] p among = absurd (nothing_in p among)
-pair_at (d ∷ ds) (e ∷ es) p among = ⊎_elim
-    (λ (same : ◌≡◌ {A = Pair} (d, e) p). (0, ap (λ (x : Pair). Some x.0) same, ap (λ (x : Pair). Some x.1) same))
-    (λ (there : Contains (argument_pairs ds es) p). let r = pair_at ds es p there in (suc r.0, r.1, r.2))
-    (in_either {X = Pair} (d, e) p (argument_pairs ds es) among)
-
-at_pair : (doms : List Dom) (args : List Typed) (place : ℕ) (d : Dom) (e : Typed) → slice_get doms place ≡ Some d → slice_get args place ≡ Some e → Contains (argument_pairs doms args) (d, e)
-at_pair [] args place d e dom arg = absurd (cc)
-at_pair (x ∷ ds) [] place d e dom arg = absurd (cc)
-at_pair (x ∷ ds) (y ∷ es) zero d e dom arg =
-    let one : x ≡ d = cc in
-    let two : y ≡ e = cc in
-    first_in {X = Pair} (x, y) (d, e) (argument_pairs ds es) (ap (λ (z : Dom). let p : Pair = (z, y) in p) one ∙ ap (λ (z : Typed). let p : Pair = (d, z) in p) two)
-at_pair (x ∷ ds) (y ∷ es) (suc place) d e dom arg = later_in {X = Pair} (x, y) (d, e) (argument_pairs ds es) (at_pair ds es place d e dom arg)
 
 -- ---- what stands alone as a target argument
 
@@ -65,35 +47,48 @@ option_listed : (o : Option ℕ) (v : ℕ) → o ≡ Some v → Contains (option
 option_listed o v is = subst (λ (x : Option ℕ). Contains (option_to_list x) v) (sym is) (first_in v v [] refl)
 
 module _ (program : Program) where
-  pair_takes : (p : Pair) (v : ℕ) → Contains (taken_by_pair program p) v → (is_of_target program p.0.model ≡ true) × (variable_alone (out-Node p.1.node) ≡ Some v)
-  pair_takes p v among = by (is_of_target program p.0.model) refl among
+  pair_takes : (called : Rel) (p : Pair) (v : ℕ) → Contains (taken_by_pair program called p) v → (is_target_variable program called p.0.root ≡ true) × (variable_alone (out-Node p.1.node) ≡ Some v)
+  pair_takes called p v among = by (is_target_variable program called p.0.root) refl among
     where
-      by : (b : Bool) → is_of_target program p.0.model ≡ b → Contains (if b then option_to_list (variable_alone (out-Node p.1.node)) else []) v
-          → (is_of_target program p.0.model ≡ true) × (variable_alone (out-Node p.1.node) ≡ Some v)
+      by : (b : Bool) → is_target_variable program called p.0.root ≡ b → Contains (if b then option_to_list (variable_alone (out-Node p.1.node)) else []) v
+          → (is_target_variable program called p.0.root ≡ true) × (variable_alone (out-Node p.1.node) ≡ Some v)
       by true is c = (is, listed_option (variable_alone (out-Node p.1.node)) v c)
       by false is c = absurd (nothing_in v c)
 
-  takes_pair : (p : Pair) (v : ℕ) → is_of_target program p.0.model ≡ true → variable_alone (out-Node p.1.node) ≡ Some v → Contains (taken_by_pair program p) v
-  takes_pair p v is alone =
+  takes_pair : (called : Rel) (p : Pair) (v : ℕ) → is_target_variable program called p.0.root ≡ true → variable_alone (out-Node p.1.node) ≡ Some v → Contains (taken_by_pair program called p) v
+  takes_pair called p v is alone =
       subst (λ (b : Bool). Contains (if b then option_to_list (variable_alone (out-Node p.1.node)) else []) v) (sym is) (option_listed (variable_alone (out-Node p.1.node)) v alone)
 
   -- an argument for the target, of a call of this relation
   argument_there : (clause : List Conj) (number : ℕ) (args : List Typed) (called : Rel) (p : Pair) → Contains clause (conjuncts.Call number args) → slice_get program.rels number ≡ Some called
-      → Contains (argument_pairs called.domains args) p → is_of_target program p.0.model ≡ true → IsTargetArgument program clause called p.0 p.1
+      → Contains (root_pairs called args) p → is_target_variable program called p.0.root ≡ true → IsTargetArgument program clause called p.0 p.1
   argument_there clause number args called p call found among is =
-      let at = pair_at called.domains args p among in
-      record { number = number; args = args; call = call; found = found; place = at.0; of = at.1; target = target_model program p.0.model is; argument = at.2 }
+      let at = given_last called.domains args p among in
+      record {
+        number = number;
+        args = args;
+        call = call;
+        found = found;
+        place = at.place;
+        of = at.of;
+        target = target_there program called p.0.root is;
+        last = at.last;
+        argument = at.argument;
+      }
 
-  taken_there : (clause : List Conj) (v : ℕ) → Contains (taken_by_clause program clause) v → IsTaken program clause v
+  argument_given : (clause : List Conj) (called : Rel) (dom : Dom) (e : Typed) (a : IsTargetArgument program clause called dom e) → Contains (root_pairs called a.args) (dom, e)
+  argument_given clause called dom e a = last_given called.domains a.args (dom, e) (record { place = a.place; of = a.of; argument = a.argument; last = a.last })
+
+  pub taken_there : (clause : List Conj) (v : ℕ) → Contains (taken_by_clause program clause) v → IsTaken program clause v
   taken_there clause v among =
       let c = from_flat_map (taken_by_conjunct program) clause v among in
       by_conjunct c.0 c.1 c.2
     where
       by_pair : (number : ℕ) (args : List Typed) (called : Rel) → Contains clause (conjuncts.Call number args) → slice_get program.rels number ≡ Some called
-          → Contains (flat_map (taken_by_pair program) (argument_pairs called.domains args)) v → IsTaken program clause v
+          → Contains (flat_map (taken_by_pair program called) (root_pairs called args)) v → IsTaken program clause v
       by_pair number args called call found h =
-          let p = from_flat_map (taken_by_pair program) (argument_pairs called.domains args) v h in
-          let t = pair_takes p.0 v p.2 in
+          let p = from_flat_map (taken_by_pair program called) (root_pairs called args) v h in
+          let t = pair_takes called p.0 v p.2 in
           record {
             called = called;
             dom = p.0.0;
@@ -103,7 +98,7 @@ module _ (program : Program) where
           }
 
       by_called : (o : Option Rel) (number : ℕ) (args : List Typed) → slice_get program.rels number ≡ o → Contains clause (conjuncts.Call number args)
-          → Contains (flat_map (taken_by_pair program) (pairs_of o args)) v → IsTaken program clause v
+          → Contains (taken_by_called program o args) v → IsTaken program clause v
       by_called None number args found call h = absurd (nothing_in v h)
       by_called (Some called) number args found call h = by_pair number args called call found h
 
@@ -112,14 +107,14 @@ module _ (program : Program) where
       by_conjunct (conjuncts.Equation w e) within h = absurd (nothing_in v h)
       by_conjunct (conjuncts.Call number args) within h = by_called (slice_get program.rels number) number args refl within h
 
-  there_taken : (clause : List Conj) (v : ℕ) → IsTaken program clause v → Contains (taken_by_clause program clause) v
+  pub there_taken : (clause : List Conj) (v : ℕ) → IsTaken program clause v → Contains (taken_by_clause program clause) v
   there_taken clause v t =
       let a = t.argument in
       let p : Pair = (t.dom, t.e) in
       to_flat_map (taken_by_conjunct program) clause (conjuncts.Call a.number a.args) v a.call
-      (subst (λ (o : Option Rel). Contains (flat_map (taken_by_pair program) (pairs_of o a.args)) v) (sym a.found)
-      (to_flat_map (taken_by_pair program) (argument_pairs t.called.domains a.args) p v (at_pair t.called.domains a.args a.place t.dom t.e a.of a.argument)
-      (takes_pair p v (model_target program t.dom.model a.target) (is_alone t.e t.alone.0 v t.alone.1))))
+      (subst (λ (o : Option Rel). Contains (taken_by_called program o a.args) v) (sym a.found)
+      (to_flat_map (taken_by_pair program t.called) (root_pairs t.called a.args) p v (argument_given clause t.called t.dom t.e a)
+      (takes_pair t.called p v (there_target program t.called t.dom.root a.target) (is_alone t.e t.alone.0 v t.alone.1))))
 
   -- ---- E9
 
@@ -242,11 +237,11 @@ module _ (metas : List MetaDesc) (well : AreWell metas) (program : Program) (rel
   passed_where called p i = there_passed clauses.Where called p i.own i.asked i.types (told_fits metas well i.own i.asked i.conforms)
 
   -- an argument for the target in a clause, that isn't handed on as it has to be
-  wrong_pair : (clause : Clause) (called : Rel) (p : Pair) → is_right_pair metas program rel clause called p ≡ false → (is_of_target program p.0.model ≡ true) × (is_passed metas program rel clause called p ≡ false)
-  wrong_pair clause called p h = by (is_of_target program p.0.model) refl h
+  wrong_pair : (clause : Clause) (called : Rel) (p : Pair) → is_right_pair metas program rel clause called p ≡ false → (is_target_variable program called p.0.root ≡ true) × (is_passed metas program rel clause called p ≡ false)
+  wrong_pair clause called p h = by (is_target_variable program called p.0.root) refl h
     where
-      by : (b : Bool) → is_of_target program p.0.model ≡ b → (not b || is_passed metas program rel clause called p) ≡ false
-          → (is_of_target program p.0.model ≡ true) × (is_passed metas program rel clause called p ≡ false)
+      by : (b : Bool) → is_target_variable program called p.0.root ≡ b → (not b || is_passed metas program rel clause called p) ≡ false
+          → (is_target_variable program called p.0.root ≡ true) × (is_passed metas program rel clause called p ≡ false)
       by true is g = (is, g)
       by false is g = absurd (true≢false g)
 
@@ -264,7 +259,7 @@ module _ (metas : List MetaDesc) (well : AreWell metas) (program : Program) (rel
       by_called : (n : ℕ) (args : List Typed) (o : Option Rel) → slice_get program.rels n ≡ o → Contains of (conjuncts.Call n args) → are_right_pairs metas program rel clause o args ≡ false → Wrong clause of
       by_called n args None found among g = absurd (true≢false g)
       by_called n args (Some called) found among g =
-          let p = all_fails (is_right_pair metas program rel clause called) (argument_pairs called.domains args) g in
+          let p = all_fails (is_right_pair metas program rel clause called) (root_pairs called args) g in
           let w = wrong_pair clause called p.0 p.2 in
           record { called = called; p = p.0; argument = argument_there program of n args called p.0 among found p.1 w.0; other = w.1 }
 
@@ -279,11 +274,11 @@ module _ (metas : List MetaDesc) (well : AreWell metas) (program : Program) (rel
       false_unless (list_all (passes_conjunct metas program rel clause) of)
       (λ h.
       let p : Pair = (dom, e) in
-      let pairs : list_all (is_right_pair metas program rel clause called) (argument_pairs called.domains a.args) ≡ true =
+      let pairs : list_all (is_right_pair metas program rel clause called) (root_pairs called a.args) ≡ true =
       sym (ap (λ (o : Option Rel). are_right_pairs metas program rel clause o a.args) a.found) ∙ all_each (passes_conjunct metas program rel clause) of h (conjuncts.Call a.number a.args) a.call in
-      let right : is_right_pair metas program rel clause called p ≡ true = all_each (is_right_pair metas program rel clause called) (argument_pairs called.domains a.args) pairs p
-      (at_pair called.domains a.args a.place dom e a.of a.argument) in
-      other (sym (ap (λ (b : Bool). not b || is_passed metas program rel clause called p) (model_target program dom.model a.target)) ∙ right))
+      let right : is_right_pair metas program rel clause called p ≡ true = all_each (is_right_pair metas program rel clause called) (root_pairs called a.args) pairs p
+      (argument_given program of called dom e a) in
+      other (sym (ap (λ (b : Bool). not b || is_passed metas program rel clause called p) (there_target program called dom.root a.target)) ∙ right))
 
   abbrev in_when : Bool
   in_when = list_all (passes_conjunct metas program rel clauses.When) rel.whens

@@ -3,6 +3,7 @@ pub mod DerivationLaws
 pub mod DerivationSteps
 pub mod ExpressionLaws
 pub mod FitLaws
+pub mod GivenLaws
 pub mod KnownLaws
 pub mod ListLaws
 pub mod MarkLaws

@@ -1,5 +1,5 @@
 -- What calls between relations hand on of the target, as tests.
-use Rattle.std.specs.Prelude.{ℕ, Bool, true, false, ◌&&◌, ◌||◌, not, List, [], ◌∷◌, Option, None, Some, slice_get, if◌then◌else◌}
+use Rattle.std.specs.Prelude.{ℕ, nat_eq, Bool, true, false, ◌&&◌, ◌||◌, not, List, [], ◌∷◌, ◌++◌, Option, None, Some, slice_get, if◌then◌else◌}
 use Rattle.std.specs.Borrow.{Bor}
 use Rattle.std.specs.List.{flat_map, list_any, list_all}
 use Rattle.std.specs.Option.{option_map, option_to_list}
@@ -18,7 +18,7 @@ use Rattle.enforcement_rules.specs.declared.clause.Clause.{Clause}
 use Rattle.enforcement_rules.specs.declared.clause.Clause.TheVariants as clauses
 use Rattle.enforcement_rules.specs.ExpressionTests.{variable_alone}
 use Rattle.enforcement_rules.specs.NumberSets.{is_among}
-use Rattle.enforcement_rules.specs.TargetTests.{is_of_target, is_target_variable}
+use Rattle.enforcement_rules.specs.TargetTests.{is_target_variable}
 
 -- an argument, with the domain of the called relation whose root it gives
 abbrev pub Pair : Type 0
@@ -32,9 +32,17 @@ argument_pairs [] args = []
 argument_pairs (d ∷ ds) [] = []
 argument_pairs (d ∷ ds) (e ∷ es) = (d, e) ∷ argument_pairs ds es
 
-abbrev pub pairs_of : Option Rel → List Typed → List Pair
-pairs_of None args = []
-pairs_of (Some called) args = argument_pairs called.domains args
+-- the root of the domain is this one
+abbrev pub is_for_root : ℕ → Pair → Bool
+is_for_root root p = nat_eq root p.0.root
+
+-- the arguments that roots get, the last one first: of two for one root it is the later one
+abbrev pub given_pairs : List Pair → List Pair
+given_pairs [] = []
+given_pairs (p ∷ ps) = if list_any (is_for_root p.0.root) ps then given_pairs ps else given_pairs ps ++ (p ∷ [])
+
+abbrev pub root_pairs : Rel → List Typed → List Pair
+root_pairs called args = given_pairs (argument_pairs called.domains args)
 
 -- ---- E9
 
@@ -47,11 +55,15 @@ is_right_call program (conjuncts.Cond e) = true
 is_right_call program (conjuncts.Equation v e) = true
 is_right_call program (conjuncts.Call number args) = is_top_called (slice_get program.rels number)
 
-abbrev pub taken_by_pair : Program → Pair → List ℕ
-taken_by_pair program p = if is_of_target program p.0.model then option_to_list (variable_alone (out-Node p.1.node)) else []
+abbrev pub taken_by_pair : Program → Rel → Pair → List ℕ
+taken_by_pair program called p = if is_target_variable program called p.0.root then option_to_list (variable_alone (out-Node p.1.node)) else []
+
+abbrev pub taken_by_called : Program → Option Rel → List Typed → List ℕ
+taken_by_called program None args = []
+taken_by_called program (Some called) args = flat_map (taken_by_pair program called) (root_pairs called args)
 
 abbrev pub taken_by_call : Program → ℕ → List Typed → List ℕ
-taken_by_call program number args = flat_map (taken_by_pair program) (pairs_of (slice_get program.rels number) args)
+taken_by_call program number args = taken_by_called program (slice_get program.rels number) args
 
 abbrev pub taken_by_conjunct : Program → Conj → List ℕ
 taken_by_conjunct program (conjuncts.Cond e) = []
@@ -100,11 +112,11 @@ module _ (metas : List MetaDesc) (program : Program) (rel : Rel) (clause : Claus
   is_passed called p = is_passed_as metas clause (target_type program rel p.1) (type_at called p.0.root)
 
   abbrev pub is_right_pair : Rel → Pair → Bool
-  is_right_pair called p = not (is_of_target program p.0.model) || is_passed called p
+  is_right_pair called p = not (is_target_variable program called p.0.root) || is_passed called p
 
   abbrev pub are_right_pairs : Option Rel → List Typed → Bool
   are_right_pairs None args = true
-  are_right_pairs (Some called) args = list_all (is_right_pair called) (argument_pairs called.domains args)
+  are_right_pairs (Some called) args = list_all (is_right_pair called) (root_pairs called args)
 
   abbrev pub passes_conjunct : Conj → Bool
   passes_conjunct (conjuncts.Cond e) = true

@@ -1,5 +1,5 @@
 -- What calls between relations hand on of the target (QVT 1.3, sections 7.10.2 and 7.11.1.4).
-use Rattle.std.specs.Prelude.{◌≡◌, ℕ, List, Some, true, slice_get, Contains}
+use Rattle.std.specs.Prelude.{◌≡◌, ◌≢◌, ◌<◌, ℕ, List, Some, true, slice_get, Contains}
 use Rattle.mof_metamodel.specs.declared.desc.MetaDesc.{MetaDesc}
 use Rattle.qv_syntax.specs.declared.ty.Ty.{Ty}
 use Rattle.qv_syntax.specs.declared.typed.Typed.{Typed}
@@ -14,7 +14,8 @@ use Rattle.qv_syntax.specs.Relations.{IsUniversal, CallsIn}
 use Rattle.ocl_environments.specs.Conformance.{TypeConforms}
 use Rattle.enforcement_rules.specs.TargetParts.{IsTargetVariable}
 
--- an argument of a call in this clause, in the place of the called relation's target domain
+-- An argument of a call in this clause that gives a root of the called relation its object of the target: that of its target domain, or of a
+-- primitive domain. Where two domains have one root, the last argument is what it gets.
 pub record IsTargetArgument (program : Program) (clause : List Conj) (called : Rel) (dom : Dom) (e : Typed) : Type 0 where
   pub number : ℕ
   pub args : List Typed
@@ -22,7 +23,8 @@ pub record IsTargetArgument (program : Program) (clause : List Conj) (called : R
   pub found : slice_get program.rels number ≡ Some called
   pub place : ℕ
   pub of : slice_get called.domains place ≡ Some dom
-  pub target : dom.model ≡ Some program.target
+  pub target : IsTargetVariable program called dom.root
+  pub last : (later : ℕ) (other : Dom) (more : Typed) → place < later → slice_get called.domains later ≡ Some other → slice_get args later ≡ Some more → other.root ≢ dom.root
   pub argument : slice_get args place ≡ Some e
 
 -- the expression is the variable alone

@@ -1,17 +1,17 @@
 //! E9 and E10: what calls between relations hand on of the target (QVT 1.3, sections 7.10.2 and 7.11.1.4).
-ghost use Rattle.std.specs.Prelude.{◌≡◌, ◌++◌, ◌&&◌, map, min, slice_get, IfOk, OnOk, IsTrue, ◌↔◌};
+ghost use Rattle.std.specs.Prelude.{◌≡◌, ◌++◌, ◌∷◌, [], ◌&&◌, ◌||◌, ℕ, nat_eq, map, min, slice_get, IfOk, OnOk, IsTrue, ◌↔◌, if◌then◌else◌};
 ghost use Rattle.std.specs.List.{list_any, list_all, flat_map};
 ghost use Rattle.std.specs.Option.{option_map};
 ghost use Rattle.enforcement_rules.specs.declared.clause.Clause.TheVariants as clauses;
 ghost use Rattle.enforcement_rules.specs.Calls.{HasUnmatchedCall, HasWrongArgument};
 ghost use Rattle.enforcement_rules.specs.NumberSets.{has};
 ghost use Rattle.enforcement_rules.specs.Tasks.{IsRelationOf};
-ghost use Rattle.enforcement_rules.specs.CallTests.{shown_pair, argument_pairs, is_right_call, taken_by_pair, taken_by_call, taken_by_conjunct, taken_by_clause, is_untaken, has_untaken, has_unmatched, type_at, target_type, fits_in, is_passed, is_right_pair, are_right_pairs, passes_conjunct};
+ghost use Rattle.enforcement_rules.specs.CallTests.{shown_pair, argument_pairs, given_pairs, root_pairs, is_right_call, taken_by_pair, taken_by_call, taken_by_conjunct, taken_by_clause, is_untaken, has_untaken, has_unmatched, type_at, target_type, fits_in, is_passed, is_right_pair, are_right_pairs, passes_conjunct};
 
 use crate::clause::Clause;
 use crate::expressions::variable_alone;
 use crate::number_set::NumberSet;
-use crate::target::{is_of_target, is_target_variable};
+use crate::target::is_target_variable;
 use crate::task::Task;
 use mof_metamodel::{NoMemory, Seq};
 use ocl_environments::{Metas, fits, same_type};
@@ -39,6 +39,50 @@ fn argument_pairs<'a>(
         pairs.push((&doms[i], &args[i]))?;
     }
     Ok(pairs)
+}
+
+/// Adds an argument, unless its root has got one.
+fn put_given<'a>(
+    met: &mut NumberSet,
+    dom: &'a Dom,
+    e: &'a Typed,
+    out: &mut Seq<(&'a Dom, &'a Typed)>,
+) -> Result<(), NoMemory>
+    ensures pairs { OnOk result (map shown_pair out.new ≡ (if has met.old dom.now.root then map shown_pair out.old else map shown_pair out.old ++ (dom.now, e.now) ∷ [])) }
+    ensures met { OnOk result ((q : ℕ) → has met.new q ≡ (nat_eq q dom.now.root || has met.old q)) }
+{
+    if !met.contains(dom.root) {
+        out.push((dom, e))?;
+    }
+    met.put(dom.root)
+}
+
+/// The arguments that roots get, the last one first: of two for one root it is the later one.
+fn given_pairs<'a>(
+    alloc: Global,
+    pairs: &[(&'a Dom, &'a Typed)],
+) -> Result<Seq<(&'a Dom, &'a Typed)>, NoMemory>
+    ensures { IfOk result (λ given. map shown_pair given ≡ given_pairs (map shown_pair pairs.now)) }
+{
+    let mut met = NumberSet::new(alloc);
+    let mut given = Seq::new(alloc);
+    for k in 0..pairs.len() {
+        let pair = pairs[pairs.len() - 1 - k];
+        put_given(&mut met, pair.0, pair.1, &mut given)?;
+    }
+    Ok(given)
+}
+
+/// The arguments of a call that roots of the called relation get.
+fn root_pairs<'a>(
+    alloc: Global,
+    called: &'a Rel,
+    args: &'a [Typed],
+) -> Result<Seq<(&'a Dom, &'a Typed)>, NoMemory>
+    ensures { IfOk result (λ pairs. map shown_pair pairs ≡ root_pairs called.now args.now) }
+{
+    let pairs = argument_pairs(alloc, called.domains.as_slice(), args)?;
+    given_pairs(alloc, pairs.as_slice())
 }
 
 // ---- E9
@@ -69,10 +113,16 @@ fn are_right_calls(program: &Program, conjuncts: &[Conj]) -> bool
 }
 
 /// The variable that stands alone as an argument for the target.
-fn put_pair(program: &Program, dom: &Dom, e: &Typed, out: &mut Seq<u32>) -> Result<(), NoMemory>
-    ensures { OnOk result (out.new ≡ out.old ++ taken_by_pair program.now (dom.now, e.now)) }
+fn put_pair(
+    program: &Program,
+    called: &Rel,
+    dom: &Dom,
+    e: &Typed,
+    out: &mut Seq<u32>,
+) -> Result<(), NoMemory>
+    ensures { OnOk result (out.new ≡ out.old ++ taken_by_pair program.now called.now (dom.now, e.now)) }
 {
-    if !is_of_target(program, dom.model) {
+    if !is_target_variable(program, called, dom.root) {
         return Ok(());
     }
     match variable_alone(e) {
@@ -84,13 +134,14 @@ fn put_pair(program: &Program, dom: &Dom, e: &Typed, out: &mut Seq<u32>) -> Resu
 /// The same of all arguments.
 fn put_pairs(
     program: &Program,
+    called: &Rel,
     pairs: &[(&Dom, &Typed)],
     out: &mut Seq<u32>,
 ) -> Result<(), NoMemory>
-    ensures { OnOk result (out.new ≡ out.old ++ flat_map (taken_by_pair program.now) (map shown_pair pairs.now)) }
+    ensures { OnOk result (out.new ≡ out.old ++ flat_map (taken_by_pair program.now called.now) (map shown_pair pairs.now)) }
 {
     for pair in pairs {
-        put_pair(program, pair.0, pair.1, out)?;
+        put_pair(program, called, pair.0, pair.1, out)?;
     }
     Ok(())
 }
@@ -107,8 +158,8 @@ fn put_call(
 {
     match program.rels.as_slice().get(number as usize) {
         Some(called) => {
-            let pairs = argument_pairs(alloc, called.domains.as_slice(), args)?;
-            put_pairs(program, pairs.as_slice(), out)
+            let pairs = root_pairs(alloc, called, args)?;
+            put_pairs(program, called, pairs.as_slice(), out)
         }
         None => Ok(()),
     }
@@ -258,7 +309,7 @@ fn are_passed(task: &Task<'_>, clause: Clause, called: &Rel, pairs: &[(&Dom, &Ty
     ensures { result ≡ list_all (is_right_pair task.now.metas.now task.now.program.now task.now.rel.now clause called.now) (map shown_pair pairs.now) }
 {
     for pair in pairs {
-        if is_of_target(task.program, pair.0.model)
+        if is_target_variable(task.program, called, pair.0.root)
             && !is_passed(task, clause, called, pair.0, pair.1)
         {
             return false;
@@ -278,7 +329,7 @@ fn passes_call(
 {
     match task.program.rels.as_slice().get(number as usize) {
         Some(called) => {
-            let pairs = argument_pairs(task.alloc, called.domains.as_slice(), args)?;
+            let pairs = root_pairs(task.alloc, called, args)?;
             Ok(are_passed(task, clause, called, pairs.as_slice()))
         }
         None => Ok(true),
