@@ -7,6 +7,8 @@ PROGRAM is the built program. Each line tells the file, its size, the seconds an
 memory as a multiple of the file, and what was printed. Files are made anew in a temporary folder.
 """
 import os
+import subprocess
+import tempfile
 import time
 import xml.etree.ElementTree as tree
 
@@ -78,12 +80,14 @@ def to_nothing(count):
     return model(f'  <m:N xmi:id="n{k}" parent="x{k}"/>' for k in range(count))
 
 
-def chosen_names(count):
-    """Names that the fixed seed of a well-known hash takes to few values."""
-    letters = 'abcdefghij'
-    def word(k):
-        return ''.join(letters[(k // 10 ** i) % 10] for i in range(8))
-    return model(f'  <m:N xmi:id="upstYFfNJxlFRpNnr99d0pXD{word(k)}"/>' for k in range(count))
+def colliding_names(count):
+    """Names of `colliding_names.c` whose hashes agree in 13 bits where no key stands before them; `cc` has to be there."""
+    source = os.path.join(os.path.dirname(os.path.abspath(__file__)), 'colliding_names.c')
+    with tempfile.TemporaryDirectory() as folder:
+        maker = os.path.join(folder, 'colliding_names')
+        subprocess.run(['cc', '-O2', '-o', maker, source], check=True)
+        made = subprocess.run([maker, str(count), '13'], check=True, stdout=subprocess.PIPE, text=True).stdout.split()
+    return model(f'  <m:N xmi:id="{name}"/>' for name in made)
 
 
 CASES = [
@@ -95,7 +99,7 @@ CASES = [
     ('200,000 in one chain', lambda: chain(200_000)),
     ('1,200 with each of 1,200', lambda: each_with_each(1_200)),
     ('100,000 references to nothing', lambda: to_nothing(100_000)),
-    ('200,000 chosen names', lambda: chosen_names(200_000)),
+    ('199,000 names that collide', lambda: colliding_names(199_000)),
 ]
 
 
