@@ -199,6 +199,6 @@ pub(super) fn put_values(
     let _ = model.end();
     let mut values = values.into_vec();
     sort(&mut values)?;
-    let after = key_of(values.as_slice());
-    set_all(alloc, after, model, values.as_slice())
+    let all = values.as_slice();
+    set_all(alloc, key_of(all), model, all)
 }
