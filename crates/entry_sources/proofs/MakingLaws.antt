@@ -69,7 +69,7 @@ module _ (program : Program) (ms ns : List ModelData) (agree : AgreeBut program.
       let (u, c) = equation_in rel.wheres v e is in
       expression_same e x (IsExpressionOf.conjunct (conjuncts.Equation u e) (inr c) refl) fine
 
-  scope_same : (before : Scope) → Fine before → (n : ℕ) → (scope_within program ms rel before n ≡ scope_within program ns rel before n) × Fine (scope_within program ms rel before n)
+  pub scope_same : (before : Scope) → Fine before → (n : ℕ) → (scope_within program ms rel before n ≡ scope_within program ns rel before n) × Fine (scope_within program ms rel before n)
   scope_same before fine zero = (refl, fine)
   scope_same before fine (suc n) =
       let less : (scope_within program ms rel before n ≡ scope_within program ns rel before n) × Fine (scope_within program ms rel before n) = scope_same before fine n in

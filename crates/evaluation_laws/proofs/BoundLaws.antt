@@ -113,7 +113,7 @@ module _ (s : Setting) (q : Queries) where
       ∙ ap (λ (m : Meaning). all_operated scope (m scope) (infix_of l ∷ [])) (variable_meaning own v)
       ∙ ap (λ (o : Operated). operated o.operator (variable scope v) (o.right scope)) same
 
-right_within : (ty own link : Ty) (v : ℕ) (e : Typed) → IsWithin (equation ty own link v e) e
+pub right_within : (ty own link : Ty) (v : ℕ) (e : Typed) → IsWithin (equation ty own link v e) e
 right_within ty own link v e =
     let first : Typed = record { ty = own; node = nodes.Variable v } in
     let l : TypedInfix = record { operator = operators.Equal; right = e; ty = link } in

@@ -1,5 +1,6 @@
 pub mod TermLaws
 pub mod TieLaws
+pub mod EntryOrderLaws
 pub mod ItemLaws
 pub mod RepairRows
 pub mod EntryRows

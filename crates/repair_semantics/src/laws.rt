@@ -1,9 +1,13 @@
-ghost use Rattle.std.specs.Prelude.{◌≡◌, ◌↔◌, true, [], ◌∷◌, codes, Some};
+ghost use Rattle.std.specs.Prelude.{◌≡◌, ◌↔◌, true, List, [], ◌∷◌, codes, Some};
+ghost use Rattle.object_tables.specs.Models.{ModelData};
+ghost use Rattle.qv_syntax.specs.declared.program.Program.{Program};
 ghost use Rattle.qvtr_semantics.specs.SmallModels.{rdb, package_to_schema, class_to_table};
 ghost use Rattle.repair_semantics.specs.declared.entry.Place.TheVariants as places;
+ghost use Rattle.repair_semantics.specs.declared.entry.Entry.{Entry};
 ghost use Rattle.repair_semantics.specs.declared.term.Term.{Term};
 ghost use Rattle.repair_semantics.specs.Terms.{same_term};
 ghost use Rattle.repair_semantics.specs.EntryValues.{known};
+ghost use Rattle.repair_semantics.specs.EntryOrder.{AreEntries};
 ghost use Rattle.repair_semantics.specs.Making.{made_values};
 ghost use Rattle.repair_semantics.specs.Unmet.{unmet_at};
 ghost use Rattle.repair_semantics.specs.Conflicts.{AreInConflict};
@@ -13,6 +17,11 @@ ghost use Rattle.repair_semantics.specs.SmallRepairs.{two_relations, with_remark
 /// Two terms tie in their order exactly where they are one.
 pub fn terms_tie_where_they_are_one()
     ensures { (t u : Term) → same_term t u ≡ true ↔ (t ≡ u) }
+{}
+
+/// The list of all entries is one: no other list in order has the same entries.
+pub fn entries_stand_in_one_order()
+    ensures { (program : Program) (models : List ModelData) (xs ys : List Entry) → AreEntries program models xs → AreEntries program models ys → xs ≡ ys }
 {}
 
 /// Small entries. A package makes a schema, and a persistent class a table. A condition that isn't true, and an item whose value is

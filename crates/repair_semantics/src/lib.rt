@@ -10,6 +10,9 @@ mod term;
 
 pub use demand::{Clash, Demand};
 pub use entry::{Entry, EntryName, Place};
-pub use laws::{small_entries_are_told, small_repairs_are_told, terms_tie_where_they_are_one};
+pub use laws::{
+    entries_stand_in_one_order, small_entries_are_told, small_repairs_are_told,
+    terms_tie_where_they_are_one,
+};
 pub use report::Report;
 pub use term::{Term, TermValue};

@@ -64,7 +64,7 @@ among [] i x h = absurd (cc)
 among (y ∷ ys) zero x h = let same : y ≡ x = cc in (0, omega arith, same)
 among (y ∷ ys) (suc i) x h = let (k, within, is) = among ys i x h in (suc k, omega (arith, within), is)
 
-found_at : {X : Type 0} (xs : List X) (x : X) → Contains xs x → (i : ℕ) × (slice_get xs i ≡ Some x)
+pub found_at : {X : Type 0} (xs : List X) (x : X) → Contains xs x → (i : ℕ) × (slice_get xs i ≡ Some x)
 found_at [] x (k, within, is) = absurd (omega (arith, within))
 found_at (y ∷ ys) x (zero, within, is) = (0, ap (λ z. Some z) is)
 found_at (y ∷ ys) x (suc k, within, is) = let more = found_at ys x (k, omega (arith, within), is) in (suc more.0, more.1)
@@ -81,7 +81,7 @@ asked_in (conjuncts.Call n args) e h = absurd h
 -- ---- models of variables
 
 -- a source variable is none for objects of the target
-source_variable : (program : Program) (rel : Rel) (v : ℕ) → Contains (source_variables program rel) v → is_target_variable program rel v ≡ false
+pub source_variable : (program : Program) (rel : Rel) (v : ℕ) → Contains (source_variables program rel) v → is_target_variable program rel v ≡ false
 source_variable program rel v c =
     not_true (is_target_variable program rel v)
     (All-contains (λ w. not (is_target_variable program rel w) ≡ true) (source_variables program rel) v (filter_passes (λ w. not (is_target_variable program rel w)) rel.universal) c)
@@ -126,7 +126,7 @@ module _ (program : Program) (ms ns : List ModelData) (agree : AgreeBut program.
       ∙ class_if var class.0 m o (is_model var.model m) refl outside
       ∙ sym (ap (λ t. is_object_for (setting program ns) var t m (Obj m o)) (types.rolls-Class k class))
 
-  value_same : (var : Option Var) (d : Option Datum) → is_of_target program var ≡ false → is_value_for (setting program ms) var d ≡ is_value_for (setting program ns) var d
+  pub value_same : (var : Option Var) (d : Option Datum) → is_of_target program var ≡ false → is_value_for (setting program ms) var d ≡ is_value_for (setting program ns) var d
   value_same None d outside = refl
   value_same (Some var) None outside = refl
   value_same (Some var) (Some (Val m v)) outside = refl
@@ -163,7 +163,7 @@ module _ (program : Program) (ms ns : List ModelData) (agree : AgreeBut program.
   target_of rel v var found outside = sym (ap (is_of_target program) found) ∙ outside
 
   -- a source variable has a value that is no object of the target
-  had : (rel : Rel) (b : Values) (v : ℕ) (d : Datum) → have_values program ms rel (source_variables program rel) b ≡ true → Contains (source_variables program rel) v → value_at b v ≡ Some d
+  pub had : (rel : Rel) (b : Values) (v : ℕ) (d : Datum) → have_values program ms rel (source_variables program rel) b ≡ true → Contains (source_variables program rel) v → value_at b v ≡ Some d
       → IsOfSources program.target d
   had rel b v d have c at =
       let x : Valued program ms rel b v = valued program ms rel (source_variables program rel) b v have c in
@@ -269,7 +269,7 @@ module _ (program : Program) (ms ns : List ModelData) (agree : AgreeBut program.
       none v d true target at = inr (sym (handed v target) ∙ at)
       none v d false outside at = by v d outside (source.no_others v d (both.same v outside ∙ at))
 
-  have_of : (rel : Rel) (b : Values) → IsTrue (meets_without_target program ms rel b) → have_values program ms rel (source_variables program rel) b ≡ true
+  pub have_of : (rel : Rel) (b : Values) → IsTrue (meets_without_target program ms rel b) → have_values program ms rel (source_variables program rel) b ≡ true
   have_of rel b h =
       let outer = and_parts (have_values program ms rel (source_variables program rel) b && list_all (source_meets program ms b) rel.domains) (list_all (conjunct_holds program ms b) rel.whens) h in
       (and_parts (have_values program ms rel (source_variables program rel) b) (list_all (source_meets program ms b) rel.domains) outer.0).0

@@ -22,7 +22,7 @@ use Rattle.source_laws.specs.SourceRelations.{IsPlainArgument, HavePlainArgument
 use Rattle.source_laws.proofs.QueryLaws.{value_of_sources}
 
 -- a variable alone has the value of the variable, whatever the models are
-alone_meaning : (s : Setting) (q : Queries) (ty : Ty) (v : ℕ) (x : Scope) → meaning s q (record { ty = ty; node = nodes.Variable v }) x ≡ variable x v
+pub alone_meaning : (s : Setting) (q : Queries) (ty : Ty) (v : ℕ) (x : Scope) → meaning s q (record { ty = ty; node = nodes.Variable v }) x ≡ variable x v
 alone_meaning s q ty v x =
     ap (λ (m : Scope → Out). m x) (typed_is s q ty (nodes.Variable v)) ∙ ap (λ n. node_of s q n x) (sym (nodes.rolls-Variable v)) ∙ ap (λ (m : Scope → Out). m x) (variable_is s q v)
 
