@@ -67,6 +67,21 @@ module _ (program : Program) (m : ModelData) (live : ℕ → Bool) (claims : Lis
       ∙ get_or-append-add (old_objects program m live claims) (fresh_objects program m live claims (length m.objects) fresh (unused_ids m (length fresh))) k None
       ∙ fresh_from fresh (unused_ids m (length fresh)) (length m.objects) k t enough within
 
+  past_fresh : (ts : List Term) (ids : List (List ℕ)) (o k : ℕ) → length ts ≤ k → get_or (fresh_objects program m live claims o ts ids) k None ≡ None
+  past_fresh [] ids o k past = refl
+  past_fresh (u ∷ ts) [] o k past = refl
+  past_fresh (u ∷ ts) (id ∷ ids) o zero past = absurd (omega (arith, past))
+  past_fresh (u ∷ ts) (id ∷ ids) o (suc k) past = past_fresh ts ids (suc o) k (omega (arith, past))
+
+  -- and no others
+  pub none_past : (fresh : List Term) (n : ℕ) → length m.objects + length fresh ≤ n → object_at (candidate_with program m live claims fresh) n ≡ None
+  none_past fresh n past =
+      let many = many_old in
+      let behind : length (old_objects program m live claims) ≤ n = omega (arith, many, past) in
+      let over : length fresh ≤ n - length (old_objects program m live claims) = omega (arith, many, past) in
+      get_or-append_right (old_objects program m live claims) (fresh_objects program m live claims (length m.objects) fresh (unused_ids m (length fresh))) n None behind
+      ∙ past_fresh fresh (unused_ids m (length fresh)) (length m.objects) (n - length (old_objects program m live claims)) over
+
   -- ---- slots of the objects
 
   old_slots : (o : ℕ) (ob : Object) (x : Option Object) → old_object program m live claims o x ≡ Some ob → ob.slots ≡ slots_of program m live claims o ob.class

@@ -22,7 +22,7 @@ use Rattle.repair_laws.proofs.CandidateLaws.{claims_stand}
 
 -- ---- lists
 
-in_filter_map : {X Y : Type 0} (f : X → Option Y) (xs : List X) (x : X) (y : Y) → Contains xs x → f x ≡ Some y → Contains (filter_map f xs) y
+pub in_filter_map : {X Y : Type 0} (f : X → Option Y) (xs : List X) (x : X) (y : Y) → Contains xs x → f x ≡ Some y → Contains (filter_map f xs) y
 in_filter_map f [] x y (k, within, is) h = absurd (omega (arith, within))
 in_filter_map f (z ∷ zs) x y (zero, within, is) h = subst (λ o. Contains (cons_option o (filter_map f zs)) y) (sym (ap f is ∙ h)) (contains_first y (filter_map f zs))
 in_filter_map {X} {Y} f (z ∷ zs) x y (suc k, within, is) h = by (f z) (in_filter_map f zs x y (k, omega (arith, within), is) h)
@@ -31,7 +31,7 @@ in_filter_map {X} {Y} f (z ∷ zs) x y (suc k, within, is) h = by (f z) (in_filt
     by None c = c
     by (Some v) c = contains_later y v (filter_map f zs) c
 
-in_flat_map : {X Y : Type 0} (f : X → List Y) (xs : List X) (x : X) (y : Y) → Contains xs x → Contains (f x) y → Contains (flat_map f xs) y
+pub in_flat_map : {X Y : Type 0} (f : X → List Y) (xs : List X) (x : X) (y : Y) → Contains xs x → Contains (f x) y → Contains (flat_map f xs) y
 in_flat_map f [] x y (k, within, is) c = absurd (omega (arith, within))
 in_flat_map f (z ∷ zs) x y (zero, within, is) c = contains_left y (f z) (flat_map f zs) (subst (λ v. Contains (f v) y) (sym is) c)
 in_flat_map f (z ∷ zs) x y (suc k, within, is) c = contains_right y (f z) (flat_map f zs) (in_flat_map f zs x y (k, omega (arith, within), is) c)

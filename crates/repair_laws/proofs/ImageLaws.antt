@@ -14,14 +14,17 @@ use Rattle.qv_syntax.specs.declared.program.Program.{Program}
 use Rattle.qvtr_semantics.specs.declared.datum.Datum.{Datum}
 use Rattle.qvtr_semantics.specs.Objects.{conforms_if, conforms_at, extent_of}
 use Rattle.template_match.proofs.ListLaws.{contains_first, contains_later}
-use Rattle.repair_semantics.specs.declared.term.Term.{Term, roll-Term, out-Term, roll-out-Term, map-Term, ind-Term}
-use Rattle.repair_semantics.specs.declared.term.TermValue.{TermValue, roll-TermValue, out-TermValue, roll-out-TermValue, map-TermValue}
+use Rattle.repair_semantics.specs.declared.term.Term.{Term, roll-Term, out-Term, roll-out-Term, out-roll-Term, map-Term, ind-Term}
+use Rattle.repair_semantics.specs.declared.term.TermValue.{TermValue, roll-TermValue, out-TermValue, roll-out-TermValue, out-roll-TermValue, map-TermValue}
 use Rattle.repair_semantics.specs.declared.term.TermValue.TheOpen as of
+use Rattle.repair_semantics.specs.Terms.{term_part, term_in}
 use Rattle.repair_semantics.specs.TargetItems.{key_of}
 use Rattle.repair_semantics.specs.Claims.{Held}
 use Rattle.repair_semantics.specs.Images.{held_in, holds, holds_key, first_number, object_with_key, image}
 use Rattle.repair_semantics.proofs.TermLaws.{image_of_value, image_is, image_of_datum, image_of_term}
-use Rattle.repair_laws.specs.Keyed.{TellsByKeys}
+use Rattle.repair_semantics.specs.Deletions.{managed_classes}
+use Rattle.reading_laws.specs.Keyed.{TellsByKeys}
+use Rattle.repair_laws.specs.Closed.{AreClosed}
 use Rattle.repair_laws.proofs.HeldLaws.{first_holds, second_holds, one_held, few_held}
 
 -- ---- the first number of a list that passes a test
@@ -79,11 +82,11 @@ no_object d n h = cc
 module _ (program : Program) (m : ModelData) where
   -- ---- what an image is
 
-  record IsObjectFor (class : ℕ) (hs : List (Option (Held ℕ))) (o : ℕ) : Type 0 where
-    props : List PropId
-    key : key_of program class ≡ Some props
-    holds : holds_key program m o props hs ≡ true
-    conforms : conforms_at m class o ≡ true
+  pub record IsObjectFor (class : ℕ) (hs : List (Option (Held ℕ))) (o : ℕ) : Type 0 where
+    pub props : List PropId
+    pub key : key_of program class ≡ Some props
+    pub holds : holds_key program m o props hs ≡ true
+    pub conforms : conforms_at m class o ≡ true
 
   object_found : (class : ℕ) (hs : List (Option (Held ℕ))) (o : ℕ) (k : Option (List PropId)) → key_of program class ≡ k
       → object_with_key program m class hs k ≡ Some o → IsObjectFor class hs o
@@ -96,7 +99,7 @@ module _ (program : Program) (m : ModelData) where
   }
 
   -- the object of a term
-  term_found : (class : ClassId) (keys : List TermValue) (o : ℕ) → image program m (roll-Term (record { class = class; keys = keys })) ≡ Some o
+  pub term_found : (class : ClassId) (keys : List TermValue) (o : ℕ) → image program m (roll-Term (record { class = class; keys = keys })) ≡ Some o
       → IsObjectFor class.0 (map (image_of_value program m) keys) o
   term_found class keys o h = object_found class.0 (map (image_of_value program m) keys) o (key_of program class.0) refl (sym (image_is program m class keys) ∙ h)
 
@@ -113,24 +116,28 @@ module _ (program : Program) (m : ModelData) where
   pub image_is_live : (t : Term) (o : ℕ) → image program m t ≡ Some o → o < length m.objects
   image_is_live t o h = conforming_is_live (out-Term t).class.0 o (image_conforms t o h)
 
-module _ (program : Program) (m : ModelData) (valid : Valid m) (tells : TellsByKeys program m) where
+module _ (program : Program) (m : ModelData) (terms : List Term) (valid : Valid m) (tells : TellsByKeys program m) (closed : AreClosed program terms) where
   -- ---- one class
 
-  one_class : (c d o : ℕ) (ps qs : List PropId) → key_of program c ≡ Some ps → key_of program d ≡ Some qs → conforms_at m c o ≡ true → conforms_at m d o ≡ true → c ≡ d
-  one_class c d o ps qs kc kd hc hd = by (class_at m o) hc hd
+  one_class : (c d o : ℕ) (ps qs : List PropId) → Contains (managed_classes program) c → key_of program c ≡ Some ps → key_of program d ≡ Some qs → conforms_at m c o ≡ true → conforms_at m d o ≡ true → c ≡ d
+  one_class c d o ps qs managed kc kd hc hd = by (class_at m o) hc hd
     where
       by : (x : Option ℕ) → conforms_if m.meta c x ≡ true → conforms_if m.meta d x ≡ true → c ≡ d
       by None h g = absurd (true≢false (sym h))
-      by (Some k) h g = tells.apart k c d ps qs kc kd h g
+      by (Some k) h g = tells.apart k c d ps qs managed kc kd h g
 
   -- ---- key values
 
-  -- a value with the image of another one is that one
+  -- a term of the list, or any datum
+  abbrev IsAmong : TermValue → Type 0
+  IsAmong x = (u : Term) → term_in x ≡ Some u → Contains terms u
+
+  -- such a value with the image of another one is that one
   abbrev ValueTold : TermValue → Type 0
-  ValueTold x = (y : TermValue) (h : Held ℕ) → image_of_value program m x ≡ Some h → image_of_value program m y ≡ Some h → x ≡ y
+  ValueTold x = IsAmong x → (y : TermValue) (h : Held ℕ) → image_of_value program m x ≡ Some h → image_of_value program m y ≡ Some h → x ≡ y
 
   abbrev TermTold : Term → Type 0
-  TermTold t = (u : Term) (o : ℕ) → image program m t ≡ Some o → image program m u ≡ Some o → t ≡ u
+  TermTold t = Contains terms t → (u : Term) (o : ℕ) → image program m t ≡ Some o → image program m u ≡ Some o → t ≡ u
 
   abbrev ToldValue : Type 0
   ToldValue = (x : TermValue) × ValueTold x
@@ -141,16 +148,16 @@ module _ (program : Program) (m : ModelData) (valid : Valid m) (tells : TellsByK
   abbrev Few : ℕ → List PropId → Type 0
   Few o ps = (p : PropId) → Contains ps p → length (held_in program m o p.0) ≤ 1
 
-  keys_told : (o : ℕ) (ps : List PropId) (zs : List ToldValue) (ys : List TermValue) → Few o ps
+  keys_told : (o : ℕ) (ps : List PropId) (zs : List ToldValue) (ys : List TermValue) → Few o ps → ((x : TermValue) → Contains (map (λ z. z.0) zs) x → IsAmong x)
       → holds_key program m o ps (map (image_of_value program m) (map (λ z. z.0) zs)) ≡ true → holds_key program m o ps (map (image_of_value program m) ys) ≡ true
       → map (λ z. z.0) zs ≡ ys
-  keys_told o [] [] [] few a b = refl
-  keys_told o [] [] (y ∷ ys) few a b = absurd (true≢false (sym b))
-  keys_told o [] (z ∷ zs) ys few a b = absurd (true≢false (sym a))
-  keys_told o (p ∷ ps) [] ys few a b = absurd (true≢false (sym a))
-  keys_told o (p ∷ ps) (z ∷ zs) [] few a b = absurd (true≢false (sym b))
-  keys_told o (p ∷ ps) (z ∷ zs) (y ∷ ys) few a b =
-      by (keys_told o ps zs ys (λ q k. few q (contains_later q p ps k))) (image_of_value program m z.0) (image_of_value program m y) refl refl a b
+  keys_told o [] [] [] few among a b = refl
+  keys_told o [] [] (y ∷ ys) few among a b = absurd (true≢false (sym b))
+  keys_told o [] (z ∷ zs) ys few among a b = absurd (true≢false (sym a))
+  keys_told o (p ∷ ps) [] ys few among a b = absurd (true≢false (sym a))
+  keys_told o (p ∷ ps) (z ∷ zs) [] few among a b = absurd (true≢false (sym b))
+  keys_told o (p ∷ ps) (z ∷ zs) (y ∷ ys) few among a b =
+      by (keys_told o ps zs ys (λ q k. few q (contains_later q p ps k)) (λ x k. among x (contains_later x z.0 (map (λ w. w.0) zs) k))) (image_of_value program m z.0) (image_of_value program m y) refl refl a b
     where
       by : (holds_key program m o ps (map (image_of_value program m) (map (λ w. w.0) zs)) ≡ true → holds_key program m o ps (map (image_of_value program m) ys) ≡ true
           → map (λ w. w.0) zs ≡ ys) → (h i : Option (Held ℕ)) → image_of_value program m z.0 ≡ h → image_of_value program m y ≡ i
@@ -162,24 +169,30 @@ module _ (program : Program) (m : ModelData) (valid : Valid m) (tells : TellsByK
           let there = holds_key program m o ps (map (image_of_value program m) (map (λ w. w.0) zs)) in
           let here = holds_key program m o ps (map (image_of_value program m) ys) in
           let same : h ≡ i = one_held (held_in program m o p.0) h i (few p (contains_first p ps)) (first_holds (holds program m o p.0 h) there c) (first_holds (holds program m o p.0 i) here d) in
-          let first : z.0 ≡ y = z.1 y h ih (ii ∙ ap (λ x. Some x) (sym same)) in
+          let first : z.0 ≡ y = z.1 (among z.0 (contains_first z.0 (map (λ w. w.0) zs))) y h ih (ii ∙ ap (λ x. Some x) (sym same)) in
           let rest : map (λ w. w.0) zs ≡ ys = later (second_holds (holds program m o p.0 h) there c) (second_holds (holds program m o p.0 i) here d) in
           ap (λ x. x ∷ map (λ w. w.0) zs) first ∙ ap (λ rs. y ∷ rs) rest
 
   -- ---- terms by the terms within them
 
-  few_at : (o class : ℕ) (ps : List PropId) → key_of program class ≡ Some ps → Few o ps
-  few_at o class ps key p has = few_held program m o p.0 valid (tells.single class ps p key has)
+  few_at : (o class : ℕ) (ps : List PropId) → Contains (managed_classes program) class → key_of program class ≡ Some ps → Few o ps
+  few_at o class ps managed key p has = few_held program m o p.0 valid (tells.single class ps p managed key has)
+
+  out_value : (x : of.TermValue-F TermValue Term) → term_in (roll-TermValue x) ≡ term_part x
+  out_value x = ap term_part (out-roll-TermValue x)
 
   term_layer : (z : of.Term-F ToldValue ToldTerm) → TermTold (roll-Term (map-Term ToldValue ToldTerm TermValue Term (λ x. x.0) (λ x. x.0) z))
-  term_layer z u o h k =
+  term_layer z has u o h k =
+      let whole : of.Term-F TermValue Term = map-Term ToldValue ToldTerm TermValue Term (λ x. x.0) (λ x. x.0) z in
+      let managed : Contains (managed_classes program) z.class.0 = subst (λ (y : of.Term-F TermValue Term). Contains (managed_classes program) y.class.0) (out-roll-Term whole) (closed.managed (roll-Term whole) has) in
       let keys : List TermValue = map (λ x. x.0) z.keys in
       let found = term_found program m z.class keys o h in
       let other = term_found program m (out-Term u).class (out-Term u).keys o (ap (image program m) (roll-out-Term u) ∙ k) in
-      let class : z.class.0 ≡ (out-Term u).class.0 = one_class z.class.0 (out-Term u).class.0 o found.props other.props found.key other.key found.conforms other.conforms in
+      let class : z.class.0 ≡ (out-Term u).class.0 = one_class z.class.0 (out-Term u).class.0 o found.props other.props managed found.key other.key found.conforms other.conforms in
       let keyed : Some found.props ≡ Some other.props = sym found.key ∙ ap (key_of program) class ∙ other.key in
       let props : found.props ≡ other.props = some_props found.props other.props keyed in
-      let same : keys ≡ (out-Term u).keys = keys_told o found.props z.keys (out-Term u).keys (few_at o z.class.0 found.props found.key) found.holds
+      let same : keys ≡ (out-Term u).keys = keys_told o found.props z.keys (out-Term u).keys (few_at o z.class.0 found.props managed found.key)
+      (λ x there v is. closed.within (roll-Term whole) x v has (subst (λ (y : of.Term-F TermValue Term). Contains y.keys x) (sym (out-roll-Term whole)) there) is) found.holds
       (subst (λ ps. holds_key program m o ps (map (image_of_value program m) (out-Term u).keys) ≡ true) (sym props) other.holds) in
       ap (λ n. roll-Term (record { class = record { 0 = n }; keys = keys })) class ∙ ap (λ ks. roll-Term (record { class = (out-Term u).class; keys = ks })) same ∙ roll-out-Term u
 
@@ -187,7 +200,7 @@ module _ (program : Program) (m : ModelData) (valid : Valid m) (tells : TellsByK
   opened y h e = ap (image_of_value program m) (roll-out-TermValue y) ∙ e
 
   value_layer : (z : of.TermValue-F ToldValue ToldTerm) → ValueTold (roll-TermValue (map-TermValue ToldValue ToldTerm TermValue Term (λ x. x.0) (λ x. x.0) z))
-  value_layer (of.Val d) y h a b = by (out-TermValue y) (roll-out-TermValue y) (opened y h b)
+  value_layer (of.Val d) within y h a b = by (out-TermValue y) (roll-out-TermValue y) (opened y h b)
     where
       here : Held.datum d ≡ h
       here = some_held (Held.datum d) h (sym (image_of_datum program m d) ∙ a)
@@ -199,7 +212,7 @@ module _ (program : Program) (m : ModelData) (valid : Valid m) (tells : TellsByK
       by (of.Term t) is c =
           let found = object_image (image program m t) h (sym (image_of_term program m t) ∙ c) in
           absurd (no_object d found.0 (here ∙ found.2))
-  value_layer (of.Term w) y h a b = by (out-TermValue y) (roll-out-TermValue y) (opened y h b)
+  value_layer (of.Term w) within y h a b = by (out-TermValue y) (roll-out-TermValue y) (opened y h b)
     where
       here : (n : ℕ) × (image program m w.0 ≡ Some n) × (h ≡ Held.object n)
       here = object_image (image program m w.0) h (sym (image_of_term program m w.0) ∙ a)
@@ -211,7 +224,7 @@ module _ (program : Program) (m : ModelData) (valid : Valid m) (tells : TellsByK
           let found = object_image (image program m t) h (sym (image_of_term program m t) ∙ c) in
           let objects : Held.object here.0 ≡ Held.object found.0 = sym here.2 ∙ found.2 in
           let number : here.0 ≡ found.0 = objects_one here.0 found.0 objects in
-          ap (λ x. roll-TermValue (of.Term x)) (w.1 t here.0 here.1 (found.1 ∙ ap (λ n. Some n) (sym number))) ∙ is
+          ap (λ x. roll-TermValue (of.Term x)) (w.1 (within w.0 (out_value (of.Term w.0))) t here.0 here.1 (found.1 ∙ ap (λ n. Some n) (sym number))) ∙ is
 
   pub one_image_one_term : (t : Term) → TermTold t
   one_image_one_term = ind-Term ValueTold TermTold

@@ -1,5 +1,5 @@
 -- Objects of the model that enforcement makes and their numbers: a number leads back to its object, and different terms have different objects.
-use Rattle.std.specs.Prelude.{◌≡◌, ◌<◌, ◌+◌, ◌-◌, ℕ, zero, suc, false, nat_lt, List, [], ◌∷◌, length, Option, None, Some, slice_get, if◌then◌else◌}
+use Rattle.std.specs.Prelude.{Contains, ◌≡◌, ◌<◌, ◌+◌, ◌-◌, ℕ, zero, suc, false, nat_lt, List, [], ◌∷◌, length, Option, None, Some, slice_get, if◌then◌else◌}
 use Rattle.std.specs.List.{position}
 use Rattle.std.specs.Option.{option_map, option_map_or}
 use Rattle.std.proofs.Common.{refl, ap, sym, ◌∙◌, subst, arith, get_or}
@@ -13,13 +13,14 @@ use Rattle.repair_semantics.specs.Terms.{same_term}
 use Rattle.repair_semantics.specs.Images.{image}
 use Rattle.repair_semantics.specs.CandidateObjects.{CandidateObject, fresh_terms, number_of, object_of, term_number}
 use Rattle.repair_semantics.proofs.TieLaws.{ties_are_one}
-use Rattle.repair_laws.specs.Keyed.{TellsByKeys}
+use Rattle.reading_laws.specs.Keyed.{TellsByKeys}
+use Rattle.repair_laws.specs.Closed.{AreClosed}
 use Rattle.repair_laws.proofs.ImageLaws.{image_is_live, one_image_one_term}
 
 no_some : {X : Type 0} (x : X) → ◌≡◌ {A = Option X} None (Some x) → ⊥
 no_some x h = cc
 
-got_at : {X : Type 0} (xs : List X) (k : ℕ) (d : X) → k < length xs → slice_get xs k ≡ Some (get_or xs k d)
+pub got_at : {X : Type 0} (xs : List X) (k : ℕ) (d : X) → k < length xs → slice_get xs k ≡ Some (get_or xs k d)
 got_at [] k d within = absurd (omega (arith, within))
 got_at (x ∷ xs) zero d within = refl
 got_at (x ∷ xs) (suc k) d within = got_at xs k d (omega (arith, within))
@@ -61,7 +62,7 @@ module _ (program : Program) (m : ModelData) (terms : List Term) where
 
   -- ---- different terms
 
-  module _ (valid : Valid m) (tells : TellsByKeys program m) where
+  module _ (valid : Valid m) (tells : TellsByKeys program m) (closed : AreClosed program terms) where
     -- the number of a term's object: that of its image, or one behind all numbers of the model
     data IsNumbered (t : Term) (n : ℕ) : Type 0 where
       old : image program m t ≡ Some n → n < length m.objects → IsNumbered t n
@@ -74,13 +75,13 @@ module _ (program : Program) (m : ModelData) (terms : List Term) where
         by None is e = IsNumbered.new (fresh_place t n e)
         by (Some o) is e = let same : o ≡ n = cc in subst (λ k. IsNumbered t k) same (IsNumbered.old (is) (image_is_live program m t o is))
 
-    one_number : (t u : Term) (n : ℕ) → IsNumbered t n → IsNumbered u n → t ≡ u
-    one_number t u n (IsNumbered.old a l) (IsNumbered.old b k) = one_image_one_term program m valid tells t u n a b
-    one_number t u n (IsNumbered.old a l) (IsNumbered.new p) = absurd (let e = p.number in omega (arith, l, e))
-    one_number t u n (IsNumbered.new p) (IsNumbered.old b l) = absurd (let e = p.number in omega (arith, l, e))
-    one_number t u n (IsNumbered.new p) (IsNumbered.new q) =
+    one_number : (t u : Term) (n : ℕ) → Contains terms t → IsNumbered t n → IsNumbered u n → t ≡ u
+    one_number t u n has (IsNumbered.old a l) (IsNumbered.old b k) = one_image_one_term program m terms valid tells closed t has u n a b
+    one_number t u n has (IsNumbered.old a l) (IsNumbered.new p) = absurd (let e = p.number in omega (arith, l, e))
+    one_number t u n has (IsNumbered.new p) (IsNumbered.old b l) = absurd (let e = p.number in omega (arith, l, e))
+    one_number t u n has (IsNumbered.new p) (IsNumbered.new q) =
         let places : p.place ≡ q.place = (let a = p.number in let b = q.number in omega (arith, a, b)) in
         sym (p.is t) ∙ ap (λ k. get_or fresh k t) places ∙ q.is t
 
-    pub one_object_one_term : (t u : Term) (n : ℕ) → term_number program m terms t ≡ Some n → term_number program m terms u ≡ Some n → t ≡ u
-    one_object_one_term t u n a b = one_number t u n (numbered t n a) (numbered u n b)
+    pub one_object_one_term : (t u : Term) (n : ℕ) → Contains terms t → term_number program m terms t ≡ Some n → term_number program m terms u ≡ Some n → t ≡ u
+    one_object_one_term t u n has a b = one_number t u n has (numbered t n a) (numbered u n b)

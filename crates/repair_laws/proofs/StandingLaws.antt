@@ -59,7 +59,7 @@ module _ {X : Type 0} (order : X → X → Ordering) (test : X → Bool) (respec
       by Equal later = h
       by Greater later = behind (test y) later h
 
-  once_keeps : (xs : List X) (k : ℕ) (x : X) → k < length xs → get_or xs k x ≡ x → test x ≡ true → list_any test (each_once order xs) ≡ true
+  pub once_keeps : (xs : List X) (k : ℕ) (x : X) → k < length xs → get_or xs k x ≡ x → test x ≡ true → list_any test (each_once order xs) ≡ true
   once_keeps [] k x within is h = absurd (omega (arith, within))
   once_keeps (y ∷ ys) zero x within is h = placed_new y (each_once order ys) (subst (λ z. test z ≡ true) (sym is) h)
   once_keeps (y ∷ ys) (suc k) x within is h = placed_keeps y (each_once order ys) (once_keeps ys k x (omega (arith, within)) is h)

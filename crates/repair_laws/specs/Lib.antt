@@ -1,4 +1,9 @@
-pub mod Keyed
+pub mod Closed
 pub mod Staying
 pub mod Standing
 pub mod Gone
+pub mod DemandedKeys
+pub mod Going
+pub mod Enforced
+pub mod EntryReadings
+pub mod Repairs

@@ -6,7 +6,8 @@ ghost use Rattle.repair_semantics.specs.declared.term.Term.{Term};
 ghost use Rattle.repair_semantics.specs.CandidateObjects.{CandidateObject, number_of, object_of, term_number};
 ghost use Rattle.repair_semantics.specs.Images.{image};
 ghost use Rattle.repair_semantics.specs.Deletions.{images_of, stays};
-ghost use Rattle.repair_laws.specs.Keyed.{TellsByKeys};
+ghost use Rattle.reading_laws.specs.Keyed.{TellsByKeys};
+ghost use Rattle.repair_laws.specs.Closed.{AreClosed};
 
 /// Each demanded term has an object in the model that enforcement makes.
 pub fn demanded_terms_have_objects()
@@ -25,8 +26,8 @@ pub fn numbers_of_fresh_objects_lead_back()
         → object_of program m terms n ≡ Some (CandidateObject.fresh t) }
 {}
 
-/// Over a valid target of which keys tell the objects apart, two terms with one object in the model that enforcement makes are one term.
+/// Over a valid target of which keys tell the objects apart, of terms that are closed, two terms with one object in the model that enforcement makes are one term.
 pub fn different_terms_have_different_objects()
-    ensures { (program : Program) (m : ModelData) (terms : List Term) (t u : Term) (n : ℕ) → Valid m → TellsByKeys program m
+    ensures { (program : Program) (m : ModelData) (terms : List Term) (t u : Term) (n : ℕ) → Valid m → TellsByKeys program m → AreClosed program terms → Contains terms t
         → term_number program m terms t ≡ Some n → term_number program m terms u ≡ Some n → t ≡ u }
 {}
