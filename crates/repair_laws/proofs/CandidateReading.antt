@@ -18,7 +18,7 @@ use Rattle.qv_syntax.specs.declared.program.Program.{Program}
 use Rattle.qvtr_semantics.specs.declared.datum.Datum.{Datum}
 use Rattle.qvtr_semantics.specs.Objects.{is_number_among, is_kind_of, conforms_if, conforms_at}
 use Rattle.evaluation_laws.proofs.NavigationLaws.{among}
-use Rattle.enforcement_rules.proofs.ListLaws.{or_first, any_here, within_some, some_among}
+use Rattle.enforcement_rules.proofs.ListLaws.{and_both, or_first, any_here, within_some, some_among}
 use Rattle.repair_semantics.specs.declared.term.Term.{Term, out-Term}
 use Rattle.repair_semantics.specs.declared.term.TermValue.{TermValue, out-TermValue}
 use Rattle.repair_semantics.specs.declared.term.TermValue.TheOpen as of

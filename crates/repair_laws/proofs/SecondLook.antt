@@ -117,7 +117,7 @@ module _ (metas : List MetaDesc) (program : Program) (models : List ModelData) (
     metamodel = metamodel;
     described = described.0;
     well = described.1;
-    are = c.entries;
+    are = c.all;
     met = met;
   }
 
@@ -155,7 +155,7 @@ module _ (metas : List MetaDesc) (program : Program) (models : List ModelData) (
       let reading : IsReading program m terms (image program m) =
       images_read program m terms needed (λ t u n ht hu it iu. one_image_one_term program m terms c.valid tells all_closed t ht u n it iu) all_closed.within in
       let base : Ground metas program models models m terms (image program m) = ground metas program models models m terms (image program m) over_target reading among met in
-      satisfied_is_settled metas program models m entries c.target c.valid well c.enforceable holds (entries_read metas program models m terms (image program m) base) c.entries.only needed
+      satisfied_is_settled metas program models m entries c.target c.valid well c.enforceable holds (entries_read metas program models m terms (image program m) base) c.all.only needed
 
   pub target_is_same : Satisfied program models → ((o : ℕ) → is_unneeded m (managed_classes program) (images_of program m terms) o ≡ false) → IsSame m (candidate program m demands)
   target_is_same holds needed = same_as_equal m (candidate program m demands) (target_stays holds needed)
@@ -209,7 +209,7 @@ module _ (metas : List MetaDesc) (program : Program) (models : List ModelData) (
   have_made = standing_terms program made number demands stand_made
 
   entries_stand : EntriesStand program models made number
-  entries_stand e is = let k = among_all program models entries 0 e (c.entries.all e is) in (k.0, λ d has. stand_made d (k.1 d has))
+  entries_stand e is = let k = among_all program models entries 0 e (c.all.all e is) in (k.0, λ d has. stand_made d (k.1 d has))
 
   base_made : Ground metas program models repaired made terms number
   base_made = ground metas program models repaired made terms number over_made reading_made among_made met
@@ -261,15 +261,15 @@ module _ (metas : List MetaDesc) (program : Program) (models : List ModelData) (
     -- the entries are the same over the other target
     entries_others : AreEntries program others entries
     entries_others = record {
-      sorted = c.entries.sorted;
-      only = λ e has. entry_moved metas program models others c.evaluable c.enforceable agree metas_same e (c.entries.only e has);
-      all = λ e is. c.entries.all e (entry_moved metas program others models evaluable_others c.enforceable (opposite program.target models others agree) (sym metas_same) e is);
+      sorted = c.all.sorted;
+      only = λ e has. entry_moved metas program models others c.evaluable c.enforceable agree metas_same e (c.all.only e has);
+      all = λ e is. c.all.all e (entry_moved metas program others models evaluable_others c.enforceable (opposite program.target models others agree) (sym metas_same) e is);
     }
 
     made_stays_by : (asked : List Entry) → asked ≡ entries → candidate program n (demands_of program others asked) ≡ n
     made_stays_by asked is =
         let one : demands_of program others asked ≡ demands =
-        ap (demands_of program others) is ∙ sym (demands_same metas program models others c.evaluable c.enforceable agree metas_same entries c.entries.only) in
+        ap (demands_of program others) is ∙ sym (demands_same metas program models others c.evaluable c.enforceable agree metas_same entries c.all.only) in
         ap (candidate program n) one ∙ made_stays n same valid
 
     -- of all entries there is one list
