@@ -1,5 +1,5 @@
 -- A value of a variable for objects of the target is such an object.
-use Rattle.std.specs.Prelude.{◌≡◌, ℕ, true, false, ◌&&◌, ◌==◌, List, Option, None, Some, slice_get, Contains}
+use Rattle.std.specs.Prelude.{◌≡◌, ℕ, true, ◌&&◌, ◌==◌, List, Option, None, Some, slice_get, Contains}
 use Rattle.std.proofs.Common.{refl, sym, ap, ◌∙◌}
 use Rattle.std.proofs.lemmas.Bool.{and_parts, true≢false}
 use Rattle.mof_metamodel.specs.declared.desc.MetaDesc.{MetaDesc}

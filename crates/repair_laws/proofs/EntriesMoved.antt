@@ -22,18 +22,16 @@ use Rattle.source_laws.specs.SourceValues.{HasNoTarget}
 use Rattle.source_laws.specs.TargetRule.{HasConjunct, IsExpressionOf, HandsTargetOn}
 use Rattle.source_laws.proofs.BindingLaws.{source_kept}
 use Rattle.source_laws.proofs.RuleLaws.{rule_keeps}
-use Rattle.source_laws.proofs.RootLaws.{same_called}
 use Rattle.entry_sources.proofs.ItemPlaces.{item_expression}
 use Rattle.entry_sources.proofs.MakingLaws.{scope_same, given_same, entry_known_same, made_same, unmet_same}
 use Rattle.repair_semantics.specs.declared.entry.Entry.{Entry}
 use Rattle.repair_semantics.specs.declared.entry.EntryName.{EntryName}
-use Rattle.repair_semantics.specs.declared.demand.Demand.{Demand}
 use Rattle.repair_semantics.specs.EntryValues.{TermValues, data_in, no_values, root_values, Known, known, term_of, given_value}
 use Rattle.repair_semantics.specs.TargetItems.{Content, TargetItem, target_items, target_metamodel}
-use Rattle.repair_semantics.specs.Making.{entry_scope, entry_known, made_values, content_value}
+use Rattle.repair_semantics.specs.Making.{entry_scope, entry_known, content_value}
 use Rattle.repair_semantics.specs.Unmet.{is_unmet}
 use Rattle.repair_semantics.specs.Demands.{demand_by, item_demand, item_demands, demands_where, entry_demands, demands_from, demands_of}
-use Rattle.repair_semantics.specs.Entries.{TermSource, AreMatches, call_to, calls_in, calls_where, entry_calls, entry_of, IsEntryWith, IsEntry}
+use Rattle.repair_semantics.specs.Entries.{AreMatches, call_to, calls_in, calls_where, entry_calls, IsEntryWith, IsEntry}
 use Rattle.reading_laws.proofs.EntryRoots.{entry_rooted}
 use Rattle.reading_laws.proofs.MeetingTypes.{scope_apart}
 

@@ -1,17 +1,13 @@
 -- Over a reading on which laws on entries stand, the entries are read: what a satisfied target is asked for.
-use Rattle.std.specs.Prelude.{◌≡◌, ◌⊎◌, ℕ, zero, suc, Bool, true, false, List, [], length, replicate, Option, None, Some, slice_get, Contains}
-use Rattle.std.specs.List.{AllZip}
-use Rattle.std.specs.Option.{option_map, option_and_then}
-use Rattle.std.proofs.Common.{refl, ap, sym, ◌∙◌, subst, inl, inr, true≢false}
+use Rattle.std.specs.Prelude.{◌≡◌, ◌⊎◌, ℕ, zero, suc, true, false, List, [], length, replicate, Option, None, Some, slice_get, Contains}
+use Rattle.std.specs.Option.{option_and_then}
+use Rattle.std.proofs.Common.{refl, ap, sym, ◌∙◌, subst, true≢false}
 use Rattle.mof_metamodel.specs.declared.desc.MetaDesc.{MetaDesc}
 use Rattle.object_tables.specs.Models.{ModelData}
 use Rattle.qv_syntax.specs.declared.program.Program.{Program}
 use Rattle.qv_syntax.specs.declared.program.Rel.{Rel}
-use Rattle.qv_syntax.specs.declared.program.Dom.{Dom}
-use Rattle.qv_syntax.specs.declared.program.Conj.{Conj}
 use Rattle.qv_syntax.specs.declared.program.Conj.TheVariants as conjuncts
 use Rattle.qv_syntax.specs.declared.typed.Typed.{Typed}
-use Rattle.qv_syntax.specs.Relations.{InConjunct}
 use Rattle.qv_syntax.specs.WellFormed.{IsWellFormed}
 use Rattle.qvtr_semantics.specs.declared.datum.Datum.{Datum}
 use Rattle.qvtr_semantics.specs.Outs.{datum_of}
@@ -19,10 +15,9 @@ use Rattle.qvtr_semantics.specs.Expressions.{variable, value, value_for, scope_o
 use Rattle.qvtr_semantics.specs.Templates.{Values, value_at}
 use Rattle.qvtr_semantics.specs.Bindings.{Source, Target}
 use Rattle.qvtr_semantics.specs.Calls.{RelationCall, free}
-use Rattle.template_match.specs.Sources.{is_target_variable}
 use Rattle.source_laws.specs.SourceValues.{IsOfSources, HasNoTarget}
-use Rattle.source_laws.specs.SourceRelations.{NamesSources, IsPlainArgument}
-use Rattle.source_laws.specs.TargetRule.{HasConjunct, MayBeTarget, IsExpressionOf, HandsTargetOn}
+use Rattle.source_laws.specs.SourceRelations.{IsPlainArgument}
+use Rattle.source_laws.specs.TargetRule.{MayBeTarget, IsExpressionOf, HandsTargetOn}
 use Rattle.source_laws.proofs.TypingLaws.{is_in}
 use Rattle.source_laws.proofs.RootLaws.{same_called}
 use Rattle.source_laws.proofs.RuleLaws.{plain_by}
@@ -39,10 +34,10 @@ use Rattle.repair_semantics.specs.Terms.{term_in}
 use Rattle.repair_semantics.specs.EntryValues.{TermValues, value_of, term_of, data_in, no_values, root_values, known, Known, given_value, given_by, given_out, variable_alone}
 use Rattle.repair_semantics.specs.TargetItems.{Content, TargetItem, target_items}
 use Rattle.repair_semantics.specs.Making.{entry_known, entry_scope, content_value}
-use Rattle.repair_semantics.specs.Entries.{IsUniversalTarget, TermSource, AreMatches, calls_in, entry_calls, IsEntryWith, IsEntry}
+use Rattle.repair_semantics.specs.Entries.{IsUniversalTarget, TermSource, AreMatches, calls_in, entry_calls, IsEntry}
 use Rattle.reading_laws.specs.Readings.{Numbering, HasTermsAmong, read_value, Reads, ReadsCall}
 use Rattle.reading_laws.specs.Roots.{HasRootsOf}
-use Rattle.reading_laws.proofs.CallValues.{some_inner, none_some, data_long, ReadsOne, one_at, some_read, same_val}
+use Rattle.reading_laws.proofs.CallValues.{none_some, data_long, ReadsOne, one_at, some_read, same_val}
 use Rattle.reading_laws.proofs.CallRoots.{none_long}
 use Rattle.reading_laws.proofs.CallFits.{none_at, not_alone, given_val}
 use Rattle.reading_laws.proofs.CallReads.{argument_read}

@@ -1,7 +1,7 @@
 -- Over a target where the relations are satisfied each entry is read: its values are read as those of a binding that meets the source and whose
 -- calls match, and all its values as those of a partner. A partner that isn't there is refuted only, so all is said under two negations.
-use Rattle.std.specs.Prelude.{◌≡◌, ◌⊎◌, ◌<◌, ℕ, zero, suc, Bool, true, false, List, [], ◌∷◌, map, length, replicate, Option, None, Some, slice_get, Contains, if◌then◌else◌}
-use Rattle.std.specs.List.{AllZip, filter_map, cons_option}
+use Rattle.std.specs.Prelude.{◌≡◌, ◌⊎◌, ◌<◌, ℕ, zero, suc, true, false, List, [], ◌∷◌, map, length, replicate, Option, None, Some, slice_get, Contains, if◌then◌else◌}
+use Rattle.std.specs.List.{AllZip, filter_map}
 use Rattle.std.specs.Option.{option_map, option_map_or, option_and_then}
 use Rattle.std.proofs.Common.{refl, ap, sym, ◌∙◌, subst, arith, inl, inr, true≢false}
 use Rattle.mof_metamodel.specs.declared.desc.MetaDesc.{MetaDesc}
@@ -14,8 +14,7 @@ use Rattle.qvtr_semantics.specs.declared.limits.TheConstants.{MAX_CALLS}
 use Rattle.qvtr_semantics.specs.declared.datum.Datum.{Datum}
 use Rattle.qvtr_semantics.specs.Objects.{object_datum}
 use Rattle.qvtr_semantics.specs.Templates.{Values, value_at}
-use Rattle.qvtr_semantics.specs.Bindings.{Source, Target}
-use Rattle.qvtr_semantics.specs.Calls.{RelationCall, SourceMatches, TargetHolds, AllAsked, Of, Match, Holds, HoldsFor, HoldsWithin, calls_of, free}
+use Rattle.qvtr_semantics.specs.Calls.{RelationCall, SourceMatches, TargetHolds, AllAsked, Of, Match, HoldsFor, calls_of, free}
 use Rattle.qvtr_semantics.specs.Satisfaction.{IsTop, Satisfied}
 use Rattle.template_match.proofs.ListLaws.{contains_first, contains_later}
 use Rattle.repair_semantics.specs.declared.term.Term.{Term}
@@ -27,12 +26,11 @@ use Rattle.repair_semantics.specs.declared.entry.EntryName.{EntryName}
 use Rattle.repair_semantics.specs.Terms.{term_in, term_part}
 use Rattle.repair_semantics.specs.EntryValues.{TermValues, value_of, term_of, no_values, root_values, Known, known}
 use Rattle.repair_semantics.specs.Making.{entry_known}
-use Rattle.repair_semantics.specs.Unmet.{is_unmet}
-use Rattle.repair_semantics.specs.Entries.{IsUniversalTarget, TermSource, AreMatches, IsMatchFor, HasRoots, calls_in, calls_where, entry_calls, entry_of, IsEntryWith, IsEntry}
+use Rattle.repair_semantics.specs.Entries.{IsUniversalTarget, TermSource, AreMatches, IsMatchFor, calls_in, calls_where, entry_calls, IsEntryWith, IsEntry}
 use Rattle.reading_laws.specs.Readings.{Numbering, read_part, read_value, Reads, ReadsCall}
 use Rattle.reading_laws.specs.ReadCalls.{IsReadCall}
 use Rattle.repair_laws.proofs.MatchLaws.{matched}
-use Rattle.repair_laws.specs.EntryReadings.{IsEntryOf, IsReadAs, IsAmongMatches, AreEntriesRead}
+use Rattle.repair_laws.specs.EntryReadings.{IsReadAs, AreEntriesRead}
 
 -- ---- what can't be refuted
 

@@ -1,5 +1,5 @@
 -- The target as it was is a reading by images, where none of its objects is unneeded.
-use Rattle.std.specs.Prelude.{◌≡◌, ℕ, zero, suc, Bool, true, false, ◌&&◌, not, ◌==◌, List, [], ◌∷◌, map, Option, None, Some, Contains}
+use Rattle.std.specs.Prelude.{◌≡◌, ℕ, zero, suc, Bool, true, false, ◌&&◌, not, ◌==◌, List, [], ◌∷◌, Option, None, Some, Contains}
 use Rattle.std.specs.List.{list_any, filter_map, cons_option}
 use Rattle.std.proofs.Common.{refl, ap, sym, ◌∙◌, subst, arith, true≢false}
 use Rattle.std.proofs.lemmas.Bool.Decides.{nat_tests}
@@ -13,7 +13,6 @@ use Rattle.repair_semantics.specs.declared.term.Term.{Term, out-Term, roll-out-T
 use Rattle.repair_semantics.specs.declared.term.TermValue.{TermValue, out-TermValue, roll-TermValue, roll-out-TermValue}
 use Rattle.repair_semantics.specs.declared.term.TermValue.TheOpen as of
 use Rattle.repair_semantics.specs.Terms.{term_in}
-use Rattle.repair_semantics.specs.Claims.{Held}
 use Rattle.repair_semantics.specs.Conflicts.{held_in}
 use Rattle.repair_semantics.specs.Images.{holds_key, image}
 use Rattle.repair_semantics.specs.Deletions.{managed_classes, images_of, is_unneeded}

@@ -26,6 +26,7 @@ mod CandidateReading
 mod EntryDemanded
 mod DatumTypes
 mod GoingLaws
+mod TypedData
 mod EnforcedReading
 mod ClaimLaws
 mod ImageReadings

@@ -1,11 +1,9 @@
 -- A call that has an entry for its match, which is read with a partner, matches over the models.
 use Rattle.std.specs.Prelude.{◌≡◌, ◌≢◌, ◌⊎◌, ◌<◌, ◌≤◌, ℕ, zero, suc, Bool, true, false, List, [], ◌∷◌, map, length, replicate, Option, None, Some, is_some, slice_get, slice_set, Contains, if◌then◌else◌}
-use Rattle.std.specs.List.{range_with_len}
 use Rattle.std.specs.Option.{option_or}
-use Rattle.std.proofs.Common.{refl, ap, sym, ◌∙◌, subst, arith, inl, inr, get_or, eqb, true≢false}
-use Rattle.std.proofs.lemmas.Bool.{cases_lt}
+use Rattle.std.proofs.Common.{refl, ap, sym, ◌∙◌, subst, arith, inl, inr, eqb, true≢false}
 use Rattle.std.proofs.lemmas.Bool.Decides.{eqb_tells}
-use Rattle.std.proofs.lemmas.List.{get_or_past, get_or-set_same, get_or-set_other, length-set, length-replicate}
+use Rattle.std.proofs.lemmas.List.{get_or-set_same, get_or-set_other, length-set, length-replicate}
 use Rattle.std.proofs.lemmas.List.FromFn.{get_or-map-range_with_len, length-map-range_with_len}
 use Rattle.mof_metamodel.specs.declared.desc.MetaDesc.{MetaDesc}
 use Rattle.object_tables.specs.Models.{ModelData}
@@ -15,8 +13,7 @@ use Rattle.qv_syntax.specs.declared.program.Dom.{Dom}
 use Rattle.qv_syntax.specs.WellFormed.{IsWellFormed}
 use Rattle.qvtr_semantics.specs.declared.datum.Datum.{Datum}
 use Rattle.qvtr_semantics.specs.Templates.{Values, value_at}
-use Rattle.qvtr_semantics.specs.Bindings.{Target}
-use Rattle.qvtr_semantics.specs.Calls.{RelationCall, SourceMatches, TargetHolds, AllAsked, Match, Holds, calls_of, free}
+use Rattle.qvtr_semantics.specs.Calls.{RelationCall, SourceMatches, TargetHolds, AllAsked, Match, Holds, free}
 use Rattle.template_match.proofs.ListLaws.{contains_first, contains_later}
 use Rattle.source_laws.specs.SourceRelations.{KeepsToSources}
 use Rattle.source_laws.specs.TargetRule.{HandsTargetOn}
@@ -27,8 +24,8 @@ use Rattle.repair_semantics.specs.declared.term.TermValue.{TermValue}
 use Rattle.repair_semantics.specs.declared.entry.Entry.{Entry}
 use Rattle.repair_semantics.specs.declared.entry.EntryName.{EntryName}
 use Rattle.repair_semantics.specs.EntryValues.{TermValues, value_of, no_values, with_roots, root_values}
-use Rattle.repair_semantics.specs.Making.{variables, entry_known, others_in, made_values}
-use Rattle.repair_semantics.specs.Entries.{entry_of, entry_values, roots_in, entry_roots, IsMatchFor, IsEntryWith, IsEntry}
+use Rattle.repair_semantics.specs.Making.{variables, entry_known, made_values}
+use Rattle.repair_semantics.specs.Entries.{entry_of, entry_values, roots_in, IsMatchFor, IsEntry}
 use Rattle.reading_laws.specs.Readings.{Numbering, read_value, Reads, ReadsCall}
 use Rattle.relation_calls.proofs.CallLaws.{match_is}
 use Rattle.repair_laws.specs.EntryReadings.{IsEntryOf, IsReadAs}

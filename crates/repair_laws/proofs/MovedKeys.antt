@@ -1,43 +1,27 @@
 -- In a model that is the same as a reading an object holds the images of a term's key values exactly where the term's object goes to it.
-use Rattle.std.specs.Prelude.{◌≡◌, ◌<◌, ◌+◌, ℕ, zero, suc, Bool, true, false, ◌&&◌, ◌||◌, not, ◌==◌, cond, List, [], ◌∷◌, map, length, Option, None, Some, Contains}
-use Rattle.std.specs.List.{filter, filter_map, list_any, range_with_len}
+use Rattle.std.specs.Prelude.{◌≡◌, ◌<◌, ◌+◌, ℕ, Bool, true, ◌&&◌, ◌||◌, ◌==◌, List, [], ◌∷◌, map, Option, None, Some, Contains}
 use Rattle.std.specs.Option.{option_map}
-use Rattle.std.proofs.Common.{refl, ap, sym, ◌∙◌, subst, arith, get_or, true≢false}
-use Rattle.std.proofs.lemmas.Bool.Decides.{nat_tests}
-use Rattle.std.proofs.lemmas.List.FromFn.{get_or-range_with_len, length-range_with_len}
-use Rattle.mof_metamodel.specs.declared.desc.ClassId.{ClassId}
-use Rattle.mof_metamodel.specs.declared.desc.MetaDesc.{MetaDesc}
+use Rattle.std.proofs.Common.{refl, ap, sym, ◌∙◌, true≢false}
 use Rattle.mof_metamodel.specs.declared.desc.PropId.{PropId}
 use Rattle.mof_metamodel.specs.Metamodels.{prop_at}
-use Rattle.object_tables.specs.Models.{ModelData, class_at}
+use Rattle.object_tables.specs.Models.{ModelData}
 use Rattle.object_tables.specs.Validity.{Valid}
 use Rattle.object_tables.specs.Sameness.{IsSame}
-use Rattle.object_tables.proofs.ListLemmas.{Contains-from_map}
-use Rattle.object_tables.proofs.ContainmentLemmas.{live-below}
-use Rattle.object_tables.proofs.SlotLemmas.{Contains-to_filter}
 use Rattle.qv_syntax.specs.declared.program.Program.{Program}
-use Rattle.qvtr_semantics.specs.declared.datum.Datum.{Datum}
-use Rattle.qvtr_semantics.specs.Objects.{is_number_among, conforms_if, conforms_at, extent_of}
-use Rattle.template_match.proofs.ListLaws.{contains_first, contains_later, any_from}
-use Rattle.repair_semantics.specs.declared.term.Term.{Term, roll-Term, out-Term, roll-out-Term, out-roll-Term, map-Term, ind-Term}
-use Rattle.repair_semantics.specs.declared.term.TermValue.{TermValue, roll-TermValue, out-TermValue, roll-out-TermValue, out-roll-TermValue, map-TermValue}
+use Rattle.qvtr_semantics.specs.Objects.{conforms_at}
+use Rattle.template_match.proofs.ListLaws.{contains_first, contains_later}
+use Rattle.repair_semantics.specs.declared.term.Term.{Term, out-Term}
+use Rattle.repair_semantics.specs.declared.term.TermValue.{TermValue, roll-TermValue, out-TermValue, roll-out-TermValue}
 use Rattle.repair_semantics.specs.declared.term.TermValue.TheOpen as of
-use Rattle.repair_semantics.specs.declared.demand.Demand.{Demand}
 use Rattle.repair_semantics.specs.Terms.{term_in, term_part}
-use Rattle.repair_semantics.specs.TargetItems.{key_of}
-use Rattle.repair_semantics.specs.Demands.{demanded_terms}
 use Rattle.repair_semantics.specs.Claims.{Held, is_one}
 use Rattle.repair_semantics.specs.Conflicts.{held_in as value_held_in}
-use Rattle.repair_semantics.specs.Images.{held_in, holds, holds_key, first_number, object_with_key, image}
-use Rattle.repair_semantics.specs.Deletions.{managed_classes, images_of, is_unneeded}
-use Rattle.repair_semantics.specs.Candidates.{held_by_number, candidate}
-use Rattle.repair_semantics.proofs.TermLaws.{image_of_value, image_is, image_of_datum, image_of_term}
-use Rattle.reading_laws.specs.Keyed.{TellsByKeys}
-use Rattle.reading_laws.specs.Readings.{Numbering, held_as, HoldsKeyOf, IsReading, HaveObjects, Stands, AllStand}
+use Rattle.repair_semantics.specs.Images.{held_in, holds, holds_key, image}
+use Rattle.repair_semantics.specs.Candidates.{held_by_number}
+use Rattle.repair_semantics.proofs.TermLaws.{image_of_value}
+use Rattle.reading_laws.specs.Readings.{Numbering, held_as, IsReading}
 use Rattle.repair_laws.proofs.HeldLaws.{first_holds, second_holds, one_held, few_held}
-use Rattle.repair_laws.proofs.ImageLaws.{term_found}
-use Rattle.repair_laws.proofs.DemandLaws.{in_filter_map}
-use Rattle.repair_laws.proofs.MovedLaws.{moved, conforming_is_live, conforms_moved, conforms_back, to_from, from_to, holds_moved}
+use Rattle.repair_laws.proofs.MovedLaws.{moved, from_to, holds_moved}
 
 module _ (program : Program) (m n : ModelData) (same : IsSame m n) (valid : Valid m) (valid_there : Valid n) (terms : List Term) (number : Numbering) (r : IsReading program m terms number) where
   abbrev to : ℕ → ℕ

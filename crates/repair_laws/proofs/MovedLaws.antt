@@ -1,16 +1,13 @@
 -- A model that is the same as another one holds what that holds, objects under their other numbers.
-use Rattle.std.specs.Prelude.{◌≡◌, ℕ, Bool, true, false, List, [], ◌∷◌, map, length, Option, None, Some, Contains, IsSome, if◌then◌else◌}
+use Rattle.std.specs.Prelude.{◌≡◌, ℕ, Bool, true, false, List, [], ◌∷◌, map, length, Option, None, Some, Contains, if◌then◌else◌}
 use Rattle.std.specs.List.{list_any}
-use Rattle.std.specs.Option.{option_map}
 use Rattle.std.proofs.Common.{refl, ap, sym, ◌∙◌, subst, arith, inl, inr, true≢false}
 use Rattle.mof_metamodel.specs.declared.desc.MetaDesc.{MetaDesc}
-use Rattle.mof_metamodel.specs.declared.desc.PropId.{PropId}
-use Rattle.mof_metamodel.specs.Metamodels.{props_of, type_of}
-use Rattle.object_tables.specs.Objects.{Object}
-use Rattle.object_tables.specs.Models.{ModelData, object_at, class_at, is_class_type, values_at, partners_at, IsLive}
-use Rattle.object_tables.specs.Validity.{Valid, count_at, IsPropertyOf}
+use Rattle.mof_metamodel.specs.Metamodels.{type_of}
+use Rattle.object_tables.specs.Models.{ModelData, class_at, is_class_type, values_at, partners_at, IsLive}
+use Rattle.object_tables.specs.Validity.{Valid, IsPropertyOf}
 use Rattle.object_tables.specs.Sameness.{IsSame}
-use Rattle.object_tables.proofs.ListLemmas.{Contains-map, Contains-from_map}
+use Rattle.object_tables.proofs.ListLemmas.{Contains-map}
 use Rattle.object_tables.proofs.ModelLemmas.{live_from_class}
 use Rattle.template_match.proofs.ListLaws.{any_from}
 use Rattle.qv_syntax.specs.declared.program.Program.{Program}

@@ -1,7 +1,7 @@
 -- A binding of a relation with its partner, with free roots, is one with the roots that a call gives, where the partner has these: the roots that
 -- the binding lacks are added to it.
-use Rattle.std.specs.Prelude.{◌≡◌, ◌≢◌, ◌⊎◌, ◌<◌, ◌≤◌, ℕ, zero, suc, Bool, true, false, ◌&&◌, not, ◌==◌, List, [], ◌∷◌, map, length, replicate, Option, None, Some, slice_get, Contains, IsTrue}
-use Rattle.std.specs.List.{list_all, filter}
+use Rattle.std.specs.Prelude.{◌≡◌, ◌≢◌, ◌⊎◌, ◌<◌, ◌≤◌, ℕ, zero, suc, true, false, ◌&&◌, not, ◌==◌, List, [], ◌∷◌, map, length, replicate, Option, None, Some, slice_get, Contains}
+use Rattle.std.specs.List.{list_all}
 use Rattle.std.specs.Option.{option_or}
 use Rattle.std.proofs.Common.{refl, ap, sym, ◌∙◌, subst, arith, inl, inr, true≢false}
 use Rattle.std.proofs.lemmas.Bool.{and_parts}
@@ -13,30 +13,27 @@ use Rattle.qv_syntax.specs.declared.program.Program.{Program}
 use Rattle.qv_syntax.specs.declared.program.Rel.{Rel}
 use Rattle.qv_syntax.specs.declared.program.Var.{Var}
 use Rattle.qv_syntax.specs.declared.program.Dom.{Dom}
-use Rattle.qv_syntax.specs.declared.program.Tmpl.{Tmpl, out-Tmpl}
 use Rattle.qv_syntax.specs.declared.program.Conj.{Conj}
 use Rattle.qv_syntax.specs.declared.program.Conj.TheVariants as conjuncts
 use Rattle.qv_syntax.specs.declared.typed.Typed.{Typed}
 use Rattle.qv_syntax.specs.Parts.{Names, IsNested}
-use Rattle.qv_syntax.specs.Relations.{IsModelDomain, IsSourceDomain, IsTemplateOf, IsUniversal, OccursInTemplates, OccursInClause}
+use Rattle.qv_syntax.specs.Relations.{IsModelDomain, IsTemplateOf, IsUniversal, OccursInTemplates, OccursInClause}
 use Rattle.qv_syntax.specs.WellFormed.{IsWellFormed}
 use Rattle.qvtr_semantics.specs.declared.datum.Datum.{Datum}
-use Rattle.qvtr_semantics.specs.declared.out.Out.{Out}
 use Rattle.qvtr_semantics.specs.declared.out.Out.TheVariants as outs
 use Rattle.qvtr_semantics.specs.Outs.{datum_of, all_given}
 use Rattle.qvtr_semantics.specs.Expressions.{variable, scope_of, bound_value, setting, queries_within, value_for}
 use Rattle.qvtr_semantics.specs.Templates.{Values, value_at}
-use Rattle.qvtr_semantics.specs.Bindings.{is_model, is_value_for, have_values, source_meets, conjunct_holds, is_target_domain, Source, Target}
+use Rattle.qvtr_semantics.specs.Bindings.{is_model, is_value_for, have_values, source_meets, conjunct_holds, Source, Target}
 use Rattle.qvtr_semantics.specs.Calls.{free, call_with, call_of, calls_of}
 use Rattle.template_match.specs.Sources.{is_of_target, is_target_variable, source_variables, meets_without_target}
-use Rattle.template_match.specs.Ready.{has_place, is_known, is_ready}
+use Rattle.template_match.specs.Ready.{is_known}
 use Rattle.template_match.proofs.ListLaws.{contains_first, contains_later, list_all_at}
 use Rattle.template_match.proofs.ReadyLaws.{ready_from_known}
 use Rattle.template_match.proofs.SteadyLaws.{steady}
-use Rattle.source_laws.specs.Agreement.{AgreeBut}
 use Rattle.source_laws.specs.SourceRelations.{KeepsToSources, AgreeOnSources}
 use Rattle.source_laws.proofs.BindingLaws.{all_same, found_within, meets_same}
-use Rattle.source_laws.proofs.RuleLaws.{target_is, model_domain}
+use Rattle.source_laws.proofs.RuleLaws.{model_domain}
 
 some_one : {X : Type 0} (x y : X) → Some x ≡ Some y → x ≡ y
 some_one x y h = cc

@@ -1,12 +1,11 @@
 -- In a model that is the same as a reading each term's image is what its object goes to; so demands that stand in the reading stand there, and
 -- no object is unneeded.
-use Rattle.std.specs.Prelude.{◌≡◌, ◌<◌, ◌+◌, ℕ, zero, suc, Bool, true, false, ◌&&◌, ◌||◌, not, ◌==◌, cond, List, [], ◌∷◌, map, length, Option, None, Some, Contains}
-use Rattle.std.specs.List.{filter, filter_map, list_any, range_with_len}
+use Rattle.std.specs.Prelude.{◌≡◌, ◌<◌, ◌+◌, ℕ, zero, suc, Bool, true, false, ◌&&◌, ◌||◌, not, ◌==◌, List, [], ◌∷◌, map, length, Option, None, Some, Contains}
+use Rattle.std.specs.List.{filter, list_any, range_with_len}
 use Rattle.std.specs.Option.{option_map}
-use Rattle.std.proofs.Common.{refl, ap, sym, ◌∙◌, subst, arith, get_or, true≢false}
+use Rattle.std.proofs.Common.{refl, ap, sym, ◌∙◌, subst, arith, true≢false}
 use Rattle.std.proofs.lemmas.Bool.Decides.{nat_tests}
 use Rattle.std.proofs.lemmas.List.FromFn.{get_or-range_with_len, length-range_with_len}
-use Rattle.mof_metamodel.specs.declared.desc.ClassId.{ClassId}
 use Rattle.mof_metamodel.specs.declared.desc.MetaDesc.{MetaDesc}
 use Rattle.mof_metamodel.specs.declared.desc.PropId.{PropId}
 use Rattle.mof_metamodel.specs.Metamodels.{prop_at}
@@ -17,11 +16,10 @@ use Rattle.object_tables.proofs.ListLemmas.{Contains-from_map}
 use Rattle.object_tables.proofs.ContainmentLemmas.{live-below}
 use Rattle.object_tables.proofs.SlotLemmas.{Contains-to_filter}
 use Rattle.qv_syntax.specs.declared.program.Program.{Program}
-use Rattle.qvtr_semantics.specs.declared.datum.Datum.{Datum}
 use Rattle.qvtr_semantics.specs.Objects.{is_number_among, conforms_if, conforms_at, extent_of}
-use Rattle.template_match.proofs.ListLaws.{contains_first, contains_later, any_from}
+use Rattle.template_match.proofs.ListLaws.{any_from}
 use Rattle.repair_semantics.specs.declared.term.Term.{Term, roll-Term, out-Term, roll-out-Term, out-roll-Term, map-Term, ind-Term}
-use Rattle.repair_semantics.specs.declared.term.TermValue.{TermValue, roll-TermValue, out-TermValue, roll-out-TermValue, out-roll-TermValue, map-TermValue}
+use Rattle.repair_semantics.specs.declared.term.TermValue.{TermValue, roll-TermValue, out-TermValue, out-roll-TermValue, map-TermValue}
 use Rattle.repair_semantics.specs.declared.term.TermValue.TheOpen as of
 use Rattle.repair_semantics.specs.declared.demand.Demand.{Demand}
 use Rattle.repair_semantics.specs.Terms.{term_in, term_part}
@@ -29,16 +27,15 @@ use Rattle.repair_semantics.specs.TargetItems.{key_of}
 use Rattle.repair_semantics.specs.Demands.{demanded_terms}
 use Rattle.repair_semantics.specs.Claims.{Held, is_one}
 use Rattle.repair_semantics.specs.Conflicts.{held_in as value_held_in}
-use Rattle.repair_semantics.specs.Images.{held_in, holds, holds_key, first_number, object_with_key, image}
+use Rattle.repair_semantics.specs.Images.{holds, holds_key, first_number, object_with_key, image}
 use Rattle.repair_semantics.specs.Deletions.{managed_classes, images_of, is_unneeded}
 use Rattle.repair_semantics.specs.Candidates.{held_by_number, candidate}
 use Rattle.repair_semantics.proofs.TermLaws.{image_of_value, image_is, image_of_datum, image_of_term}
 use Rattle.reading_laws.specs.Keyed.{TellsByKeys}
 use Rattle.reading_laws.specs.Readings.{Numbering, held_as, HoldsKeyOf, IsReading, HaveObjects, Stands, AllStand}
-use Rattle.repair_laws.proofs.HeldLaws.{first_holds, second_holds, one_held, few_held}
 use Rattle.repair_laws.proofs.ImageLaws.{term_found}
 use Rattle.repair_laws.proofs.DemandLaws.{in_filter_map}
-use Rattle.repair_laws.proofs.MovedLaws.{moved, conforming_is_live, conforms_moved, conforms_back, to_from, from_to, holds_moved}
+use Rattle.repair_laws.proofs.MovedLaws.{moved, conforming_is_live, conforms_moved, conforms_back, to_from, holds_moved}
 use Rattle.repair_laws.proofs.MovedKeys.{ValueMoved as IsMovedValue, TermMoved as IsMovedTerm, Single as AreSingle, keys_moved, one_key}
 use Rattle.repair_laws.proofs.TermListLaws.{owner_demanded, value_demanded, standing_terms}
 use Rattle.repair_laws.proofs.UnchangedLaws.{nothing_changes}

@@ -1,6 +1,6 @@
 -- Enforcement needs no second look: what it makes satisfies the relations; a target that satisfies them stays, where no object is unneeded; and so
 -- does what enforcement made.
-use Rattle.std.specs.Prelude.{◌≡◌, ◌≢◌, ◌⊎◌, ℕ, zero, suc, true, false, List, [], ◌∷◌, Option, None, Some, slice_get, slice_set, Contains}
+use Rattle.std.specs.Prelude.{◌≡◌, ◌≢◌, ◌⊎◌, ℕ, zero, suc, true, false, List, [], ◌∷◌, Option, Some, slice_get, slice_set, Contains}
 use Rattle.std.specs.Option.{option_map_or}
 use Rattle.std.proofs.Common.{refl, ap, sym, ◌∙◌, subst, arith, inl, inr, eqb}
 use Rattle.std.proofs.lemmas.Bool.Decides.{eqb_tells}
@@ -10,7 +10,6 @@ use Rattle.object_tables.specs.Models.{ModelData}
 use Rattle.object_tables.specs.Validity.{Valid}
 use Rattle.object_tables.specs.Sameness.{IsSame}
 use Rattle.object_tables.proofs.SamenessLemmas.{same_as_equal}
-use Rattle.qv_syntax.specs.declared.query.ModelSlot.{ModelSlot}
 use Rattle.qv_syntax.specs.declared.program.Program.{Program}
 use Rattle.qv_syntax.specs.WellFormed.{IsWellFormed}
 use Rattle.qvtr_semantics.specs.Expressions.{setting}
@@ -21,10 +20,7 @@ use Rattle.template_match.proofs.ListLaws.{contains_left, contains_right}
 use Rattle.evaluation_laws.specs.Evaluable.{IsEvaluable}
 use Rattle.evaluation_laws.specs.TypedValues.{IsModelFor, AreModels}
 use Rattle.source_laws.specs.Agreement.{AgreeBut}
-use Rattle.source_laws.specs.TargetRule.{HandsTargetOn}
 use Rattle.source_laws.proofs.BindingLaws.{opposite}
-use Rattle.source_laws.proofs.RuleLaws.{rule_keeps}
-use Rattle.enforceable_sources.proofs.EnforceableLaws.{enforceable_hands_on}
 use Rattle.enforcement_rules.specs.TargetParts.{target_desc}
 use Rattle.repair_semantics.specs.declared.term.Term.{Term}
 use Rattle.repair_semantics.specs.declared.entry.Entry.{Entry}
@@ -40,18 +36,17 @@ use Rattle.repair_semantics.proofs.EntryOrderLaws.{entries_once}
 use Rattle.reading_laws.specs.Keyed.{TellsByKeys}
 use Rattle.reading_laws.specs.Readings.{Numbering, IsReading, AreOver, HaveObjects, AllStand}
 use Rattle.reading_laws.specs.EntryPremises.{EntriesHaveTerms, EntriesAreMet, EntriesStand}
-use Rattle.reading_laws.proofs.EntryRoots.{entry_rooted}
 use Rattle.reading_laws.proofs.EntryTime.{all_met}
 use Rattle.reading_laws.proofs.EntryGround.{Ground}
 use Rattle.reading_laws.proofs.EntryClosed.{ground, meets}
 use Rattle.reading_laws.proofs.HoldEntries.{satisfied}
 use Rattle.reading_laws.proofs.ChainEntries.{no_cyclic, none_deep}
-use Rattle.reading_laws.proofs.MeetingTypes.{entry_typed}
 use Rattle.repair_laws.specs.Closed.{AreClosed}
 use Rattle.repair_laws.specs.Enforced.{AreEnforced, HaveTypedData}
 use Rattle.repair_laws.specs.Repairs.{CanBeRepaired, with_target, repaired_models}
 use Rattle.repair_laws.proofs.ImageLaws.{one_image_one_term}
 use Rattle.repair_laws.proofs.CandidateReading.{closed}
+use Rattle.repair_laws.proofs.TypedData.{typed_data}
 use Rattle.repair_laws.proofs.EnforcedReading.{over_described, terms_enforced, keys_enforced, tells_enforced, all_go, enforced_reads, enforced_stand}
 use Rattle.repair_laws.proofs.ImageReadings.{images_read}
 use Rattle.repair_laws.proofs.TermListLaws.{standing_terms}
@@ -117,7 +112,7 @@ module _ (metas : List MetaDesc) (program : Program) (models : List ModelData) (
     metamodel = metamodel;
     described = described.0;
     well = described.1;
-    are = c.all;
+    are = c.made;
     met = met;
   }
 
@@ -128,10 +123,7 @@ module _ (metas : List MetaDesc) (program : Program) (models : List ModelData) (
   among = terms_enforced metas program models m entries enforced
 
   typed : HaveTypedData metas program models
-  typed e rel is found x =
-      let r = entry_rooted metas program models c.evaluable c.enforceable e is rel found in
-      let hands : HandsTargetOn program rel = enforceable_hands_on metas program well e.rel rel c.enforceable found r.direction in
-      entry_typed metas program models c.evaluable e.rel rel found (rule_keeps metas program well e.rel rel found hands) r.roots e.values r.source r.has x
+  typed = typed_data metas program models c.evaluable c.enforceable
 
   all_closed : AreClosed program terms
   all_closed = closed program m demands c.valid c.repaired c.few tells (keys_enforced metas program models m entries enforced) (all_go metas program models m entries enforced typed)
@@ -155,7 +147,7 @@ module _ (metas : List MetaDesc) (program : Program) (models : List ModelData) (
       let reading : IsReading program m terms (image program m) =
       images_read program m terms needed (λ t u n ht hu it iu. one_image_one_term program m terms c.valid tells all_closed t ht u n it iu) all_closed.within in
       let base : Ground metas program models models m terms (image program m) = ground metas program models models m terms (image program m) over_target reading among met in
-      satisfied_is_settled metas program models m entries c.target c.valid well c.enforceable holds (entries_read metas program models m terms (image program m) base) c.all.only needed
+      satisfied_is_settled metas program models m entries c.target c.valid well c.enforceable holds (entries_read metas program models m terms (image program m) base) c.made.only needed
 
   pub target_is_same : Satisfied program models → ((o : ℕ) → is_unneeded m (managed_classes program) (images_of program m terms) o ≡ false) → IsSame m (candidate program m demands)
   target_is_same holds needed = same_as_equal m (candidate program m demands) (target_stays holds needed)
@@ -209,7 +201,7 @@ module _ (metas : List MetaDesc) (program : Program) (models : List ModelData) (
   have_made = standing_terms program made number demands stand_made
 
   entries_stand : EntriesStand program models made number
-  entries_stand e is = let k = among_all program models entries 0 e (c.all.all e is) in (k.0, λ d has. stand_made d (k.1 d has))
+  entries_stand e is = let k = among_all program models entries 0 e (c.made.all e is) in (k.0, λ d has. stand_made d (k.1 d has))
 
   base_made : Ground metas program models repaired made terms number
   base_made = ground metas program models repaired made terms number over_made reading_made among_made met
@@ -261,15 +253,15 @@ module _ (metas : List MetaDesc) (program : Program) (models : List ModelData) (
     -- the entries are the same over the other target
     entries_others : AreEntries program others entries
     entries_others = record {
-      sorted = c.all.sorted;
-      only = λ e has. entry_moved metas program models others c.evaluable c.enforceable agree metas_same e (c.all.only e has);
-      all = λ e is. c.all.all e (entry_moved metas program others models evaluable_others c.enforceable (opposite program.target models others agree) (sym metas_same) e is);
+      sorted = c.made.sorted;
+      only = λ e has. entry_moved metas program models others c.evaluable c.enforceable agree metas_same e (c.made.only e has);
+      all = λ e is. c.made.all e (entry_moved metas program others models evaluable_others c.enforceable (opposite program.target models others agree) (sym metas_same) e is);
     }
 
     made_stays_by : (asked : List Entry) → asked ≡ entries → candidate program n (demands_of program others asked) ≡ n
     made_stays_by asked is =
         let one : demands_of program others asked ≡ demands =
-        ap (demands_of program others) is ∙ sym (demands_same metas program models others c.evaluable c.enforceable agree metas_same entries c.all.only) in
+        ap (demands_of program others) is ∙ sym (demands_same metas program models others c.evaluable c.enforceable agree metas_same entries c.made.only) in
         ap (candidate program n) one ∙ made_stays n same valid
 
     -- of all entries there is one list

@@ -1,6 +1,6 @@
 -- Over a target where the relations are satisfied all demands stand; so, where besides no object is unneeded, the model that enforcement makes is
 -- the target.
-use Rattle.std.specs.Prelude.{◌≡◌, ◌⊎◌, ℕ, zero, suc, Bool, true, false, ◌&&◌, List, [], ◌∷◌, ◌++◌, Option, None, Some, slice_get, Contains, if◌then◌else◌}
+use Rattle.std.specs.Prelude.{◌≡◌, ◌⊎◌, ℕ, suc, Bool, true, false, ◌&&◌, List, [], ◌∷◌, ◌++◌, Option, None, Some, slice_get, Contains, if◌then◌else◌}
 use Rattle.std.specs.List.{list_all}
 use Rattle.std.specs.Option.{option_map_or}
 use Rattle.std.proofs.Common.{refl, ap, sym, ◌∙◌, subst, arith, inl, inr, true≢false}
@@ -13,17 +13,14 @@ use Rattle.qv_syntax.specs.declared.program.Program.{Program}
 use Rattle.qv_syntax.specs.declared.program.Rel.{Rel}
 use Rattle.qv_syntax.specs.WellFormed.{IsWellFormed}
 use Rattle.enforcement_rules.specs.Rules.{IsEnforceable}
-use Rattle.qv_syntax.specs.declared.program.Tmpl.{Tmpl}
-use Rattle.qvtr_semantics.specs.Templates.{Values, meets}
-use Rattle.qvtr_semantics.specs.Bindings.{have_values, target_meets, conjunct_holds, Target}
+use Rattle.qvtr_semantics.specs.Templates.{meets}
+use Rattle.qvtr_semantics.specs.Bindings.{have_values, target_meets, conjunct_holds}
 use Rattle.qvtr_semantics.specs.Satisfaction.{Satisfied}
 use Rattle.template_match.proofs.ListLaws.{contains_first, contains_later}
-use Rattle.repair_semantics.specs.declared.term.Term.{Term}
 use Rattle.repair_semantics.specs.declared.demand.Demand.{Demand}
 use Rattle.repair_semantics.specs.declared.entry.Entry.{Entry}
 use Rattle.repair_semantics.specs.TargetItems.{target_items}
 use Rattle.repair_semantics.specs.Making.{entry_known}
-use Rattle.repair_semantics.specs.Unmet.{is_unmet}
 use Rattle.repair_semantics.specs.Entries.{IsEntry}
 use Rattle.repair_semantics.specs.Demands.{item_demands, demands_where, entry_demands, demands_from, demands_of, demanded_terms}
 use Rattle.repair_semantics.specs.Claims.{Held}
@@ -31,9 +28,8 @@ use Rattle.repair_semantics.specs.Images.{holds, image}
 use Rattle.repair_semantics.specs.Deletions.{managed_classes, images_of, is_unneeded}
 use Rattle.repair_semantics.specs.Candidates.{candidate}
 use Rattle.reading_laws.specs.Readings.{Numbering, held_as, Stands, AllStand}
-use Rattle.reading_laws.specs.Matching.{HoldsThroughout}
 use Rattle.repair_laws.specs.EntryReadings.{IsEntryOf, IsReadAs, AreEntriesRead}
-use Rattle.repair_laws.proofs.FoundLaws.{NotNot, IsRead, Found, entry_found}
+use Rattle.repair_laws.proofs.FoundLaws.{NotNot, IsRead, entry_found}
 use Rattle.repair_laws.proofs.StandLaws.{items_stand}
 use Rattle.repair_laws.proofs.TermListLaws.{standing_terms}
 use Rattle.repair_laws.proofs.UnchangedLaws.{nothing_changes}

@@ -1,13 +1,12 @@
 -- Where the values of an entry are read as those of a partner, what the entry demands stands in the target.
-use Rattle.std.specs.Prelude.{◌≡◌, ◌≢◌, ◌⊎◌, ℕ, zero, suc, Bool, true, false, ◌&&◌, ◌||◌, not, ◌==◌, cond, List, [], ◌∷◌, map, length, Option, None, Some, slice_get, Contains, IsTrue, if◌then◌else◌}
-use Rattle.std.specs.List.{find, list_any, list_all, filter_map, cons_option}
+use Rattle.std.specs.Prelude.{◌≡◌, ◌≢◌, ◌⊎◌, ℕ, zero, suc, Bool, true, false, ◌&&◌, ◌||◌, not, ◌==◌, cond, List, [], ◌∷◌, map, Option, None, Some, slice_get, Contains, if◌then◌else◌}
+use Rattle.std.specs.List.{find, list_all}
 use Rattle.std.specs.Option.{option_map, option_map_or, option_and_then}
-use Rattle.std.proofs.Common.{refl, ap, sym, ◌∙◌, subst, arith, inl, inr, true≢false}
+use Rattle.std.proofs.Common.{refl, ap, sym, ◌∙◌, subst, arith, true≢false}
 use Rattle.std.proofs.lemmas.Bool.{and_parts}
-use Rattle.std.proofs.lemmas.Bool.Decides.{nat_tests}
 use Rattle.mof_metamodel.specs.declared.desc.PropId.{PropId}
 use Rattle.mof_metamodel.specs.Metamodels.{type_of, props_of}
-use Rattle.object_tables.specs.Models.{ModelData, class_at, is_class_type, values_at, partners_at, IsLinked}
+use Rattle.object_tables.specs.Models.{ModelData, class_at, is_class_type, values_at, partners_at}
 use Rattle.object_tables.specs.declared.value.Value.{Value}
 use Rattle.object_tables.specs.declared.value.Value.TheVariants as of_value
 use Rattle.object_tables.proofs.ListLemmas.{Contains-map, Contains-from_map}
@@ -18,12 +17,12 @@ use Rattle.qv_syntax.specs.declared.program.Tmpl.{Tmpl}
 use Rattle.qv_syntax.specs.declared.typed.Typed.{Typed}
 use Rattle.qvtr_semantics.specs.declared.datum.Datum.{Datum}
 use Rattle.qvtr_semantics.specs.declared.datum.Datum.TheVariants.{Obj, Val}
-use Rattle.qvtr_semantics.specs.Data.{is_among, same_datum}
+use Rattle.qvtr_semantics.specs.Data.{same_datum}
 use Rattle.qvtr_semantics.specs.Outs.{and_then, datum_of}
 use Rattle.qvtr_semantics.specs.Objects.{object_datum, value_datum, is_number_among, held_at, data_at}
 use Rattle.qvtr_semantics.specs.Expressions.{setting, value_for}
 use Rattle.qvtr_semantics.specs.Templates.{Values, value_at, has, meets}
-use Rattle.qvtr_semantics.specs.Bindings.{is_target_domain, template_meets, target_meets, have_values, conjunct_holds, Target}
+use Rattle.qvtr_semantics.specs.Bindings.{is_target_domain, template_meets, target_meets}
 use Rattle.template_match.proofs.ListLaws.{contains_first, contains_later, any_from}
 use Rattle.ocl_eval.specs.OrderLaws.{same_decides}
 use Rattle.source_laws.specs.SourceValues.{IsOfSources}
@@ -31,15 +30,13 @@ use Rattle.repair_semantics.specs.declared.term.Term.{Term}
 use Rattle.repair_semantics.specs.declared.term.TermValue.{TermValue, out-TermValue, roll-TermValue, roll-out-TermValue, out-roll-TermValue}
 use Rattle.repair_semantics.specs.declared.term.TermValue.TheVariants as values
 use Rattle.repair_semantics.specs.declared.term.TermValue.TheOpen as of
-use Rattle.repair_semantics.specs.declared.demand.Demand.{Demand}
-use Rattle.repair_semantics.specs.Terms.{term_in, term_part}
-use Rattle.repair_semantics.specs.EntryValues.{TermValues, value_of, term_of, Known, given_value}
+use Rattle.repair_semantics.specs.EntryValues.{term_of, Known, given_value}
 use Rattle.repair_semantics.specs.TargetItems.{Content, TargetItem, parts, target_domain, target_items, target_meta_number}
 use Rattle.repair_semantics.specs.Making.{content_value}
 use Rattle.repair_semantics.specs.Demands.{demand_by, item_demand, item_demands}
-use Rattle.repair_semantics.specs.Claims.{Held, same_held}
+use Rattle.repair_semantics.specs.Claims.{Held}
 use Rattle.repair_semantics.specs.Conflicts.{held_in as value_held_in}
-use Rattle.repair_semantics.specs.Images.{same_number, held_in, holds}
+use Rattle.repair_semantics.specs.Images.{held_in, holds}
 use Rattle.repair_semantics.specs.Candidates.{held_by_number}
 use Rattle.reading_laws.specs.Readings.{Numbering, held_as, read_part, read_value, Reads, Stands, AllStand}
 use Rattle.reading_laws.specs.Matching.{slot_holds, content_holds, item_holds, HoldsThroughout}

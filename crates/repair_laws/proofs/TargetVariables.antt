@@ -1,5 +1,5 @@
 -- Variables of the target, their classes, and the templates that declare them.
-use Rattle.std.specs.Prelude.{◌≡◌, ◌≢◌, ◌<◌, ◌⊎◌, ℕ, true, false, List, [], ◌==◌, length, Option, None, Some, slice_get, Contains}
+use Rattle.std.specs.Prelude.{◌≡◌, ◌≢◌, ◌<◌, ◌⊎◌, ℕ, true, List, [], ◌==◌, length, Option, None, Some, slice_get, Contains}
 use Rattle.std.specs.Option.{option_map}
 use Rattle.std.proofs.Common.{refl, ap, sym, ◌∙◌, subst, inl, inr, true≢false}
 use Rattle.std.proofs.lemmas.Option.{same_Some}

@@ -6,7 +6,7 @@ use Rattle.std.specs.Ordering.{is_eq, match_ordering}
 use Rattle.std.specs.declared.cmp.Ordering.{Ordering}
 use Rattle.std.specs.declared.cmp.Ordering.TheVariants.{Less, Equal, Greater}
 use Rattle.std.proofs.Common.{refl, ap, sym, ◌∙◌, subst, arith, inl, inr}
-use Rattle.template_match.proofs.ListLaws.{contains_first, contains_later, contains_left, contains_right}
+use Rattle.template_match.proofs.ListLaws.{contains_first, contains_later}
 use Rattle.object_tables.specs.Models.{ModelData}
 use Rattle.qv_syntax.specs.declared.program.Program.{Program}
 use Rattle.repair_semantics.specs.declared.term.Term.{Term}

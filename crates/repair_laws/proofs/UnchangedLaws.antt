@@ -2,7 +2,7 @@
 use Rattle.std.specs.Prelude.{◌≡◌, ◌<◌, ◌+◌, ℕ, zero, suc, Bool, true, false, ◌&&◌, ◌||◌, not, ◌==◌, cond, is_none, is_some, List, [], ◌∷◌, ◌++◌, map, length, Option, None, Some, Contains, if◌then◌else◌}
 use Rattle.std.specs.List.{list_any, filter, filter_map, flat_map, cons_option, range_with_len}
 use Rattle.std.specs.Option.{option_map, option_map_or, option_and_then}
-use Rattle.std.proofs.Common.{refl, ap, sym, ◌∙◌, subst, arith, get_or, true≢false}
+use Rattle.std.proofs.Common.{refl, ap, sym, ◌∙◌, subst, arith, get_or}
 use Rattle.std.proofs.lemmas.Bool.Decides.{nat_tests}
 use Rattle.std.proofs.lemmas.List.{get_or_default, get_or-map, length-map, ext_get_or, append-nil}
 use Rattle.std.proofs.lemmas.List.FromFn.{get_or-map-range_with_len, length-map-range_with_len}
@@ -10,7 +10,7 @@ use Rattle.mof_metamodel.specs.Metamodels.{props_of, type_of}
 use Rattle.object_tables.specs.declared.value.Value.{Value}
 use Rattle.object_tables.specs.declared.value.Value.TheVariants as values
 use Rattle.object_tables.specs.Objects.{Object, Slot}
-use Rattle.object_tables.specs.Models.{ModelData, object_at, class_at, is_class_type, values_at, partners_at, slot_in, index_of, no_slot, IsLinked}
+use Rattle.object_tables.specs.Models.{ModelData, object_at, class_at, is_class_type, values_at, partners_at, slot_in, no_slot}
 use Rattle.object_tables.specs.Validity.{Valid}
 use Rattle.object_tables.proofs.DistinctLemmas.{property_place}
 use Rattle.object_tables.proofs.KeptLemmas.{sound_of, linked_partner}
@@ -26,10 +26,10 @@ use Rattle.repair_semantics.specs.Claims.{Held, Fact, Spot, Said, Claim, claims_
 use Rattle.repair_semantics.specs.Conflicts.{fact_of}
 use Rattle.repair_semantics.specs.Images.{same_number, held_in, holds, image}
 use Rattle.repair_semantics.specs.Deletions.{managed_classes, images_of, is_unneeded, container_of, is_deleted, is_deleted_within, stays}
-use Rattle.repair_semantics.specs.CandidateObjects.{CandidateObject, fresh_terms, number_of, term_number, unused_ids}
-use Rattle.repair_semantics.specs.Candidates.{held_by_number, fact_by_number, claims_by_number, element_at, claimed_at, held_order, is_left, fact_at, kept_at, others_than, with_claimed, contents_at, value_held, partner_held, slot_with, slots_of, old_object, old_objects, fresh_objects, candidate_with, candidate}
+use Rattle.repair_semantics.specs.CandidateObjects.{CandidateObject, fresh_terms, number_of, term_number}
+use Rattle.repair_semantics.specs.Candidates.{held_by_number, fact_by_number, claims_by_number, element_at, claimed_at, held_order, is_left, fact_at, kept_at, with_claimed, contents_at, value_held, partner_held, slot_with, slots_of, old_object, old_objects, candidate_with, candidate}
 use Rattle.repair_semantics.specs.Terms.{each_once}
-use Rattle.reading_laws.specs.Readings.{Stands, AllStand, HaveObjects}
+use Rattle.reading_laws.specs.Readings.{AllStand, HaveObjects}
 use Rattle.repair_laws.proofs.ClaimLaws.{held_there, held_link, SaidStands, AllClaimed, both_claimed, fact_claimed, held_unopposed}
 
 -- ---- lists

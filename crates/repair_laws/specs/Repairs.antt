@@ -22,7 +22,7 @@ pub record CanBeRepaired (metas : List MetaDesc) (program : Program) (models : L
   pub enforceable : IsEnforceable metas program
   pub target : slice_get models program.target ≡ Some m
   pub valid : Valid m
-  pub all : AreEntries program models entries
+  pub made : AreEntries program models entries
   pub acyclic : (chain : List EntryName) → ¬ CyclicEntries program models chain
   pub short : (chain : List EntryName) → ¬ DeepEntries program models chain
   pub met : (e : Entry) → ¬ IsUnmet program models e

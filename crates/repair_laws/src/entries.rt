@@ -16,7 +16,7 @@ ghost use Rattle.repair_semantics.specs.Demands.{demands_of, demanded_terms};
 ghost use Rattle.reading_laws.specs.Readings.{HasTermsAmong};
 ghost use Rattle.repair_laws.specs.DemandedKeys.{IsDemandedByKey};
 ghost use Rattle.repair_laws.specs.Going.{GoesInto};
-ghost use Rattle.repair_laws.specs.Enforced.{AreEnforced, HaveTypedData};
+ghost use Rattle.repair_laws.specs.Enforced.{AreEnforced};
 
 /// Where no entry is unmet, each term that an entry has is demanded, and of a class that is a kind of its variable's; and each demanded term
 /// is of a class of which enforcement makes objects, and its key values are demanded (QVT 1.3, section 7.10.2).
@@ -28,11 +28,11 @@ pub fn terms_of_entries_are_demanded()
         → (t : Term) → Contains (demanded_terms (demands_of program sources entries)) t → IsDemandedByKey program m.meta (demands_of program sources entries) t }
 {}
 
-/// Where the data of entries are of their types, what is demanded goes into its slot: the property is one of the owner's class, a reference
+/// What is demanded goes into its slot: the property is one of the owner's class, a reference
 /// for an object, and an attribute for a datum, as one of the target's values is seen.
 pub fn demands_go_into_slots()
     ensures { (metas : List MetaDesc) (program : Program) (sources : List ModelData) (m : ModelData) (entries : List Entry) → AreEnforced metas program sources m entries
-        → HaveTypedData metas program sources → (d : Demand) → Contains (demands_of program sources entries) d → GoesInto program m d }
+        → (d : Demand) → Contains (demands_of program sources entries) d → GoesInto program m d }
 {}
 
 /// The term of a universal variable for objects of the target is that of a variable of a match: the variable stands alone as an argument of a call

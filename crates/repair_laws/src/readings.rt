@@ -13,7 +13,7 @@ ghost use Rattle.reading_laws.specs.Keyed.{TellsByKeys};
 ghost use Rattle.reading_laws.specs.Readings.{IsReading, HaveObjects, AllStand};
 ghost use Rattle.repair_laws.specs.DemandedKeys.{IsDemandedByKey};
 ghost use Rattle.repair_laws.specs.Going.{GoesInto};
-ghost use Rattle.repair_laws.specs.Enforced.{AreEnforced, HaveTypedData};
+ghost use Rattle.repair_laws.specs.Enforced.{AreEnforced};
 
 /// Where the key values of demanded terms are demanded, and what is demanded goes into its slot, the model that enforcement makes, if it is
 /// valid, is one in which these terms have objects, two of them two, and each object of a class of which enforcement makes objects is one of
@@ -34,12 +34,12 @@ pub fn candidates_are_readings()
 /// the demanded terms have objects, and all demands stand.
 pub fn enforced_models_are_readings()
     ensures reads { (metas : List MetaDesc) (program : Program) (sources : List ModelData) (m : ModelData) (entries : List Entry) → AreEnforced metas program sources m entries
-        → HaveTypedData metas program sources → Valid m → Valid (candidate program m (demands_of program sources entries))
+        → Valid m → Valid (candidate program m (demands_of program sources entries))
         → length (fresh_terms program m (demanded_terms (demands_of program sources entries))) + length m.objects ≤ 2 ^ 64
         → IsReading program (candidate program m (demands_of program sources entries)) (demanded_terms (demands_of program sources entries))
         (term_number program m (demanded_terms (demands_of program sources entries))) }
     ensures stand { (metas : List MetaDesc) (program : Program) (sources : List ModelData) (m : ModelData) (entries : List Entry) → AreEnforced metas program sources m entries
-        → HaveTypedData metas program sources → Valid m → Valid (candidate program m (demands_of program sources entries))
+        → Valid m → Valid (candidate program m (demands_of program sources entries))
         → length (fresh_terms program m (demanded_terms (demands_of program sources entries))) + length m.objects ≤ 2 ^ 64
         → AllStand program (candidate program m (demands_of program sources entries)) (term_number program m (demanded_terms (demands_of program sources entries)))
         (demands_of program sources entries) }
