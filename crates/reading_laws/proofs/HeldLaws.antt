@@ -34,7 +34,7 @@ alone_holds false e = e
 
 -- ---- what is held
 
-held_same : (h x : Held ℕ) → same_held same_number h x ≡ true → h ≡ x
+pub held_same : (h x : Held ℕ) → same_held same_number h x ≡ true → h ≡ x
 held_same (Held.datum d) (Held.datum e) s = ap (λ z. Held.datum z) ((same_decides d e).0 s)
 held_same (Held.object a) (Held.object b) s = let same : a ≡ b = grind (arith, nat_tests) in ap (λ z. Held.object z) same
 held_same (Held.datum d) (Held.object b) s = absurd (true≢false (sym s))
@@ -50,7 +50,7 @@ one_held (x ∷ y ∷ xs) h i few a b = absurd (omega (arith, few))
 
 -- ---- how many are held
 
-held_count : (program : Program) (m : ModelData) (o p : ℕ) → length (held_in program m o p) ≡ count_at m o p
+pub held_count : (program : Program) (m : ModelData) (o p : ℕ) → length (held_in program m o p) ≡ count_at m o p
 held_count program m o p = by (is_class_type (type_of m.meta p)) refl
   where
     by : (c : Bool) → is_class_type (type_of m.meta p) ≡ c → length (held_in program m o p) ≡ count_at m o p
@@ -58,7 +58,7 @@ held_count program m o p = by (is_class_type (type_of m.meta p)) refl
     by false is = rw is (length-map (values_at m o p) (λ v. Held.datum (value_datum (target_meta_number program) v)))
 
 -- an object has nothing but at properties of its class
-counted_at : (m : ModelData) (o p : ℕ) → ((ob : Object) → object_at m o ≡ Some ob → length ob.slots ≡ length (props_of m.meta ob.class))
+pub counted_at : (m : ModelData) (o p : ℕ) → ((ob : Object) → object_at m o ≡ Some ob → length ob.slots ≡ length (props_of m.meta ob.class))
     → IsPropertyOf m o p ⊎ (count_at m o p ≡ 0)
 counted_at m o p slotted = of_object (object_at m o) refl
   where

@@ -16,7 +16,7 @@ use Rattle.repair_semantics.specs.TargetItems.{target_meta_number}
 use Rattle.repair_semantics.specs.Claims.{Held, Spot, Said, Claim, part_claim, opposite_claims, claims_of, is_single_spot, same_held, same_spot, same_said, are_against, is_against}
 use Rattle.repair_semantics.specs.Images.{same_number, held_in, holds}
 use Rattle.repair_semantics.specs.Candidates.{fact_at}
-use Rattle.repair_laws.proofs.HeldLaws.{first_holds, second_holds, one_held, few_held}
+use Rattle.reading_laws.proofs.HeldLaws.{first_holds, second_holds, one_held, few_held}
 
 -- ---- tests
 

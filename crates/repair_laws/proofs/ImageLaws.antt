@@ -25,7 +25,7 @@ use Rattle.repair_semantics.proofs.TermLaws.{image_of_value, image_is, image_of_
 use Rattle.repair_semantics.specs.Deletions.{managed_classes}
 use Rattle.reading_laws.specs.Keyed.{TellsByKeys}
 use Rattle.repair_laws.specs.Closed.{AreClosed}
-use Rattle.repair_laws.proofs.HeldLaws.{first_holds, second_holds, one_held, few_held}
+use Rattle.reading_laws.proofs.HeldLaws.{first_holds, second_holds, one_held, few_held}
 
 -- ---- the first number of a list that passes a test
 

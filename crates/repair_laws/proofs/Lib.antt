@@ -1,4 +1,3 @@
-mod HeldLaws
 mod ItemParts
 mod ManagedLaws
 mod KeyedLaws

@@ -20,7 +20,7 @@ use Rattle.repair_semantics.specs.Images.{held_in, holds, holds_key, image}
 use Rattle.repair_semantics.specs.Candidates.{held_by_number}
 use Rattle.repair_semantics.proofs.TermLaws.{image_of_value}
 use Rattle.reading_laws.specs.Readings.{Numbering, held_as, IsReading}
-use Rattle.repair_laws.proofs.HeldLaws.{first_holds, second_holds, one_held, few_held}
+use Rattle.reading_laws.proofs.HeldLaws.{first_holds, second_holds, one_held, few_held}
 use Rattle.repair_laws.proofs.MovedLaws.{moved, from_to, holds_moved}
 
 module _ (program : Program) (m n : ModelData) (same : IsSame m n) (valid : Valid m) (valid_there : Valid n) (terms : List Term) (number : Numbering) (r : IsReading program m terms number) where

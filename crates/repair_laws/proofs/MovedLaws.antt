@@ -16,7 +16,7 @@ use Rattle.qvtr_semantics.specs.Objects.{value_datum, conforms_if, conforms_at}
 use Rattle.repair_semantics.specs.TargetItems.{target_meta_number}
 use Rattle.repair_semantics.specs.Claims.{Held, same_held}
 use Rattle.repair_semantics.specs.Images.{same_number, held_in, holds}
-use Rattle.repair_laws.proofs.HeldLaws.{held_same, held_count, counted_at}
+use Rattle.reading_laws.proofs.HeldLaws.{held_same, held_count, counted_at}
 use Rattle.repair_laws.proofs.ClaimLaws.{held_there}
 
 -- what a slot holds, an object under another number
