@@ -13,7 +13,9 @@ use Rattle.mof_metamodel.specs.declared.desc.MetaDesc.{MetaDesc}
 use Rattle.mof_metamodel.specs.declared.desc.ClassDesc.{ClassDesc}
 use Rattle.mof_metamodel.specs.Metamodels.{class_count, class_at, no_class, supers_of, with_item, united, all_united, lineage_within, reached_classes, lineage_of, first_own, own_props, props_of, united_lists, inherited_props}
 use Rattle.mof_metamodel.specs.Tables.{IsGrounded}
-use Rattle.mof_metamodel.proofs.LineageLemmas.{Has, Contains-from_Has, Has-append_cases, Has-append_right, Has-append_left, Has-one, or_cases, or_left, or_right, all_united-cases, lineage_parts, lineage_sound, lineage_more, acyclic_from_grounded}
+use Rattle.mof_metamodel.proofs.LineageLemmas.{Has, Contains-from_Has, Has-append_cases, Has-append_right, Has-append_left, Has-one, or_cases, all_united-cases, lineage_parts, lineage_sound, lineage_more, acyclic_from_grounded}
+use Rattle.std.proofs.lemmas.Bool.{or_right}
+use Rattle.std.proofs.lemmas.Bool.{or_left}
 
 -- ---- items of joint lists
 

@@ -13,7 +13,11 @@ use Rattle.mof_metamodel.specs.Metamodels.{class_count, enum_count, class_at, en
 use Rattle.mof_metamodel.specs.WellMeta.{HasDistinctNames}
 use Rattle.mof_metamodel.specs.MetaFaults.{is_new_class, is_new_enum, duplicate_in_class, duplicate_in_enum, first_duplicate}
 use Rattle.mof_metamodel.proofs.PropLemmas.{from_flat_map, owner_listed, listed_has, prop_known, owner_of_own}
-use Rattle.mof_metamodel.proofs.SearchLemmas.{Apart, and_left, and_right, and_both, not_true, not_false, none_parts, none_both, unless_none, unless_true, in_outer_none, none_in_outer, none_number, none_numbers, number_is, is_number_of, repeat_apart, apart_repeat, position_alone, none_position}
+use Rattle.mof_metamodel.proofs.SearchLemmas.{Apart, not_false, none_parts, none_both, unless_none, unless_true, in_outer_none, none_in_outer, none_number, none_numbers, number_is, is_number_of, repeat_apart, apart_repeat, position_alone, none_position}
+use Rattle.std.proofs.lemmas.Bool.{not-true}
+use Rattle.std.proofs.lemmas.Bool.{and_from}
+use Rattle.mof_metamodel.proofs.Facts.{second_true}
+use Rattle.mof_metamodel.proofs.Facts.{first_true}
 
 -- ---- lists without repeats
 
@@ -70,11 +74,11 @@ module _ (desc : MetaDesc) where
   -- ---- what it says that no name is found twice
 
   new_class : (c : ℕ) → is_new_class desc c ≡ true → (is_primitive (class_at desc c).name ≡ false) × (class_number desc (class_at desc c).name ≡ Some c)
-  new_class c h = (not_true _ (and_left _ _ h), number_is _ c (and_right _ _ h))
+  new_class c h = (not-true _ (first_true _ _ h), number_is _ c (second_true _ _ h))
 
   new_enum : (e : ℕ) → is_new_enum desc e ≡ true
       → (is_primitive (enum_at desc e).name ≡ false) × (is_some (class_number desc (enum_at desc e).name) ≡ false) × (enum_number desc (enum_at desc e).name ≡ Some e)
-  new_enum e h = let two = and_left _ _ h in (not_true _ (and_left _ _ two), not_true _ (and_right _ _ two), number_is _ e (and_right _ _ h))
+  new_enum e h = let two = first_true _ _ h in (not-true _ (first_true _ _ two), not-true _ (second_true _ _ two), number_is _ e (second_true _ _ h))
 
   -- two places of names that are apart, of one name, are one
   one_place : (names : List (List ℕ)) (i j : ℕ) → Apart names → i < length names → j < length names → get_or names i [] ≡ get_or names j [] → i ≡ j
@@ -149,11 +153,11 @@ module _ (desc : MetaDesc) where
       none_both _ _
       (none_numbers (duplicate_in_class desc) (class_count desc) (λ c l.
       none_both _ _
-      (unless_true _ _ (and_both _ _ (not_false _ (w.class_primitives c l)) (is_number_of _ c (position_alone (λ x. x.name) desc.classes c no_class l (λ k lk same. w.classes k c lk l same)))))
+      (unless_true _ _ (and_from _ _ (not_false _ (w.class_primitives c l)) (is_number_of _ c (position_alone (λ x. x.name) desc.classes c no_class l (λ k lk same. w.classes k c lk l same)))))
       (none_in_outer _ _ (apart_repeat [] (names_in c) (none_met (names_in c)) (apart_in w c l (λ d. sound c d l) (once c l))))))
       (none_numbers (duplicate_in_enum desc) (enum_count desc) (λ e l.
       none_both _ _
-      (unless_true _ _ (and_both _ _ (and_both _ _ (not_false _ (w.enum_primitives e l)) (not_false _ (no_class_named w e l)))
+      (unless_true _ _ (and_from _ _ (and_from _ _ (not_false _ (w.enum_primitives e l)) (not_false _ (no_class_named w e l)))
       (is_number_of _ e (position_alone (λ x. x.name) desc.enums e no_enum l (λ k lk same. w.enums k e lk l same)))))
       (none_in_outer _ _ (apart_repeat [] (enum_at desc e).literals (none_met (enum_at desc e).literals) (λ i j less lj same.
       let place = w.literals e i j l (omega arith) lj same in omega arith)))))

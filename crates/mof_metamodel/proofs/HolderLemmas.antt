@@ -1,20 +1,18 @@
 -- Which classes have a property of a name, and which it is.
-use Rattle.std.proofs.Common.{◌≡◌, ℕ, ◌+◌, ◌<◌, ◌≤◌, List, [], refl, sym, ◌∙◌, ap, subst, arith, length, get_or, map, inl, inr, replicate, cond}
+use Rattle.std.proofs.Common.{◌≡◌, ℕ, ◌+◌, ◌<◌, List, [], refl, sym, ◌∙◌, ap, subst, arith, length, get_or, map, inl, inr, replicate, cond}
 use Rattle.std.specs.Prelude.{Contains, Option, Some, None, position, MatchOption, IfSome}
-use Rattle.std.specs.List.{position_or_len}
 use Rattle.std.proofs.lemmas.Bool.{cases_lt, lt-ltb}
 use Rattle.std.proofs.lemmas.List.{get_or-map, length-map, length-replicate, get_or_default}
 use Rattle.mof_metamodel.specs.declared.desc.MetaDesc.{MetaDesc}
-use Rattle.mof_metamodel.specs.declared.desc.PropId.{PropId}
 use Rattle.mof_metamodel.specs.declared.entries.Entry.{Entry}
 use Rattle.mof_metamodel.specs.Metamodels.{same_name, class_count, props_of, prop_count, prop_at, owner_of, declared_props, prop_number, no_prop}
 use Rattle.mof_metamodel.specs.WellMeta.{WellMeta}
-use Rattle.mof_metamodel.specs.Members.{IsPropNamed, HasNoPropNamed}
+use Rattle.mof_metamodel.specs.Members.{HasNoPropNamed}
 use Rattle.mof_metamodel.specs.Tables.{Names, Numbers, number_in, name_number, entry, AddsEntries, AreHolders}
 use Rattle.mof_metamodel.proofs.EntryLemmas.{no_entry, classes_none}
 use Rattle.mof_metamodel.proofs.NumberLemmas.{number_within, number_name}
 use Rattle.mof_metamodel.proofs.PropLemmas.{owner_listed, prop_known}
-use Rattle.mof_metamodel.proofs.SearchLemmas.{position_named, position_none}
+use Rattle.mof_metamodel.proofs.SearchLemmas.{position_named}
 use Rattle.mof_metamodel.proofs.MetaLaws.{prop_named}
 use Rattle.mof_metamodel.proofs.WellLemmas.{listed_conforms}
 

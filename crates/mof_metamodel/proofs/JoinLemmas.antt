@@ -1,17 +1,16 @@
 -- Class orders that are united: the order of a class that is there adds nothing.
-use Rattle.std.proofs.Common.{◌≡◌, ℕ, ◌<◌, ◌+◌, List, [], ◌∷◌, refl, sym, ◌∙◌, ap, arith, length, get_or, drop, map, inl, inr}
+use Rattle.std.proofs.Common.{◌≡◌, ℕ, ◌<◌, ◌+◌, List, ◌∷◌, ◌∙◌, ap, arith, length, get_or, drop, map, inl, inr}
 use Rattle.std.specs.Prelude.{Option, Some, None}
-use Rattle.std.proofs.lemmas.Bool.{eqb-true, cases_lt}
-use Rattle.std.proofs.lemmas.List.{get_or-map, get_or_past, length-map, drop_more}
-use Rattle.indexmap.specs.IndexSet.{IndexSet}
+use Rattle.std.proofs.lemmas.Bool.{cases_lt}
+use Rattle.std.proofs.lemmas.List.{get_or_past, drop_more}
 use Rattle.mof_metamodel.specs.declared.desc.ClassId.{ClassId}
 use Rattle.mof_metamodel.specs.declared.desc.MetaDesc.{MetaDesc}
 use Rattle.mof_metamodel.specs.Metamodels.{class_count, united, all_united, lineage_within}
-use Rattle.mof_metamodel.specs.Tables.{class_numbers, line, lines, line_at, AreLines, AreClosed, HasOrders}
-use Rattle.mof_metamodel.proofs.LineageLemmas.{Has, Has-from_Contains, or_cases, united-keeps, united-right, united-cases, lineage_sound, lineage_complete}
+use Rattle.mof_metamodel.specs.Tables.{class_numbers, line_at, AreClosed, HasOrders}
+use Rattle.mof_metamodel.proofs.LineageLemmas.{united-keeps, united-right, united-cases, lineage_sound, lineage_complete}
 use Rattle.mof_metamodel.proofs.ReachLemmas.{conforms_through, path_ends}
 
-module _ {S : Type 0} (orders : List (Option (IndexSet ℕ S))) where
+module _ (orders : List (Option (List ℕ))) where
   -- with the order of a class, the orders of its classes come in
   pub has_more : AreClosed orders → (xs : List ℕ) (c : ℕ) (r : List ℕ) → line_at orders c ≡ Some r → HasOrders orders xs → HasOrders orders (united xs r)
   has_more closed xs c r e has q s h f x m = elim (united-cases xs r q h) [
@@ -32,7 +31,7 @@ module _ {S : Type 0} (orders : List (Option (IndexSet ℕ S))) where
     short c r e = elim (cases_lt c (class_count desc)) [
       | inl l ↦ l
       | inr past ↦ absurd (
-          let none : line_at orders c ≡ None = get_or_past (lines orders) c None (let m = length-map orders line in omega (arith, m)) in cc)
+          let none : line_at orders c ≡ None = get_or_past orders c None (omega arith) in cc)
     ]
 
     pub lines_closed : AreClosed orders

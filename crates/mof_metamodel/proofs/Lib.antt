@@ -1,7 +1,9 @@
 pub mod ClassOrderLemmas
 pub mod DistinctLemmas
 pub mod EntryLemmas
+pub mod Facts
 pub mod FirstLemmas
+pub mod HeirLemmas
 pub mod HolderLemmas
 pub mod JoinLemmas
 pub mod KnownLemmas

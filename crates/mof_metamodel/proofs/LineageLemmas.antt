@@ -3,12 +3,12 @@ use Rattle.std.proofs.Common.{◌≡◌, ℕ, zero, suc, ◌+◌, ◌<◌, List,
 use Rattle.std.specs.Prelude.{nat_eq, Option, Some, None, IsSome, Contains}
 use Rattle.std.specs.List.{list_any, IsDistinct, AllByRecursion, slice_index_or, filter_map, cons_option}
 use Rattle.std.proofs.lemmas.List.Quantifiers.{position-Some}
-use Rattle.std.specs.Option.{option_map, option_or, unwrap_or, is_some}
+use Rattle.std.specs.Option.{option_map, unwrap_or}
 use Rattle.std.specs.Prelude.{All}
 use Rattle.std.proofs.lemmas.List.{get_or-map, length-map}
 use Rattle.std.proofs.lemmas.List.Elements.{Contains-get_or}
 use Rattle.mof_metamodel.specs.declared.desc.ClassId.{ClassId}
-use Rattle.std.proofs.lemmas.Bool.{eqb-true, ne_eqb}
+use Rattle.std.proofs.lemmas.Bool.{eqb-true, ne_eqb, or_left, or_right}
 use Rattle.std.proofs.lemmas.List.Folds.{list_any-append, list_any_at, Any-from_list_any}
 use Rattle.std.proofs.lemmas.Map.Steps.{length-le_from_distinct_below}
 use Rattle.mof_metamodel.specs.declared.desc.MetaDesc.{MetaDesc}
@@ -32,13 +32,6 @@ Contains-from_Has xs q h =
 pub or_cases : (a b : Bool) → (a || b) ≡ true → (a ≡ true) ⊎ (b ≡ true)
 or_cases true b h = inl refl
 or_cases false b h = inr h
-
-pub or_left : (a b : Bool) → a ≡ true → (a || b) ≡ true
-or_left a b h = ap (λ x. x || b) h
-
-pub or_right : (a b : Bool) → b ≡ true → (a || b) ≡ true
-or_right true b h = refl
-or_right false b h = h
 
 pub Has-append_left : (xs ys : List ℕ) (q : ℕ) → Has xs q → Has (xs ++ ys) q
 Has-append_left xs ys q h = list_any-append (nat_eq q) xs ys ∙ or_left _ _ h

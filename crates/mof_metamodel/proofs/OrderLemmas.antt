@@ -1,5 +1,5 @@
 -- The properties of a class in class order, and the names that stand twice.
-use Rattle.std.proofs.Common.{◌≡◌, ℕ, zero, suc, ◌<◌, List, [], ◌∷◌, true, refl, sym, ◌∙◌, ap, subst, arith, length, get_or, inl, inr, true≢false}
+use Rattle.std.proofs.Common.{◌≡◌, ℕ, zero, suc, ◌<◌, List, [], ◌∷◌, true, refl, sym, ◌∙◌, ap, subst, arith, length, get_or, inl, inr}
 use Rattle.std.specs.Prelude.{All, Option, Some, None}
 use Rattle.std.specs.List.{list_all, flat_map}
 use Rattle.std.specs.Option.{unwrap_or, is_some}
@@ -7,11 +7,10 @@ use Rattle.std.proofs.lemmas.Bool.{cases_lt}
 use Rattle.std.proofs.lemmas.List.{get_or_past, get_or-map, length-map}
 use Rattle.std.proofs.lemmas.List.Elements.{All-nil, All-append, Contains-get_or}
 use Rattle.std.proofs.lemmas.List.FromFn.{length-range_with_len, get_or-range_with_len}
-use Rattle.indexmap.specs.IndexSet.{IndexSet}
 use Rattle.mof_metamodel.specs.declared.desc.MetaDesc.{MetaDesc}
 use Rattle.mof_metamodel.specs.declared.desc.PropId.{PropId}
-use Rattle.mof_metamodel.specs.Metamodels.{class_count, class_at, no_class, prop_count, first_own, own_props, props_of, reached_classes, lineage_within, lineage_of}
-use Rattle.mof_metamodel.specs.Tables.{line, line_at, lineage_in, AreLines, IsGrounded, IsPropOf, prop_numbers}
+use Rattle.mof_metamodel.specs.Metamodels.{class_count, class_at, no_class, prop_count, first_own, own_props, props_of, reached_classes, lineage_of}
+use Rattle.mof_metamodel.specs.Tables.{line_at, lineage_in, AreLines, IsGrounded, IsPropOf, prop_numbers}
 use Rattle.mof_metamodel.proofs.TableLemmas.{own_within}
 use Rattle.mof_metamodel.proofs.LineageLemmas.{Has, Has-from_Contains}
 use Rattle.mof_metamodel.proofs.ReachLemmas.{lineage_within_classes}
@@ -48,9 +47,9 @@ module _ (desc : MetaDesc) where
   pub lineage_classes : (c : ℕ) → c < class_count desc → All (λ a. a < class_count desc) (lineage_of desc c)
   lineage_classes c l = All-from_Has (λ a. a < class_count desc) (lineage_of desc c) (λ q h. lineage_within_classes desc c q l h)
 
-module _ {S : Type 0} (desc : MetaDesc) (orders : List (Option (IndexSet ℕ S))) (are : AreLines desc (class_count desc) orders) where
+module _ (desc : MetaDesc) (orders : List (Option (List ℕ))) (are : AreLines desc (class_count desc) orders) where
   -- the class order that a table has
-  pub lineage_is : (c : ℕ) (o : Option (IndexSet ℕ S)) → c < class_count desc → o ≡ get_or orders c o → lineage_in desc o c ≡ lineage_of desc c
+  pub lineage_is : (c : ℕ) (o : Option (List ℕ)) → c < class_count desc → o ≡ get_or orders c o → lineage_in desc o c ≡ lineage_of desc c
   lineage_is c o l r =
       ap (λ x. unwrap_or x (reached_classes desc c)) (sym (line_at_read orders c o (let n = lines_count desc (class_count desc) orders are in omega (arith, n)) r) ∙ line_at_is desc (class_count desc) orders are c l)
 
@@ -59,16 +58,8 @@ module _ {S : Type 0} (desc : MetaDesc) (orders : List (Option (IndexSet ℕ S))
   grounded_is h c l =
       ap is_some (sym (line_at_is desc (class_count desc) orders are c l)) ∙ there orders c (let n = lines_count desc (class_count desc) orders are in omega (arith, n)) h
     where
-      there : (os : List (Option (IndexSet ℕ S))) (i : ℕ) → i < length os → list_all (λ o. is_some o) os ≡ true → is_some (line_at os i) ≡ true
+      there : (os : List (Option (List ℕ))) (i : ℕ) → i < length os → list_all (λ o. is_some o) os ≡ true → is_some (line_at os i) ≡ true
       there [] i k e = absurd (omega arith)
       there (None ∷ os) i k e = absurd (cc)
       there ((Some o) ∷ os) zero k e = refl
       there ((Some o) ∷ os) (suc i) k e = there os i (omega arith) e
-
-  -- and has one for each, where each has one
-  pub grounded_some : IsGrounded desc → (c : ℕ) (o : Option (IndexSet ℕ S)) → c < class_count desc → o ≡ get_or orders c o → o ≡ None → ⊥
-  grounded_some grounded c o l r none =
-      let n = lines_count desc (class_count desc) orders are in
-      let missing : lineage_within desc (class_count desc) c ≡ None = sym (line_at_is desc (class_count desc) orders are c l) ∙ line_at_read orders c o (omega (arith, n)) r ∙ ap line none in
-      let there : is_some (lineage_within desc (class_count desc) c) ≡ true = grounded c l in
-      true≢false (sym there ∙ ap is_some missing)

@@ -1,21 +1,29 @@
 -- Where a property stands in a class order: behind the properties of the classes before its owner, at its place among the owner's.
 use Rattle.std.proofs.Common.{◌≡◌, ◌≢◌, ℕ, zero, suc, ◌+◌, ◌-◌, ◌<◌, List, [], ◌∷◌, ◌++◌, Bool, true, false, cond, refl, sym, ◌∙◌, ap, subst, arith, length, get_or, map, inl, inr, eq-eqb}
-use Rattle.std.specs.Prelude.{◌≤◌, nat_eq, nat_lt, not, Some, None, sum_by, take}
-use Rattle.std.specs.List.{list_any, flat_map, range_with_len, position, position_or_len}
+use Rattle.std.specs.Prelude.{◌≤◌, nat_eq, nat_lt, not, Some, None, sum_by, take, Contains}
+use Rattle.std.specs.List.{flat_map, range_with_len, position, position_or_len}
 use Rattle.std.proofs.lemmas.Bool.{eqb-true, ne_eqb, cases_lt, cases_eq}
 use Rattle.std.proofs.lemmas.Bool.Decides.{nat_tests}
 use Rattle.std.proofs.lemmas.List.{append-nil, take_more, get_or_default, length-append, length-map, get_or-map, get_or_append_left, get_or-append_right}
 use Rattle.std.proofs.lemmas.List.Concat.{flat_map-cons}
 use Rattle.std.proofs.lemmas.Grind.{flat_map-append}
 use Rattle.std.proofs.lemmas.List.Folds.{length-flat_map-take}
-use Rattle.std.proofs.lemmas.List.FromFn.{length-range_with_len, get_or-map-range_with_len}
+use Rattle.std.proofs.lemmas.List.FromFn.{length-range_with_len}
+use Rattle.std.proofs.lemmas.List.Elements.{Contains-get_or}
+use Rattle.std.proofs.lemmas.Map.Steps.{length-le_from_distinct_below}
 use Rattle.std.proofs.lemmas.List.Sums.{sum_by-cons}
 use Rattle.mof_metamodel.specs.declared.desc.MetaDesc.{MetaDesc}
 use Rattle.mof_metamodel.specs.declared.desc.ClassDesc.{ClassDesc}
 use Rattle.mof_metamodel.specs.declared.desc.PropDesc.{PropDesc}
 use Rattle.mof_metamodel.specs.Metamodels.{class_at, no_class, no_prop, declared_from, owner_of, prop_count, first_own, own_props, props_of, lineage_of}
-use Rattle.mof_metamodel.specs.Tables.{starts_of}
-use Rattle.mof_metamodel.proofs.LineageLemmas.{Has, Contains-from_Has, or_cases, or_left, or_right}
+use Rattle.mof_metamodel.specs.Tables.{IsStart}
+use Rattle.mof_metamodel.proofs.LineageLemmas.{Has, Has-from_Contains, Contains-from_Has, or_cases}
+use Rattle.mof_metamodel.proofs.DistinctLemmas.{IsOnce}
+use Rattle.mof_metamodel.proofs.OnceLemmas.{lineage_once, props_of_once}
+use Rattle.mof_metamodel.proofs.PropLemmas.{prop_known}
+use Rattle.mof_metamodel.proofs.WalkLemmas.{distinct_from_once}
+use Rattle.std.proofs.lemmas.Bool.{or_right}
+use Rattle.std.proofs.lemmas.Bool.{or_left}
 use Rattle.mof_metamodel.proofs.OrderLemmas.{flat_all}
 use Rattle.mof_metamodel.proofs.ClassOrderLemmas.{range_bounds, range_has, own_once, flat_owner, flat_has}
 
@@ -153,46 +161,48 @@ module _ (desc : MetaDesc) where
         let P : ℕ → Type 0 = λ z. Has cs z in
         lacks (subst P same owner.1)
 
--- what a look-up of the owner among the classes of a class order tells
-pub record IsPlaced (desc : MetaDesc) (p o i : ℕ) (cs : List ℕ) : Type 0 where
-  pub index : i < length cs
+-- in a list without repeats a number stands at one place
+place_once : (xs : List ℕ) (i : ℕ) → IsOnce xs → i < length xs → place_of xs (get_or xs i 0) ≡ i
+place_once [] i once l = absurd (omega (arith, l))
+place_once (x ∷ xs) zero once l = place_here x x xs refl
+place_once (x ∷ xs) (suc i) once l =
+    let later = place_later x (get_or xs i 0) xs (λ same. once 0 (suc i) 0 (omega arith) l (sym same)) in
+    let rest = place_once xs i (λ j k d m n. once (suc j) (suc k) d (omega (arith, m)) (omega (arith, n))) (omega (arith, l)) in
+    omega (arith, later, rest)
+
+-- a class has no more properties than there are
+pub props_few : (desc : MetaDesc) (c : ℕ) → length (props_of desc c) ≤ prop_count desc
+props_few desc c = length-le_from_distinct_below (props_of desc c) (prop_count desc) (distinct_from_once (props_of desc c) (props_of_once desc c)) (λ q h. prop_known desc c q (Contains-from_Has (props_of desc c) q h))
+
+-- where the properties of a class that stands in a class order are
+pub record IsPlaced (desc : MetaDesc) (c p o start : ℕ) : Type 0 where
   pub own : first_own desc o ≤ p
-  pub start : get_or (starts_of desc cs) i 0 ≡ length (flat desc (take i cs))
-  pub within : length (flat desc (take i cs)) + (p - first_own desc o) < length (flat desc cs)
-  pub place : position (nat_eq p) (flat desc cs) ≡ Some (length (flat desc (take i cs)) + (p - first_own desc o))
+  pub within : start + (p - first_own desc o) < prop_count desc
+  pub place : position (nat_eq p) (props_of desc c) ≡ Some (start + (p - first_own desc o))
 
-pub placed : (desc : MetaDesc) (p o i : ℕ) (cs : List ℕ) → p < prop_count desc → o ≡ owner_of desc p → position (nat_eq o) cs ≡ Some i → IsPlaced desc p o i cs
-placed desc p o i cs l e at = by (list_any (nat_eq o) cs) refl
-  where
-    owns : Has (own_props desc o) p
-    owns = let P : ℕ → Type 0 = λ c. Has (own_props desc c) p in subst P (sym e) (own_of_owner desc p l)
+pub placed : (desc : MetaDesc) (c p o start : ℕ) → p < prop_count desc → o ≡ owner_of desc p → IsStart desc c o start → IsPlaced desc c p o start
+placed desc c p o start l e is =
+    let cs : List ℕ = lineage_of desc c in
+    let P : ℕ → Type 0 = λ z. Has (own_props desc z) p in
+    let owns : Has (own_props desc o) p = subst P (sym e) (own_of_owner desc p l) in
+    let Q : ℕ → Type 0 = λ z. Has cs z in
+    let h : Has cs o = subst Q is.at (Has-from_Contains cs (get_or cs is.index 0) (Contains-get_or cs is.index 0 is.within)) in
+    let same : place_of cs o ≡ is.index = ap (place_of cs) (sym is.at) ∙ place_once cs is.index (lineage_once desc c) is.within in
+    let front : length (flat desc (take (place_of cs o) cs)) ≡ start = ap (λ n. length (flat desc (take n cs))) same ∙ sym is.start_is in
+    let whole = place_in_classes desc p o owns cs h in
+    let end = place_within (flat desc cs) p (flat_has desc cs o p h owns) in
+    record {
+      own = (bounds desc p o owns).0;
+      within = omega (arith, whole, end, front, props_few desc c);
+      place = is_found (nat_eq p) (flat desc cs) end ∙ ap Some (whole ∙ ap (λ n. n + (p - first_own desc o)) front);
+    }
 
-    by : (b : Bool) → list_any (nat_eq o) cs ≡ b → IsPlaced desc p o i cs
-    by false h = absurd (let none : position (nat_eq o) cs ≡ None = not_found (nat_eq o) cs (place_missing cs o (λ k. cc)) in cc)
-    by true h =
-        let some : position (nat_eq o) cs ≡ Some (place_of cs o) = is_found (nat_eq o) cs (place_within cs o h) in
-        let same : i ≡ place_of cs o = cc in
-        let whole = place_in_classes desc p o owns cs h in
-        let end = place_within (flat desc cs) p (flat_has desc cs o p h owns) in
-        let front : length (flat desc (take i cs)) ≡ length (flat desc (take (place_of cs o) cs)) = ap (λ n. length (flat desc (take n cs))) same in
-        let short : i < length cs = let w = place_within cs o h in omega (arith, same, w) in
-        record {
-          index = short;
-          own = (bounds desc p o owns).0;
-          start = get_or-map-range_with_len (λ n. length (flat desc (take n cs))) 0 (length cs) i i 0 short (omega arith);
-          within = omega (arith, whole, end, front);
-          place = is_found (nat_eq p) (flat desc cs) end ∙ ap Some (whole ∙ ap (λ n. n + (p - first_own desc o)) (sym front));
-        }
-
-pub unplaced : (desc : MetaDesc) (p o : ℕ) (cs : List ℕ) → p < prop_count desc → o ≡ owner_of desc p → position (nat_eq o) cs ≡ None → position (nat_eq p) (flat desc cs) ≡ None
-unplaced desc p o cs l e at = by (list_any (nat_eq o) cs) refl
-  where
-    owns : Has (own_props desc o) p
-    owns = let P : ℕ → Type 0 = λ c. Has (own_props desc c) p in subst P (sym e) (own_of_owner desc p l)
-
-    by : (b : Bool) → list_any (nat_eq o) cs ≡ b → position (nat_eq p) (flat desc cs) ≡ None
-    by true h = absurd (let some : position (nat_eq o) cs ≡ Some (place_of cs o) = is_found (nat_eq o) cs (place_within cs o h) in cc)
-    by false h = not_found (nat_eq p) (flat desc cs) (place_missing (flat desc cs) p (place_in_no_class desc p o owns cs (λ k. cc)))
+pub unplaced : (desc : MetaDesc) (c p o : ℕ) → p < prop_count desc → o ≡ owner_of desc p → (Contains (lineage_of desc c) o → ⊥) → position (nat_eq p) (props_of desc c) ≡ None
+unplaced desc c p o l e lacks =
+    let P : ℕ → Type 0 = λ z. Has (own_props desc z) p in
+    let owns : Has (own_props desc o) p = subst P (sym e) (own_of_owner desc p l) in
+    not_found (nat_eq p) (props_of desc c)
+    (place_missing (props_of desc c) p (place_in_no_class desc p o owns (lineage_of desc c) (λ h. lacks (Contains-from_Has (lineage_of desc c) o h))))
 
 -- one more class of a class order
 pub starts_more : (desc : MetaDesc) (cs : List ℕ) (i : ℕ) → i < length cs → length (flat desc (take (i + 1) cs)) ≡ length (flat desc (take i cs)) + length (class_at desc (get_or cs i 0)).props

@@ -1,23 +1,21 @@
 -- Class orders found class by class: a class is ready once its superclasses have orders, and then its own is found.
-use Rattle.std.proofs.Common.{◌≡◌, ℕ, zero, suc, ◌+◌, ◌-◌, ◌<◌, ◌≤◌, List, [], ◌∷◌, ◌++◌, Bool, true, false, cond, refl, sym, ◌∙◌, ap, subst, arith, length, get_or, set, map, inl, inr, ◌⊎◌, true≢false}
+use Rattle.std.proofs.Common.{◌≡◌, ℕ, zero, suc, ◌+◌, ◌-◌, ◌<◌, ◌≤◌, List, [], ◌∷◌, ◌++◌, Bool, true, false, cond, refl, sym, ◌∙◌, ap, subst, arith, length, get_or, set, map, inl, inr, true≢false}
 use Rattle.std.specs.Prelude.{Option, Some, None, IsSome, ◌≢◌, nat_eq, AllPairs}
 use Rattle.std.specs.List.{list_any}
 use Rattle.std.specs.Option.{option_map, is_some}
 use Rattle.std.proofs.lemmas.Bool.{cases_lt, cases_eq}
-use Rattle.std.proofs.lemmas.List.{append-nil, append_assoc, get_or-set_same, get_or-set_other, length-set, length-append, length-map, get_or_default, get_or_append_left, get_or_past}
+use Rattle.std.proofs.lemmas.List.{append-nil, append_assoc, get_or-set_same, get_or-set_other, length-set, length-append, get_or_default, get_or_append_left, get_or_past}
 use Rattle.std.proofs.lemmas.List.Elements.{Contains-get_or}
 use Rattle.std.proofs.lemmas.List.FromFn.{fill_by_all, get_or-map-range_with_len}
 use Rattle.std.proofs.lemmas.Map.Steps.{length-le_from_distinct_below}
-use Rattle.indexmap.specs.IndexSet.{IndexSet}
 use Rattle.mof_metamodel.specs.declared.desc.MetaDesc.{MetaDesc}
 use Rattle.mof_metamodel.specs.Metamodels.{class_count, supers_of, with_item, all_united, lineage_within}
-use Rattle.mof_metamodel.specs.Tables.{line, lines, line_at, table, AreLines, AreMarks, new_line, HaveLines, IsQueue, IsFinding, IsSettled, Waits, Begins, AreSubclasses}
-use Rattle.mof_metamodel.proofs.LineageLemmas.{Has, Has-from_Contains, Contains-from_Has, Has-append_left, with_item-cases, with_item-has, all_united-missing, all_united-none, all_united-agree, lineage_more, lineage_upto, supers_within}
+use Rattle.mof_metamodel.specs.Tables.{line_at, table, AreLines, AreMarks, new_line, HaveLines, IsQueue, IsFinding, IsSettled, Waits, Begins, AreSubclasses}
+use Rattle.mof_metamodel.proofs.LineageLemmas.{Has, Has-from_Contains, Contains-from_Has, Has-append_left, with_item-cases, all_united-missing, all_united-none, all_united-agree, lineage_more, lineage_upto, supers_within}
 use Rattle.mof_metamodel.proofs.TableLemmas.{entry_count}
 use Rattle.mof_metamodel.proofs.DistinctLemmas.{once_nil}
 use Rattle.mof_metamodel.proofs.OnceLemmas.{united-once}
 use Rattle.mof_metamodel.proofs.WalkLemmas.{distinct_from_once}
-use Rattle.mof_metamodel.proofs.LineLemmas.{line_at-set_same, line_at-set_other}
 
 -- ---- lists that begin with others
 
@@ -50,7 +48,7 @@ index_of xs q h = let at = Contains-from_Has xs q h in (at.0, at.1, get_or_defau
 pub has_at : (xs : List ℕ) (i : ℕ) → i < length xs → Has xs (get_or xs i 0)
 has_at xs i l = Has-from_Contains xs (get_or xs i 0) (Contains-get_or xs i 0 l)
 
-module _ {S : Type 0} (desc : MetaDesc) (orders : List (Option (IndexSet ℕ S))) where
+module _ (desc : MetaDesc) (orders : List (Option (List ℕ))) where
   -- ---- a class is looked at
 
   all_have : (cs : List ℕ) (n : ℕ) → HaveLines orders cs n → length cs ≤ n → (s : ℕ) → Has cs s → IsSome (line_at orders s)
@@ -129,7 +127,7 @@ module _ {S : Type 0} (desc : MetaDesc) (orders : List (Option (IndexSet ℕ S))
           ap (option_map (λ cs. with_item cs c)) (all_united-none (lineage_within desc n) [] (supers_of desc c) w.0 w.1 (none_left n w.0 (supers_within desc c w.0 w.1) w.2))
 
       pub lines_found : AreLines desc (class_count desc) orders
-      lines_found = fill_by_all (lineage_within desc (class_count desc)) (lines orders) (class_count desc) None (length-map orders line ∙ queue.orders_count) (λ c l. by c l (line_at orders c) refl)
+      lines_found = fill_by_all (lineage_within desc (class_count desc)) orders (class_count desc) None queue.orders_count (λ c l. by c l (line_at orders c) refl)
         where
           by : (c : ℕ) → c < class_count desc → (o : Option (List ℕ)) → line_at orders c ≡ o → line_at orders c ≡ lineage_within desc (class_count desc) c
           by c l None e = e ∙ sym (none_left (class_count desc) c l e)
@@ -141,17 +139,17 @@ module _ {S : Type 0} (desc : MetaDesc) (orders : List (Option (IndexSet ℕ S))
 
     -- ---- the order of one class more
 
-    module _ (x : ℕ) (o : Option (IndexSet ℕ S)) (at : get_or ready next 0 ≡ x) (l : next < length ready) (is : line o ≡ new_line desc orders x) where
+    module _ (x : ℕ) (o : Option (List ℕ)) (at : get_or ready next 0 ≡ x) (l : next < length ready) (is : o ≡ new_line desc orders x) where
       there : Has ready x
       there = let P : ℕ → Type 0 = λ z. Has ready z in subst P at (has_at ready next l)
 
       short : x < length orders
       short = let b = queue.below x there in let e = queue.orders_count in omega (arith, b, e)
 
-      made : (r : List ℕ) × (line o ≡ Some r) × (lineage_within desc (suc next) x ≡ Some r)
+      made : (r : List ℕ) × (o ≡ Some r) × (lineage_within desc (suc next) x ≡ Some r)
       made = by (all_united [] (map (line_at orders) (supers_of desc x))) refl
         where
-          by : (u : Option (List ℕ)) → all_united [] (map (line_at orders) (supers_of desc x)) ≡ u → (r : List ℕ) × (line o ≡ Some r) × (lineage_within desc (suc next) x ≡ Some r)
+          by : (u : Option (List ℕ)) → all_united [] (map (line_at orders) (supers_of desc x)) ≡ u → (r : List ℕ) × (o ≡ Some r) × (lineage_within desc (suc next) x ≡ Some r)
           by None e = absurd (
               let m = all_united-missing (line_at orders) [] (supers_of desc x) e in
               let some : is_some (line_at orders m.0) ≡ true = queue.supers_have x m.0 there m.1 in
@@ -163,12 +161,12 @@ module _ {S : Type 0} (desc : MetaDesc) (orders : List (Option (IndexSet ℕ S))
           )
 
       here : line_at (set orders x o) x ≡ Some made.0
-      here = line_at-set_same orders x o short ∙ made.1
+      here = get_or-set_same orders x o None short ∙ made.1
 
       kept : (c : ℕ) → IsSome (line_at orders c) → IsSome (line_at (set orders x o) c)
       kept c h = elim (cases_eq c x) [
         | inl same ↦ ap (λ z. is_some (line_at (set orders x o) z)) same ∙ ap is_some here
-        | inr ne ↦ ap is_some (line_at-set_other orders x c o ne) ∙ h
+        | inr ne ↦ ap is_some (get_or-set_other orders x c o None ne) ∙ h
       ]
 
       pub queue_put : IsQueue desc (set orders x o) known ready marks
@@ -189,7 +187,7 @@ module _ {S : Type 0} (desc : MetaDesc) (orders : List (Option (IndexSet ℕ S))
         within = let n = begins_longer ready ready' grown in omega (arith, n, l);
         found = λ c r e. (let one : next + 1 ≡ suc next = omega arith in ap (λ n. lineage_within desc n c) one) ∙ elim (cases_eq c x) [
           | inl same ↦ ap (lineage_within desc (suc next)) same ∙ made.2 ∙ sym (ap (line_at (set orders x o)) same ∙ here) ∙ e
-          | inr ne ↦ lineage_more desc next c r (finding.found c r (sym (line_at-set_other orders x c o ne) ∙ e))
+          | inr ne ↦ lineage_more desc next c r (finding.found c r (sym (get_or-set_other orders x c o None ne) ∙ e))
         ];
         done = λ i a b. (
             let m : i < length ready = omega (arith, a, l) in
@@ -207,25 +205,25 @@ module _ {S : Type 0} (desc : MetaDesc) (orders : List (Option (IndexSet ℕ S))
                 let k = index_of row c listed in
                 let P : ℕ → Type 0 = λ z. IsSettled desc (set orders x o) ready' z in
                 subst P k.2 (looked k.0 k.1))
-            | inr ne ↦ inr (w.0, w.1, line_at-set_other orders x w.0 o ne ∙ w.2)
+            | inr ne ↦ inr (w.0, w.1, get_or-set_other orders x w.0 o None ne ∙ w.2)
           ]
         ];
       }
 
-module _ {S : Type 0} (desc : MetaDesc) (orders : List (Option (IndexSet ℕ S))) (none : lines orders ≡ table (λ _. None) (class_count desc)) where
+module _ (desc : MetaDesc) (orders : List (Option (List ℕ))) (none : orders ≡ table (λ _. None) (class_count desc)) where
   -- ---- the beginning
 
   no_order : (c : ℕ) (r : List ℕ) → line_at orders c ≡ Some r → ⊥
   no_order c r e = elim (cases_lt c (class_count desc)) [
     | inl l ↦ (let is : line_at orders c ≡ None = ap (λ xs. get_or xs c None) none ∙ get_or-map-range_with_len (λ _. None) 0 (class_count desc) c c None l (omega arith) in cc)
-    | inr past ↦ (let is : line_at orders c ≡ None = get_or_past (lines orders) c None (let n = entry_count (lines orders) (λ _. None) (class_count desc) none in omega (arith, n, past)) in cc)
+    | inr past ↦ (let is : line_at orders c ≡ None = get_or_past orders c None (let n = entry_count orders (λ _. None) (class_count desc) none in omega (arith, n, past)) in cc)
   ]
 
   -- no class is ready, and of none a superclass is known to have an order
   pub queue_none : (known ready : List ℕ) (marks : List Bool) → length known ≡ class_count desc → ((c : ℕ) → c < class_count desc → get_or known c 0 ≡ 0) → ready ≡ [] → length marks ≡ class_count desc → AreMarks marks []
       → IsQueue desc orders known ready marks
   queue_none known ready marks known_count zeros empty marks_count marked = record {
-    orders_count = sym (length-map orders line) ∙ entry_count (lines orders) (λ _. None) (class_count desc) none;
+    orders_count = entry_count orders (λ _. None) (class_count desc) none;
     known_count = known_count;
     marks_count = marks_count;
     known_are = λ c l i a b. absurd (let z = zeros c l in omega (arith, a, z));

@@ -9,7 +9,9 @@ use Rattle.std.proofs.lemmas.Map.Steps.{length-le_from_distinct_below}
 use Rattle.std.proofs.lemmas.Map.Views.{any-filter_same}
 use Rattle.mof_metamodel.specs.declared.desc.MetaDesc.{MetaDesc}
 use Rattle.mof_metamodel.specs.Metamodels.{class_count, supers_of, IsPath, Conforms, conforms_within, reached_classes, lineage_within, lineage_of}
-use Rattle.mof_metamodel.proofs.LineageLemmas.{Has, Has-from_Contains, or_cases, or_left, or_right, supers_within, path_within, lineage_sound, lineage_complete}
+use Rattle.mof_metamodel.proofs.LineageLemmas.{Has, Has-from_Contains, or_cases, supers_within, path_within, lineage_sound, lineage_complete}
+use Rattle.std.proofs.lemmas.Bool.{or_right}
+use Rattle.std.proofs.lemmas.Bool.{or_left}
 use Rattle.mof_metamodel.proofs.ClassOrderLemmas.{range_has}
 
 module _ (desc : MetaDesc) where

@@ -1,13 +1,14 @@
 -- Wrong answers that the definitions exclude, each on a small case: what the definition gives, and that it isn't what the wrong
 -- code would answer. A contract says that the code's result is what the definition gives, so it refuses that code.
-use Rattle.std.specs.Prelude.{◌≡◌, ◌<◌, ℕ, zero, suc, false, List, [], ◌∷◌, codes, Option, None, Some}
-use Rattle.std.proofs.Common.{refl, arith}
+use Rattle.std.specs.Prelude.{◌≡◌, ◌<◌, ℕ, zero, suc, false, List, [], ◌∷◌, codes, Option, None, Some, position, nat_eq}
+use Rattle.std.specs.Option.{unwrap_or}
+use Rattle.std.proofs.Common.{refl, ap, arith}
 use Rattle.mof_metamodel.specs.declared.desc.MetaDesc.{MetaDesc}
 use Rattle.mof_metamodel.specs.declared.desc.ClassDesc.{ClassDesc}
 use Rattle.mof_metamodel.specs.declared.desc.PropDesc.{PropDesc}
 use Rattle.mof_metamodel.specs.declared.desc.OppDesc.{OppDesc}
 use Rattle.mof_metamodel.specs.declared.fault.MetaKind.TheVariants as kinds
-use Rattle.mof_metamodel.specs.Metamodels.{Conforms, IsCircular, supers_of}
+use Rattle.mof_metamodel.specs.Metamodels.{Conforms, IsCircular, supers_of, props_of}
 use Rattle.mof_metamodel.specs.MetaFaults.{IsFirstFault, HasNoFault, first_duplicate, first_bad_bounds, first_bad_opposite}
 
 abbrev class : List ℕ → List (List ℕ) → List PropDesc → ClassDesc
@@ -71,6 +72,17 @@ a_class_conforms_to_what_it_reaches = (1 ∷ 0 ∷ [], ((0, omega arith, refl), 
 -- no conformance to the superclass of a superclass
 pub direct_superclasses_alone : (Conforms three 2 0 → ⊥) → ⊥
 direct_superclasses_alone unrelated = unrelated a_class_conforms_to_what_it_reaches
+
+-- A has a property, and B, which inherits from A, another
+abbrev two : MetaDesc
+two = classes (class (codes "A") [] (text (codes "n") 0 (Some 1) ∷ []) ∷ class (codes "B") (codes "A" ∷ []) (text (codes "m") 0 (Some 1) ∷ []) ∷ [])
+
+pub own_properties_stand_behind : position (nat_eq 1) (props_of two 1) ≡ Some 1
+own_properties_stand_behind = refl
+
+-- a property's place among those of its owner alone, where the class inherits others
+pub place_without_the_inherited : position (nat_eq 1) (props_of two 1) ≡ Some 0 → ⊥
+place_without_the_inherited e = let same : 1 ≡ 0 = ap (λ o. unwrap_or o 0) e in omega (arith, same)
 
 -- p names q as its opposite, and q names none
 abbrev one_sided : MetaDesc

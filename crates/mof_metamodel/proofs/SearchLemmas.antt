@@ -1,11 +1,11 @@
 -- A search that finds nothing, in the words of the list that it goes over.
-use Rattle.std.proofs.Common.{◌≡◌, ◌≢◌, ℕ, ◌+◌, ◌<◌, ◌≤◌, zero, suc, List, [], ◌∷◌, ◌++◌, Bool, true, false, ◌&&◌, cond, length, get_or, refl, ap, sym, ◌∙◌, arith, Option, Some, None, inl, inr, eq-eqb}
+use Rattle.std.proofs.Common.{◌≡◌, ◌≢◌, ℕ, ◌+◌, ◌<◌, ◌≤◌, zero, suc, List, [], ◌∷◌, ◌++◌, Bool, true, false, cond, length, get_or, refl, ap, sym, ◌∙◌, arith, Option, Some, None, inl, inr, eq-eqb}
 use Rattle.std.specs.Prelude.{Contains, not, position, nat_lt}
 use Rattle.std.specs.List.{list_any, list_all, range_with_len, position_or_len}
 use Rattle.std.proofs.lemmas.Bool.Decides.{nat_tests}
 use Rattle.std.specs.Option.{option_or}
 use Rattle.std.specs.Cmp.Lexicographic.{bytes_decides}
-use Rattle.std.proofs.lemmas.Bool.{false≢true, eqb-true}
+use Rattle.std.proofs.lemmas.Bool.{false≢true, eqb-true, and_from}
 use Rattle.std.proofs.lemmas.List.{get_or_default}
 use Rattle.std.proofs.lemmas.List.FromFn.{length-range_with_len, get_or-range_with_len}
 use Rattle.std.proofs.lemmas.List.Folds.{list_any_at, list_all_at}
@@ -14,24 +14,6 @@ use Rattle.std.proofs.lemmas.List.Quantifiers.{position-Some}
 use Rattle.std.proofs.lemmas.Map.Views.{Contains-from_any}
 use Rattle.mof_metamodel.specs.Characters.{same_name}
 use Rattle.mof_metamodel.specs.MetaFaults.{first_of, unless, in_outer, first_repeat, is_number}
-
--- ---- tests
-
-pub and_left : (a b : Bool) → (a && b) ≡ true → a ≡ true
-and_left true b h = refl
-and_left false b h = h
-
-pub and_right : (a b : Bool) → (a && b) ≡ true → b ≡ true
-and_right true b h = h
-and_right false b h = absurd (false≢true h)
-
-pub and_both : (a b : Bool) → a ≡ true → b ≡ true → (a && b) ≡ true
-and_both true b x y = y
-and_both false b x y = absurd (false≢true x)
-
-pub not_true : (a : Bool) → not a ≡ true → a ≡ false
-not_true true h = absurd (false≢true h)
-not_true false h = refl
 
 pub not_false : (a : Bool) → a ≡ false → not a ≡ true
 not_false a h = ap not h
@@ -103,7 +85,7 @@ module _ {X : Type 0} (p : X → Bool) where
 
   pub passes_all : (xs : List X) → ((x : X) → Contains xs x → p x ≡ true) → list_all p xs ≡ true
   passes_all [] h = refl
-  passes_all (x ∷ xs) h = and_both (p x) (list_all p xs) (h x (0, omega arith, refl)) (passes_all xs (λ y c. let (k, l, e) = c in h y (suc k, omega arith, e)))
+  passes_all (x ∷ xs) h = and_from (p x) (list_all p xs) (h x (0, omega arith, refl)) (passes_all xs (λ y c. let (k, l, e) = c in h y (suc k, omega arith, e)))
 
 -- ---- names
 

@@ -1,11 +1,12 @@
 -- Lists of numbers, to some of which a number is added.
-use Rattle.std.proofs.Common.{◌≡◌, ℕ, ◌+◌, ◌<◌, ◌≤◌, List, [], ◌∷◌, ◌++◌, refl, sym, ◌∙◌, ap, subst, arith, length, get_or, set, inl, inr, ◌⊎◌, replicate, eq-eqb}
+use Rattle.std.proofs.Common.{◌≡◌, ℕ, ◌+◌, ◌<◌, ◌≤◌, List, [], ◌∷◌, ◌++◌, refl, sym, ◌∙◌, ap, subst, arith, length, get_or, set, inl, inr, replicate, eq-eqb}
 use Rattle.std.proofs.lemmas.Bool.{cases_lt, cases_eq}
-use Rattle.std.proofs.lemmas.List.{get_or-set_same, get_or-set_other, length-set, get_or-replicate, get_or_past, length-replicate, get_or_default}
+use Rattle.std.proofs.lemmas.List.{get_or-set_same, get_or-set_other, length-set, get_or-replicate, get_or_past, length-replicate}
 use Rattle.mof_metamodel.specs.declared.desc.MetaDesc.{MetaDesc}
 use Rattle.mof_metamodel.specs.Metamodels.{class_count, supers_of}
 use Rattle.mof_metamodel.specs.Tables.{AddsUnder, AreSubclasses}
-use Rattle.mof_metamodel.proofs.LineageLemmas.{Has, Has-append_left, Has-append_right, Has-append_cases, Has-one, or_left}
+use Rattle.mof_metamodel.proofs.LineageLemmas.{Has, Has-append_left, Has-append_right, Has-append_cases, Has-one}
+use Rattle.std.proofs.lemmas.Bool.{or_left}
 use Rattle.mof_metamodel.proofs.QueueLemmas.{index_of}
 
 -- no list so far

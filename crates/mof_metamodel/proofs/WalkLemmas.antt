@@ -1,21 +1,21 @@
 -- A walk along superclasses meets the classes that are reached, and no others.
-use Rattle.std.proofs.Common.{◌≡◌, ℕ, zero, suc, ◌+◌, ◌<◌, ◌≤◌, List, [], ◌∷◌, ◌++◌, Bool, true, false, cond, refl, sym, ◌∙◌, ap, subst, arith, length, get_or, inl, inr, eqb, eq-eqb}
-use Rattle.std.specs.Prelude.{◌≢◌, All, Contains, IsTrue, nat_eq, filter}
+use Rattle.std.proofs.Common.{◌≡◌, ℕ, zero, suc, ◌+◌, ◌<◌, ◌≤◌, List, [], ◌∷◌, ◌++◌, Bool, true, false, cond, refl, sym, ◌∙◌, ap, subst, arith, length, get_or, inl, inr, eqb}
+use Rattle.std.specs.Prelude.{◌≢◌, All, Contains, nat_eq, filter}
 use Rattle.std.specs.List.{list_any, range_with_len, IsDistinct, AllByRecursion}
 use Rattle.std.specs.Cmp.{both_ways}
-use Rattle.std.proofs.lemmas.Bool.{eqb-true, ne_eqb, cases_lt}
+use Rattle.std.proofs.lemmas.Bool.{ne_eqb, cases_lt}
 use Rattle.std.proofs.lemmas.List.{get_or_append_left, get_or-map, length-map, length_push}
-use Rattle.std.proofs.lemmas.List.Elements.{filter-append, Contains-get_or}
+use Rattle.std.proofs.lemmas.List.Elements.{filter-append}
 use Rattle.std.proofs.lemmas.Map.Steps.{length-le_from_distinct_below}
 use Rattle.mof_metamodel.specs.declared.desc.ClassId.{ClassId}
 use Rattle.mof_metamodel.specs.declared.desc.MetaDesc.{MetaDesc}
 use Rattle.mof_metamodel.specs.Metamodels.{class_count, supers_of, IsPath, Conforms, IsCircular, conforms_within, reached_classes, with_item, united}
 use Rattle.mof_metamodel.specs.Tables.{class_numbers, IsClassOf, AreMarks, AreReached, IsReached, IsWalk}
 use Rattle.mof_metamodel.proofs.TableLemmas.{range_more}
-use Rattle.mof_metamodel.proofs.LineageLemmas.{Has, Has-from_Contains, Contains-from_Has, or_cases, supers_within, united-keeps, united-right, united-cases}
+use Rattle.mof_metamodel.proofs.LineageLemmas.{Has, Has-from_Contains, Contains-from_Has, supers_within, united-keeps, united-right, united-cases}
 use Rattle.mof_metamodel.proofs.DistinctLemmas.{IsOnce, once_nil}
 use Rattle.mof_metamodel.proofs.OnceLemmas.{united-once}
-use Rattle.mof_metamodel.proofs.ReachLemmas.{conforms_through, steps_sound, steps_complete, path_ends}
+use Rattle.mof_metamodel.proofs.ReachLemmas.{conforms_through, steps_sound, steps_complete}
 
 -- one number more of a filter
 pub filter_step : (p : ℕ → Bool) (n : ℕ) → filter p (range_with_len 0 (n + 1)) ≡ filter p (range_with_len 0 n) ++ cond (p n) (n ∷ []) []

@@ -21,7 +21,11 @@ use Rattle.mof_metamodel.proofs.LineageLemmas.{Has-from_Contains, Contains-from_
 use Rattle.mof_metamodel.proofs.ReachLemmas.{lineage_exactly}
 use Rattle.mof_metamodel.proofs.DistinctLemmas.{distinct_from, distinct_to}
 use Rattle.mof_metamodel.proofs.OnceLemmas.{lineage_once}
-use Rattle.mof_metamodel.proofs.SearchLemmas.{and_left, and_right, and_both, not_true, not_false, none_parts, none_both, unless_none, unless_true, none_each, none_all, none_number, none_numbers, number_is, is_number_of, passes_each, passes_all}
+use Rattle.mof_metamodel.proofs.SearchLemmas.{not_false, none_parts, none_both, unless_none, unless_true, none_each, none_all, none_number, none_numbers, number_is, is_number_of, passes_each, passes_all}
+use Rattle.std.proofs.lemmas.Bool.{not-true}
+use Rattle.std.proofs.lemmas.Bool.{and_from}
+use Rattle.mof_metamodel.proofs.Facts.{second_true}
+use Rattle.mof_metamodel.proofs.Facts.{first_true}
 
 -- ---- limits
 
@@ -115,8 +119,8 @@ module _ (desc : MetaDesc) where
       ap (is_known_prop desc) (prop_in p at) ∙ good in
       record {
         supers = λ c name l there. passes_each (λ s. is_some (class_number desc s)) (class_at desc c).supers (unless_none _ (class_at desc c).name (none_parts _ _ (each c no_class l)).0) name there;
-        types = λ p l. and_left _ _ (prop p l);
-        opposites = λ p l there. known_opposite (prop_at desc p).opposite (and_right _ _ (prop p l)) there;
+        types = λ p l. first_true _ _ (prop p l);
+        opposites = λ p l there. known_opposite (prop_at desc p).opposite (second_true _ _ (prop p l)) there;
       }
 
   pub known_to : HasKnownNames desc → first_unknown desc ≡ None
@@ -125,7 +129,7 @@ module _ (desc : MetaDesc) where
       (none_all (λ p. unless (is_known_prop desc p) (qualified (class_at desc c).name p.name)) (class_at desc c).props (λ i e li.
       let here : get_or (class_at desc c).props i e ≡ prop_at desc (first_own desc c + i) = get_or_default (class_at desc c).props i e no_prop li ∙ sym (in_prop c i li) in
       let within = own_within desc c i l li in
-      unless_true _ _ (ap (is_known_prop desc) here ∙ and_both _ _ (w.types (first_own desc c + i) within) (opposite_known (prop_at desc (first_own desc c + i)).opposite (w.opposites (first_own desc c + i) within)))))))
+      unless_true _ _ (ap (is_known_prop desc) here ∙ and_from _ _ (w.types (first_own desc c + i) within) (opposite_known (prop_at desc (first_own desc c + i)).opposite (w.opposites (first_own desc c + i) within)))))))
 
   -- ---- bounds
 
@@ -175,25 +179,25 @@ module _ (desc : MetaDesc) where
   where_single false upper h = refl
 
   other_from : (p q : ℕ) → not (q == p) ≡ true → q ≢ p
-  other_from p q h e = false≢true (sym (not_true (q == p) h) ∙ eq-eqb q p e)
+  other_from p q h e = false≢true (sym (not-true (q == p) h) ∙ eq-eqb q p e)
 
   pub opposites_of : (p q : ℕ) → opposite_of desc p ≡ Some q → agree desc p (Some q) ≡ true → AreOpposites desc p q
   opposites_of p q e a =
-      let four = and_left _ _ a in
-      let three = and_left _ _ four in
-      let two = and_left _ _ three in
+      let four = first_true _ _ a in
+      let three = first_true _ _ four in
+      let two = first_true _ _ three in
       record {
         there = e;
-        back = number_is (opposite_of desc q) p (and_left _ _ two);
-        other = other_from p q (and_right _ _ two);
-        type = class_is_of (type_of desc p) (owner_of desc q) (and_right _ _ three);
-        back_type = class_is_of (type_of desc q) (owner_of desc p) (and_right _ _ four);
-        single = single_where (prop_at desc q).composite (prop_at desc p).upper (and_right _ _ a);
+        back = number_is (opposite_of desc q) p (first_true _ _ two);
+        other = other_from p q (second_true _ _ two);
+        type = class_is_of (type_of desc p) (owner_of desc q) (second_true _ _ three);
+        back_type = class_is_of (type_of desc q) (owner_of desc p) (second_true _ _ four);
+        single = single_where (prop_at desc q).composite (prop_at desc p).upper (second_true _ _ a);
       }
 
   pub agree_from : (p q : ℕ) → AreOpposites desc p q → agree desc p (Some q) ≡ true
   agree_from p q w =
-      and_both _ _ (and_both _ _ (and_both _ _ (and_both _ _ (is_number_of (opposite_of desc q) p w.back) (not_false (q == p) (ne_eqb q p w.other)))
+      and_from _ _ (and_from _ _ (and_from _ _ (and_from _ _ (is_number_of (opposite_of desc q) p w.back) (not_false (q == p) (ne_eqb q p w.other)))
       (is_class_of (type_of desc p) (owner_of desc q) w.type)) (is_class_of (type_of desc q) (owner_of desc p) w.back_type))
       (where_single (prop_at desc q).composite (prop_at desc p).upper w.single)
 

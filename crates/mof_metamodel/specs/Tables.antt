@@ -4,7 +4,6 @@ use Rattle.std.specs.List.{range_with_len, list_any, flat_map, position_or_len, 
 use Rattle.std.specs.List.Sorted.{IsNonDecreasingBy}
 use Rattle.std.specs.Map.{lookup}
 use Rattle.std.specs.Option.{option_map, unwrap_or}
-use Rattle.indexmap.specs.IndexSet.{IndexSet}
 use Rattle.mof_metamodel.specs.declared.desc.PropDesc.{PropDesc}
 use Rattle.mof_metamodel.specs.declared.named.Place.{Place}
 use Rattle.mof_metamodel.specs.declared.entries.Entry.{Entry}
@@ -98,20 +97,13 @@ pub record IsNamed (desc : MetaDesc) (classes enums : Names) (own literals : Lis
 abbrev pub AreSupers : MetaDesc → List (List ClassId) → Type 0
 AreSupers desc supers = map class_numbers supers ≡ table (supers_of desc) (class_count desc)
 
--- a class order, if there is one
-abbrev pub line : {S : Type 0} → Option (IndexSet ℕ S) → Option (List ℕ)
-line order = option_map (λ s. s.keys) order
-
-abbrev pub lines : {S : Type 0} → List (Option (IndexSet ℕ S)) → List (Option (List ℕ))
-lines orders = map line orders
-
 -- the class orders that are found within so many steps
-abbrev pub AreLines : {S : Type 0} → MetaDesc → ℕ → List (Option (IndexSet ℕ S)) → Type 0
-AreLines desc n orders = lines orders ≡ table (lineage_within desc n) (class_count desc)
+abbrev pub AreLines : MetaDesc → ℕ → List (Option (List ℕ)) → Type 0
+AreLines desc n orders = orders ≡ table (lineage_within desc n) (class_count desc)
 
 -- the order of a class among those that were found
-abbrev pub line_at : {S : Type 0} → List (Option (IndexSet ℕ S)) → ℕ → Option (List ℕ)
-line_at orders c = slice_index_or (lines orders) c None
+abbrev pub line_at : List (Option (List ℕ)) → ℕ → Option (List ℕ)
+line_at orders c = slice_index_or orders c None
 
 -- each number of the list is below n
 abbrev pub AreBelow : ℕ → List ℕ → Type 0
@@ -126,29 +118,29 @@ abbrev pub AreMarks : List Bool → List ℕ → Type 0
 AreMarks marks xs = (q : ℕ) → q < length marks → slice_index_or marks q false ≡ list_any (nat_eq q) xs
 
 -- class orders of classes, each with the orders of the classes that it has
-pub record AreClosed {S : Type 0} (orders : List (Option (IndexSet ℕ S))) : Type 0 where
+pub record AreClosed (orders : List (Option (List ℕ))) : Type 0 where
   pub below : (c : ℕ) (r : List ℕ) → line_at orders c ≡ Some r → AreBelow (length orders) r
   pub among : (c q : ℕ) (r s : List ℕ) → line_at orders c ≡ Some r → IsTrue (list_any (nat_eq q) r) → line_at orders q ≡ Some s → AreAmong s r
 
 -- with each class that has an order, the classes of that order stand in the list
-abbrev pub HasOrders : {S : Type 0} → List (Option (IndexSet ℕ S)) → List ℕ → Type 0
+abbrev pub HasOrders : List (Option (List ℕ)) → List ℕ → Type 0
 HasOrders orders xs = (q : ℕ) (s : List ℕ) → IsTrue (list_any (nat_eq q) xs) → line_at orders q ≡ Some s → AreAmong s xs
 
 -- what a class's superclasses give: their joint order, and the class behind it
-abbrev pub new_line : {S : Type 0} → MetaDesc → List (Option (IndexSet ℕ S)) → ℕ → Option (List ℕ)
+abbrev pub new_line : MetaDesc → List (Option (List ℕ)) → ℕ → Option (List ℕ)
 new_line desc orders c = option_map (λ cs. with_item cs c) (all_united [] (map (line_at orders) (supers_of desc c)))
 
 -- the classes of a class order; of a class without one those that it reaches
-abbrev pub lineage_in : {S : Type 0} → MetaDesc → Option (IndexSet ℕ S) → ℕ → List ℕ
-lineage_in desc order c = unwrap_or (line order) (reached_classes desc c)
+abbrev pub lineage_in : MetaDesc → Option (List ℕ) → ℕ → List ℕ
+lineage_in desc order c = unwrap_or order (reached_classes desc c)
 
 -- so many numbers at the head of the list have orders
-abbrev pub HaveLines : {S : Type 0} → List (Option (IndexSet ℕ S)) → List ℕ → ℕ → Type 0
+abbrev pub HaveLines : List (Option (List ℕ)) → List ℕ → ℕ → Type 0
 HaveLines orders cs n = (i : ℕ) → i < n → i < length cs → IsSome (line_at orders (slice_index_or cs i 0))
 
 -- Classes whose superclasses all have orders: each stands once among those that are ready, and is marked. Of each class so many
 -- superclasses in a row are known to have orders.
-pub record IsQueue {S : Type 0} (desc : MetaDesc) (orders : List (Option (IndexSet ℕ S))) (known ready : List ℕ) (marks : List Bool) : Type 0 where
+pub record IsQueue (desc : MetaDesc) (orders : List (Option (List ℕ))) (known ready : List ℕ) (marks : List Bool) : Type 0 where
   pub orders_count : length orders ≡ class_count desc
   pub known_count : length known ≡ class_count desc
   pub marks_count : length marks ≡ class_count desc
@@ -159,11 +151,11 @@ pub record IsQueue {S : Type 0} (desc : MetaDesc) (orders : List (Option (IndexS
   pub marked : AreMarks marks ready
 
 -- a superclass of the class has no order
-abbrev pub Waits : {S : Type 0} → MetaDesc → List (Option (IndexSet ℕ S)) → ℕ → Type 0
+abbrev pub Waits : MetaDesc → List (Option (List ℕ)) → ℕ → Type 0
 Waits desc orders c = (s : ℕ) × IsTrue (list_any (nat_eq s) (supers_of desc c)) × (line_at orders s ≡ None)
 
 -- the class is ready, or waits for the order of a superclass
-abbrev pub IsSettled : {S : Type 0} → MetaDesc → List (Option (IndexSet ℕ S)) → List ℕ → ℕ → Type 0
+abbrev pub IsSettled : MetaDesc → List (Option (List ℕ)) → List ℕ → ℕ → Type 0
 IsSettled desc orders ready c = IsTrue (list_any (nat_eq c) ready) ⊎ Waits desc orders c
 
 -- the second list begins with the first
@@ -171,7 +163,7 @@ abbrev pub Begins : List ℕ → List ℕ → Type 0
 Begins xs ys = (zs : List ℕ) × (ys ≡ xs ++ zs)
 
 -- The orders of so many classes that are ready were found, within as many steps. Each class is ready, or waits.
-pub record IsFinding {S : Type 0} (desc : MetaDesc) (orders : List (Option (IndexSet ℕ S))) (next : ℕ) (ready : List ℕ) : Type 0 where
+pub record IsFinding (desc : MetaDesc) (orders : List (Option (List ℕ))) (next : ℕ) (ready : List ℕ) : Type 0 where
   pub within : next ≤ length ready
   pub found : (c : ℕ) (r : List ℕ) → line_at orders c ≡ Some r → lineage_within desc next c ≡ Some r
   pub done : HaveLines orders ready next
@@ -193,11 +185,6 @@ pub record AreSubclasses (desc : MetaDesc) (n : ℕ) (lists : List (List ℕ)) :
 -- for each class of a class order, how many properties the classes before it have
 abbrev pub starts_of : MetaDesc → List ℕ → List ℕ
 starts_of desc cs = table (λ i. length (flat_map (own_props desc) (take i cs))) (length cs)
-
-pub record IsOrdered {S : Type 0} (desc : MetaDesc) (orders : List (Option (IndexSet ℕ S))) (props : List (List PropId)) (starts : List (List ℕ)) : Type 0 where
-  pub lines_are : AreLines desc (class_count desc) orders
-  pub props_are : map prop_numbers props ≡ table (props_of desc) (class_count desc)
-  pub starts_are : starts ≡ table (λ c. starts_of desc (lineage_of desc c)) (class_count desc)
 
 -- one of the classes is d, or reaches it
 abbrev pub IsReached : MetaDesc → List ℕ → ℕ → Type 0
@@ -253,6 +240,26 @@ pub record AreHolders (desc : MetaDesc) (n : ℕ) (holders : List (List Entry)) 
   pub classes : AreOfClasses n holders
   pub sound : (k : ℕ) (e : Entry) → Contains (slice_index_or holders k []) e → Contains (props_of desc e.class) e.value × (name_number desc e.value ≡ k)
   pub complete : (c p : ℕ) → c < n → Contains (props_of desc c) p → Contains (slice_index_or holders (name_number desc p) []) (entry c p)
+
+-- Class d stands in the class order of c, and so many properties before its own: those of the classes before it.
+pub record IsStart (desc : MetaDesc) (c d start : ℕ) : Type 0 where
+  pub index : ℕ
+  pub within : index < length (lineage_of desc c)
+  pub at : slice_index_or (lineage_of desc c) index 0 ≡ d
+  pub start_is : start ≡ length (flat_map (own_props desc) (take index (lineage_of desc c)))
+
+-- for each class the classes below n in whose class orders it stands, each with how many properties stand there before its own
+pub record AreHeirs (desc : MetaDesc) (n : ℕ) (heirs : List (List Entry)) : Type 0 where
+  pub count : length heirs ≡ class_count desc
+  pub classes : AreOfClasses n heirs
+  pub sound : (d : ℕ) (e : Entry) → Contains (slice_index_or heirs d []) e → IsStart desc e.class d e.value
+  pub complete : (c d : ℕ) → c < n → Contains (lineage_of desc c) d → (start : ℕ) × Contains (slice_index_or heirs d []) (entry c start)
+
+-- whether each class has a class order, the properties in class order, and what classes inherit from each
+pub record IsOrdered (desc : MetaDesc) (grounded : Bool) (props : List (List PropId)) (heirs : List (List Entry)) : Type 0 where
+  pub grounded_is : IsTrue grounded → IsGrounded desc
+  pub props_are : map prop_numbers props ≡ table (props_of desc) (class_count desc)
+  pub heirs_are : AreHeirs desc (class_count desc) heirs
 
 pub record IsTabled (desc : MetaDesc) (props : List Prop) (names : Names) (holders : List (List Entry)) : Type 0 where
   pub well : WellMeta desc

@@ -9,6 +9,7 @@ mod desc;
 mod duplicates;
 mod entries;
 mod fault;
+mod heirs;
 mod hierarchy;
 mod laws;
 mod limits;

@@ -4,58 +4,45 @@
 //! superclass that stands in it already is passed over, and each other one is read once. What remains without an order
 //! reaches a circle of superclasses.
 ghost use Rattle.std.specs.Prelude.{◌≡◌, ◌<◌, [], length, map, nat_eq, All, IfOk, OnOk, IsTrue, None};
-ghost use Rattle.std.specs.Option.{is_some};
+ghost use Rattle.std.specs.Option.{is_some, option_map};
 ghost use Rattle.std.specs.List.{list_any, list_all};
-ghost use Rattle.mof_metamodel.specs.Metamodels.{class_count, united, all_united, lineage_of, reached_classes as reached_by_number};
-ghost use Rattle.mof_metamodel.specs.Tables.{class_numbers, lines, line, line_at, AreLines, table, new_line, lineage_in, AreBelow, AreAmong, AreMarks, AreClosed, AreSubclasses, IsQueue, IsFinding};
+ghost use Rattle.mof_metamodel.specs.Metamodels.{class_count, with_item, united, all_united, lineage_of, reached_classes as reached_by_number};
+ghost use Rattle.mof_metamodel.specs.Tables.{class_numbers, line_at, AreLines, table, new_line, lineage_in, AreBelow, AreAmong, AreMarks, AreClosed, AreSubclasses, IsQueue, IsFinding};
 
 use crate::desc::ClassId;
 use crate::hierarchy::Hierarchy;
 use crate::memory::NoMemory;
 use crate::or_drop;
-use crate::reached::{marked, reached};
+use crate::reached::{marked, meet_one, reached};
 use crate::ready::{advance_all, advance_each};
 use crate::seq::Seq;
 use crate::subclasses::all_subclasses;
-use indexmap::IndexSet;
 use std::alloc::Global;
 
 /// The order of a class, where it was found.
-pub(crate) type Line = Option<IndexSet<u32>>;
+pub(crate) type Line = Option<Seq<u32>>;
 
 /// Adds the classes of an order, each at its first place. The classes that are there are marked.
-fn join(
-    joint: &mut IndexSet<u32>,
-    marks: &mut [bool],
-    order: &IndexSet<u32>,
-) -> Result<(), NoMemory>
-    requires within { AreBelow (length marks.old) order.now.keys }
-    requires marks { AreMarks marks.old joint.old.keys }
-    ensures keys { OnOk result (joint.new.keys ≡ united joint.old.keys order.now.keys) }
-    ensures marks { OnOk result (AreMarks marks.new joint.new.keys) }
+fn join(joint: &mut Seq<u32>, marks: &mut [bool], order: &[u32]) -> Result<(), NoMemory>
+    requires within { AreBelow (length marks.old) order.now }
+    requires marks { AreMarks marks.old joint.old }
+    ensures joint { OnOk result (joint.new ≡ united joint.old order.now) }
+    ensures marks { OnOk result (AreMarks marks.new joint.new) }
 {
-    for c in order.as_slice() {
-        if !marks[*c as usize] {
-            marks[*c as usize] = true;
-            joint.insert(*c)?;
-        }
+    for c in order {
+        meet_one(joint, marks, *c)?;
     }
     Ok(())
 }
 
 /// Adds the order of a class, unless the class is there.
-fn join_one(
-    joint: &mut IndexSet<u32>,
-    marks: &mut [bool],
-    order: &IndexSet<u32>,
-    c: u32,
-) -> Result<(), NoMemory>
+fn join_one(joint: &mut Seq<u32>, marks: &mut [bool], order: &[u32], c: u32) -> Result<(), NoMemory>
     requires class { c < length marks.old }
-    requires within { AreBelow (length marks.old) order.now.keys }
-    requires there { IsTrue (list_any (nat_eq c) joint.old.keys) → AreAmong order.now.keys joint.old.keys }
-    requires marks { AreMarks marks.old joint.old.keys }
-    ensures keys { OnOk result (joint.new.keys ≡ united joint.old.keys order.now.keys) }
-    ensures marks { OnOk result (AreMarks marks.new joint.new.keys) }
+    requires within { AreBelow (length marks.old) order.now }
+    requires there { IsTrue (list_any (nat_eq c) joint.old) → AreAmong order.now joint.old }
+    requires marks { AreMarks marks.old joint.old }
+    ensures joint { OnOk result (joint.new ≡ united joint.old order.now) }
+    ensures marks { OnOk result (AreMarks marks.new joint.new) }
 {
     if marks[c as usize] {
         return Ok(());
@@ -63,19 +50,20 @@ fn join_one(
     join(joint, marks, order)
 }
 
-/// The joint order of superclasses, where each has one.
-fn join_all(alloc: Global, orders: &[Line], supers: &[ClassId]) -> Result<Line, NoMemory>
-    requires within { All (λ c. c.0 < length orders.now) supers.now }
+/// The joint order of a class's superclasses, where each has one, and the class behind it.
+fn join_all(alloc: Global, orders: &[Line], supers: &[ClassId], c: u32) -> Result<Line, NoMemory>
+    requires class { c < length orders.now }
+    requires within { All (λ s. s.0 < length orders.now) supers.now }
     requires orders { AreClosed orders.now }
-    ensures { IfOk result (λ o. line o ≡ all_united [] (map (line_at orders.now) (class_numbers supers.now))) }
+    ensures { IfOk result (λ o. o ≡ option_map (λ cs. with_item cs c) (all_united [] (map (line_at orders.now) (class_numbers supers.now)))) }
 {
-    let mut joint = IndexSet::new(alloc);
+    let mut joint = Seq::new(alloc);
     let mut marks = Vec::new(alloc);
     or_drop!(marks.resize(orders.len(), false); joint, marks);
-    for c in supers {
-        match &orders[c.0 as usize] {
+    for s in supers {
+        match &orders[s.0 as usize] {
             Some(order) => {
-                or_drop!(join_one(&mut joint, marks.as_mut_slice(), order, c.0); joint, marks)
+                or_drop!(join_one(&mut joint, marks.as_mut_slice(), order.as_slice(), s.0); joint, marks)
             }
             None => {
                 drop(joint);
@@ -84,6 +72,7 @@ fn join_all(alloc: Global, orders: &[Line], supers: &[ClassId]) -> Result<Line, 
             }
         }
     }
+    or_drop!(meet_one(&mut joint, marks.as_mut_slice(), c); joint, marks);
     drop(marks);
     Ok(Some(joint))
 }
@@ -93,15 +82,9 @@ fn line_of(alloc: Global, hierarchy: &Hierarchy, orders: &[Line], c: u32) -> Res
     requires class { c < class_count hierarchy.now }
     requires rows { length orders.now ≡ class_count hierarchy.now }
     requires orders { AreClosed orders.now }
-    ensures { IfOk result (λ o. line o ≡ new_line hierarchy.now orders.now c) }
+    ensures { IfOk result (λ o. o ≡ new_line hierarchy.now orders.now c) }
 {
-    match join_all(alloc, orders, hierarchy.supers(c))? {
-        Some(mut order) => {
-            order.insert(c)?;
-            Ok(Some(order))
-        }
-        None => Ok(None),
-    }
+    join_all(alloc, orders, hierarchy.supers(c), c)
 }
 
 /// Whether each class has an order.
@@ -113,7 +96,7 @@ pub(crate) fn all_found(lines: &[Line]) -> bool
 
 /// No order for any class.
 fn no_lines(alloc: Global, count: u32) -> Result<Vec<Line>, NoMemory>
-    ensures { IfOk result (λ none. lines none.items ≡ table (λ _. None) count) }
+    ensures { IfOk result (λ none. none.items ≡ table (λ _. None) count) }
 {
     let mut none = Vec::new(alloc);
     for _c in 0..count {

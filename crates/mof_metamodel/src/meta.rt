@@ -28,8 +28,8 @@ use std::marker::Model;
 /// that a number is of this metamodel. The tables take room for each class and each class that it inherits from, and for
 /// each property of each class, inherited ones included. Making them takes time for each of these; for each written
 /// superclass a look-up of its name, and a look at each class of its order where the order before it lacks the superclass;
-/// and for each class that reaches a circle of superclasses, a look at each class that it reaches and at each superclass
-/// that these write.
+/// for each class a mark for each other one; and for each class that reaches a circle of superclasses, a look at each class
+/// that it reaches and at each superclass that these write.
 #[derive(Drop)]
 pub struct MetaModel {
     ordered: Ordered,
@@ -221,7 +221,8 @@ impl MetaModel {
         self.ordered.named().class(c.0).is_abstract
     }
 
-    /// Whether a class is another, or reaches it by superclasses (MOF's `conformsTo`).
+    /// Whether a class is another, or reaches it by superclasses (MOF's `conformsTo`): by a binary search among the classes
+    /// that inherit from the other.
     pub fn conforms(&self, c: ClassId, d: ClassId) -> bool
         requires { c.0 < class_count self.now }
         ensures { IsTrue result ↔ Conforms self.now c.0 d.0 }
@@ -241,7 +242,8 @@ impl MetaModel {
         self.ordered.props(c.0)
     }
 
-    /// The place of a property in `props(c)`, or `None` where the class doesn't have it. In constant time.
+    /// The place of a property in `props(c)`, or `None` where the class doesn't have it: by a binary search among the classes
+    /// that inherit from the property's owner.
     pub fn place_of(&self, c: ClassId, p: PropId) -> Option<usize>
         requires { c.0 < class_count self.now }
         ensures { result ≡ position (nat_eq p.0) (props_of self.now c.0) }

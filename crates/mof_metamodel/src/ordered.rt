@@ -1,16 +1,17 @@
-ghost use Rattle.std.specs.Prelude.{nat_eq, position, ◌≡◌, ◌<◌, ◌↔◌, ◌++◌, All, map, IsTrue, IfOk, OnOk};
+ghost use Rattle.std.specs.Prelude.{nat_eq, position, ◌≡◌, ◌<◌, ◌↔◌, ◌++◌, All, Contains, map, IsTrue, IfOk, OnOk, MatchOption};
 ghost use Rattle.std.specs.List.{flat_map};
-ghost use Rattle.mof_metamodel.specs.Metamodels.{class_count, prop_count, own_props, props_of, lineage_of};
-ghost use Rattle.mof_metamodel.specs.Tables.{prop_numbers, table, starts_of};
+ghost use Rattle.mof_metamodel.specs.Metamodels.{class_count, own_props, props_of, lineage_of};
+ghost use Rattle.mof_metamodel.specs.Tables.{prop_numbers, table};
 
 use crate::desc::PropId;
+use crate::entries::{Entry, value_of};
+use crate::heirs::all_heirs;
 use crate::hierarchy::Hierarchy;
-use crate::lineages::{Line, all_found, all_lineages, all_lines};
+use crate::lineages::{all_found, all_lineages, all_lines};
 use crate::memory::NoMemory;
 use crate::named::Named;
 use crate::or_drop;
 use crate::seq::Seq;
-use indexmap::IndexSet;
 use std::alloc::Global;
 use std::marker::Model;
 
@@ -18,9 +19,9 @@ use std::marker::Model;
 #[derive(Drop)]
 pub(crate) struct Ordered {
     hierarchy: Hierarchy,
-    lines: Vec<Line>,
+    grounded: bool,
     orders: Vec<Seq<PropId>>,
-    starts: Vec<Seq<usize>>,
+    heirs: Vec<Seq<Entry>>,
 }
 
 impl Model for Ordered {
@@ -31,11 +32,11 @@ impl Model for Ordered {
 
     ghost view = { λ o. o.hierarchy };
 
-    ghost invariant = { λ o. IsOrdered o.hierarchy o.lines.items o.orders.items o.starts.items };
+    ghost invariant = { λ o. IsOrdered o.hierarchy o.grounded o.orders.items o.heirs.items };
 }
 
 impl Ordered {
-    ghost use Rattle.mof_metamodel.specs.Tables.{IsPropOf, IsGrounded};
+    ghost use Rattle.mof_metamodel.specs.Tables.{IsPropOf, IsGrounded, IsStart};
     ghost use Rattle.mof_metamodel.specs.Metamodels.{Conforms};
 
     /// The orders of a description.
@@ -43,19 +44,20 @@ impl Ordered {
         ensures { IfOk result (λ o. o ≡ hierarchy) }
     {
         let lines = or_drop!(all_lines(alloc, &hierarchy); hierarchy);
-        let lineages =
-            or_drop!(all_lineages(alloc, &hierarchy, lines.as_slice()); lines, hierarchy);
+        let grounded = all_found(lines.as_slice());
+        let lineages = all_lineages(alloc, &hierarchy, lines.as_slice());
+        drop(lines);
+        let lineages = or_drop!(lineages; hierarchy);
         let named = hierarchy.named();
-        let orders =
-            or_drop!(prop_orders(alloc, named, lineages.as_slice()); lineages, lines, hierarchy);
-        let starts = prop_starts(alloc, named, lineages.as_slice(), orders.as_slice());
+        let orders = or_drop!(prop_orders(alloc, named, lineages.as_slice()); lineages, hierarchy);
+        let heirs = all_heirs(alloc, named, lineages.as_slice());
         drop(lineages);
-        let starts = or_drop!(starts; orders, lines, hierarchy);
+        let heirs = or_drop!(heirs; orders, hierarchy);
         Ok(Ordered {
             hierarchy,
-            lines,
+            grounded,
             orders,
-            starts,
+            heirs,
         })
     }
 
@@ -82,40 +84,44 @@ impl Ordered {
         self.orders[c as usize].as_slice()
     }
 
-    /// The place of a property among those of a class in class order: behind those of the classes before its owner.
-    pub(crate) fn place_of(&self, c: u32, p: u32) -> Option<usize>
-        requires class { c < class_count self.now }
-        requires grounded { IsGrounded self.now }
-        ensures { result ≡ position (nat_eq p) (props_of self.now c) }
+    /// How many properties stand before those of a class among those of another, which conforms to it.
+    fn start(&self, c: u32, d: u32) -> Option<u32>
+        requires { c < class_count self.now }
+        ensures { MatchOption result (Contains (lineage_of self.now c) d → ⊥) (IsStart self.now c d) }
     {
-        if p >= self.named().prop_count() {
+        if d >= self.named().class_count() {
             return None;
         }
-        let order = &self.orders[c as usize];
-        let starts = &self.starts[c as usize];
-        match &self.lines[c as usize] {
-            Some(line) => place_in(self.named(), line, order, starts, p),
-            None => None,
+        value_of(self.heirs[d as usize].as_slice(), c)
+    }
+
+    /// The place of a property among those of a class in class order: behind those of the classes before its owner.
+    pub(crate) fn place_of(&self, c: u32, p: u32) -> Option<usize>
+        requires { c < class_count self.now }
+        ensures { result ≡ position (nat_eq p) (props_of self.now c) }
+    {
+        let named = self.named();
+        if p >= named.prop_count() {
+            return None;
         }
+        let owner = named.owner(p);
+        let start = self.start(c, owner)?;
+        Some((start + (p - named.first_own(owner))) as usize)
     }
 
     /// Whether each class has a class order.
     pub(crate) fn is_grounded(&self) -> bool
         ensures { IsTrue result → IsGrounded self.now }
     {
-        all_found(self.lines.as_slice())
+        self.grounded
     }
 
     /// Whether a class is another, or reaches it by superclasses.
     pub(crate) fn conforms(&self, c: u32, d: u32) -> bool
-        requires class { c < class_count self.now }
-        requires grounded { IsGrounded self.now }
+        requires { c < class_count self.now }
         ensures { IsTrue result ↔ Conforms self.now c d }
     {
-        match &self.lines[c as usize] {
-            Some(line) => line.contains(&d),
-            None => false,
-        }
+        self.start(c, d).is_some()
     }
 }
 
@@ -159,65 +165,4 @@ fn prop_orders(
         orders.push(order)?;
     }
     Ok(orders)
-}
-
-/// How many properties the classes before each class of a class order have; all their properties are given.
-fn starts_in(
-    alloc: Global,
-    named: &Named,
-    classes: &[u32],
-    order: &Seq<PropId>,
-) -> Result<Seq<usize>, NoMemory>
-    requires within { All (λ c. c < class_count named.now) classes.now }
-    requires order { prop_numbers order.now ≡ flat_map (own_props named.now) classes.now }
-    ensures { IfOk result (λ starts. starts ≡ starts_of named.now classes.now) }
-{
-    let _ = order.as_slice();
-    let mut starts = Seq::new(alloc);
-    let mut next = 0;
-    for c in classes {
-        starts.push(next)?;
-        next += named.class(*c).props.len();
-    }
-    Ok(starts)
-}
-
-/// The same of each class.
-fn prop_starts(
-    alloc: Global,
-    named: &Named,
-    lineages: &[Seq<u32>],
-    orders: &[Seq<PropId>],
-) -> Result<Vec<Seq<usize>>, NoMemory>
-    requires lineages { lineages.now ≡ table (lineage_of named.now) (class_count named.now) }
-    requires orders { map prop_numbers orders.now ≡ table (props_of named.now) (class_count named.now) }
-    ensures { IfOk result (λ starts. starts.items ≡ table (λ c. starts_of named.now (lineage_of named.now c)) (class_count named.now)) }
-{
-    let mut starts = Vec::new(alloc);
-    for c in 0..named.class_count() {
-        let classes = lineages[c as usize].as_slice();
-        let start = starts_in(alloc, named, classes, &orders[c as usize])?;
-        starts.push(start)?;
-    }
-    Ok(starts)
-}
-
-/// The place of a property among those of classes, which are given with their starts.
-fn place_in(
-    named: &Named,
-    classes: &IndexSet<u32>,
-    order: &Seq<PropId>,
-    starts: &Seq<usize>,
-    p: u32,
-) -> Option<usize>
-    requires prop { p < prop_count named.now }
-    requires order { prop_numbers order.now ≡ flat_map (own_props named.now) classes.now.keys }
-    requires starts { starts.now ≡ starts_of named.now classes.now.keys }
-    ensures { result ≡ position (nat_eq p) (flat_map (own_props named.now) classes.now.keys) }
-{
-    let _ = order.as_slice();
-    let starts = starts.as_slice();
-    let owner = named.owner(p);
-    let i = classes.get_index_of(&owner)?;
-    Some(starts[i] + (p - named.first_own(owner)) as usize)
 }

@@ -1,9 +1,9 @@
 //! The properties of classes by their names: for each name the classes that have a property of this name, and which.
-ghost use Rattle.std.specs.Prelude.{◌≡◌, ◌<◌, [], length, map, replicate, IfOk, OnOk};
+ghost use Rattle.std.specs.Prelude.{◌≡◌, ◌<◌, length, map, IfOk, OnOk};
 ghost use Rattle.mof_metamodel.specs.Metamodels.{class_count, prop_count, props_of, declared_props};
 ghost use Rattle.mof_metamodel.specs.Tables.{name_number, table, Numbers, AddsEntries, AreHolders};
 
-use crate::entries::Entry;
+use crate::entries::{Entry, no_entries};
 use crate::memory::NoMemory;
 use crate::name_table::NameTable;
 use crate::named::Named;
@@ -47,17 +47,6 @@ pub(crate) fn name_numbers(
     Ok(numbers)
 }
 
-/// An empty list for each number.
-fn no_holders(alloc: Global, count: u32) -> Result<Vec<Seq<Entry>>, NoMemory>
-    ensures { IfOk result (λ holders. holders.items ≡ replicate count []) }
-{
-    let mut holders = Vec::new(alloc);
-    for _p in 0..count {
-        holders.push(Seq::new(alloc))?;
-    }
-    Ok(holders)
-}
-
 /// Adds the properties of a class, each to the list of its name.
 fn add_props(
     holders: &mut [Seq<Entry>],
@@ -92,7 +81,7 @@ pub(crate) fn all_holders(
 {
     let named = ordered.named();
     let numbers = name_numbers(alloc, named, names)?;
-    let mut holders = no_holders(alloc, named.prop_count())?;
+    let mut holders = no_entries(alloc, named.prop_count())?;
     for c in 0..named.class_count() {
         add_props(holders.as_mut_slice(), ordered, numbers.as_slice(), c)?;
     }

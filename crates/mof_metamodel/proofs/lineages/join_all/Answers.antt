@@ -3,29 +3,29 @@ use Rattle.std.specs.Prelude.{Some, OnOk}
 use Rattle.std.proofs.lemmas.Grind.{common_steps}
 use Rattle.mof_metamodel.specs.declared.desc.ClassId.{ClassId}
 use Rattle.mof_metamodel.specs.Metamodels.{united, all_united}
-use Rattle.mof_metamodel.specs.Tables.{class_numbers, line, line_at, AreMarks, HasOrders}
+use Rattle.mof_metamodel.specs.Tables.{class_numbers, line_at, AreMarks, HasOrders}
 use Rattle.mof_metamodel.proofs.LineLemmas.{line_at_read, put_back}
 use Rattle.mof_metamodel.proofs.JoinLemmas.{united_step, has_more}
 use Rattle.mof_metamodel.proofs.lineages.join_all.Goals as goal
 
-pub loop-c-preserved : goal.loop-c-preserved
-loop-c-preserved c =
-    let x : ClassId = get_or c.args.supers.now c.loop-c.c-index (record { 0 = 0 }) in
+pub loop-s-preserved : goal.loop-s-preserved
+loop-s-preserved c =
+    let x : ClassId = get_or c.args.supers.now c.loop-s.s-index (record { 0 = 0 }) in
     let e = ap length c.as_mut_slice.ensures.value in
-    let put = put_back c.join_one.new.marks c.loop-c.marks.items c.loop-c.marks.len (omega (arith, e)) (omega arith) in
-    let within : x.0 < length c.args.orders.now = c.requires.within c.loop-c.c-index (record { 0 = 0 }) (omega arith) in
-    let there : line_at c.args.orders.now x.0 ≡ Some c.in-Some.order.keys = line_at_read c.args.orders.now x.0 c.index-orders-c.result within c.index-orders-c.is ∙ ap line c.in-Some.is in
-    let keys : c.join_one.new.joint.keys ≡ united c.loop-c.joint.keys c.in-Some.order.keys =
-    subst (λ r. OnOk r (c.join_one.new.joint.keys ≡ united c.loop-c.joint.keys c.in-Some.order.keys)) c.in-Ok-join_one.is c.join_one.ensures.keys in
-    let marks : AreMarks c.join_one.new.marks c.join_one.new.joint.keys =
-    subst (λ r. OnOk r (AreMarks c.join_one.new.marks c.join_one.new.joint.keys)) c.in-Ok-join_one.is c.join_one.ensures.marks in
-    let P : List Bool → Type 0 = λ marks. (length marks ≡ length c.args.orders.now) × AreMarks marks c.join_one.new.joint.keys in
-    let marked = subst P (sym put) ((let long = c.loop-c.invariant.1 in omega (arith, e, long)), marks) in (
-      ap (λ acc. all_united acc (map (line_at c.args.orders.now) (class_numbers (drop (c.loop-c.c-index + 1) c.args.supers.now)))) keys
-          ∙ sym (united_step c.args.orders.now c.args.supers.now c.loop-c.c-index (record { 0 = 0 }) c.loop-c.joint.keys c.in-Some.order.keys (omega arith) there) ∙ c.loop-c.invariant.0,
+    let put = put_back c.join_one.new.marks c.loop-s.marks.items c.loop-s.marks.len (omega (arith, e)) (omega arith) in
+    let within : x.0 < length c.args.orders.now = c.requires.within c.loop-s.s-index (record { 0 = 0 }) (omega arith) in
+    let there : line_at c.args.orders.now x.0 ≡ Some c.in-Some.order = line_at_read c.args.orders.now x.0 c.index-orders-s.result within c.index-orders-s.is ∙ c.in-Some.is in
+    let order : c.join_one.new.joint ≡ united c.loop-s.joint c.in-Some.order =
+    subst (λ r. OnOk r (c.join_one.new.joint ≡ united c.loop-s.joint c.as_slice.result.now)) c.in-Ok-join_one.is c.join_one.ensures.joint ∙ ap (united c.loop-s.joint) c.as_slice.ensures in
+    let marks : AreMarks c.join_one.new.marks c.join_one.new.joint =
+    subst (λ r. OnOk r (AreMarks c.join_one.new.marks c.join_one.new.joint)) c.in-Ok-join_one.is c.join_one.ensures.marks in
+    let P : List Bool → Type 0 = λ marks. (length marks ≡ length c.args.orders.now) × AreMarks marks c.join_one.new.joint in
+    let marked = subst P (sym put) ((let long = c.loop-s.invariant.1 in omega (arith, e, long)), marks) in (
+      ap (λ acc. all_united acc (map (line_at c.args.orders.now) (class_numbers (drop (c.loop-s.s-index + 1) c.args.supers.now)))) order
+          ∙ sym (united_step c.args.orders.now c.args.supers.now c.loop-s.s-index (record { 0 = 0 }) c.loop-s.joint c.in-Some.order (omega arith) there) ∙ c.loop-s.invariant.0,
       marked.0,
       marked.1,
-      subst (HasOrders c.args.orders.now) (sym keys) (has_more c.args.orders.now c.requires.orders c.loop-c.joint.keys x.0 c.in-Some.order.keys there c.loop-c.invariant.3),
+      subst (HasOrders c.args.orders.now) (sym order) (has_more c.args.orders.now c.requires.orders c.loop-s.joint x.0 c.in-Some.order there c.loop-s.invariant.3),
     )
 
 pub join_one-requires-clause-within : goal.join_one-requires-clause-within

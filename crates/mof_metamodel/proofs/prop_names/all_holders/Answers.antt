@@ -1,6 +1,6 @@
-use Rattle.std.proofs.Common.{◌≡◌, ◌<◌, ◌+◌, ℕ, List, ap, ◌∙◌, sym, subst, arith, length, map, replicate, []}
+use Rattle.std.proofs.Common.{◌≡◌, ℕ, List, ap, ◌∙◌, subst, arith, length, map}
 use Rattle.mof_metamodel.specs.declared.entries.Entry.{Entry}
-use Rattle.mof_metamodel.specs.Metamodels.{class_count, prop_count, props_of}
+use Rattle.mof_metamodel.specs.Metamodels.{class_count, props_of}
 use Rattle.mof_metamodel.specs.Tables.{AddsEntries, AreHolders, name_number}
 use Rattle.mof_metamodel.proofs.HolderLemmas.{holders_more}
 use Rattle.mof_metamodel.proofs.LineLemmas.{put_back}

@@ -1,6 +1,6 @@
-use Rattle.std.proofs.Common.{◌≡◌, ◌+◌, ◌<◌, ◌∙◌, ap, sym, subst, ℕ, List, length, get_or, arith}
+use Rattle.std.proofs.Common.{◌≡◌, ◌+◌, ◌∙◌, ap, sym, subst, ℕ, List, length, get_or, arith}
 use Rattle.std.proofs.lemmas.List.Elements.{Contains-get_or}
-use Rattle.mof_metamodel.specs.Metamodels.{class_count, united}
+use Rattle.mof_metamodel.specs.Metamodels.{united}
 use Rattle.mof_metamodel.specs.Tables.{IsWalk, class_numbers}
 use Rattle.mof_metamodel.proofs.LineageLemmas.{Has, Has-from_Contains}
 use Rattle.mof_metamodel.proofs.WalkLemmas.{walk_short, walk_more, walk_done}

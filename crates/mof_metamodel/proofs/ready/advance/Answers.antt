@@ -1,8 +1,8 @@
-use Rattle.std.proofs.Common.{◌≡◌, ◌<◌, ◌≤◌, ℕ, List, ap, ◌∙◌, sym, subst, arith, length, get_or, set}
+use Rattle.std.proofs.Common.{◌≡◌, ℕ, List, ap, ◌∙◌, sym, subst, arith, length, get_or, set}
 use Rattle.std.specs.Prelude.{None, Result, Ok, Err, OnOk}
 use Rattle.std.proofs.lemmas.List.{length-map}
 use Rattle.mof_metamodel.specs.declared.desc.ClassId.{ClassId}
-use Rattle.mof_metamodel.specs.Metamodels.{supers_of, with_item}
+use Rattle.mof_metamodel.specs.Metamodels.{supers_of}
 use Rattle.mof_metamodel.specs.Tables.{line_at, HaveLines, IsQueue, AreMarks}
 use Rattle.mof_metamodel.proofs.QueueLemmas.{waits_at, ready_more}
 use Rattle.mof_metamodel.proofs.ready.advance.Goals as goal

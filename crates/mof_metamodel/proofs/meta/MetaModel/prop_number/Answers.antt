@@ -1,10 +1,9 @@
-use Rattle.std.proofs.Common.{◌≡◌, ◌<◌, ℕ, List, [], ap, ◌∙◌, sym, subst, arith, length, get_or}
+use Rattle.std.proofs.Common.{◌≡◌, ◌<◌, [], ◌∙◌, sym, subst, arith, get_or}
 use Rattle.std.specs.Prelude.{chars, IfSome, None}
 use Rattle.std.proofs.lemmas.List.{get_or_default}
 use Rattle.mof_metamodel.specs.declared.desc.MetaDesc.{MetaDesc}
-use Rattle.mof_metamodel.specs.declared.entries.Entry.{Entry}
 use Rattle.mof_metamodel.specs.Metamodels.{class_count, prop_count, prop_number}
-use Rattle.mof_metamodel.specs.Tables.{Names, Numbers, number_in, AreHolders, AreRising}
+use Rattle.mof_metamodel.specs.Tables.{AreRising}
 use Rattle.mof_metamodel.proofs.HolderLemmas.{number_short, no_number, prop_is_none, held_result, held_within}
 use Rattle.mof_metamodel.proofs.meta.MetaModel.prop_number.Goals as goal
 

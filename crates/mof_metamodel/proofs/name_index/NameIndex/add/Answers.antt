@@ -1,4 +1,4 @@
-use Rattle.std.proofs.Common.{◌≡◌, ℕ, ◌+◌, ◌∙◌, ap, List, false, ◌++◌, ◌∷◌, [], length, cond}
+use Rattle.std.proofs.Common.{◌≡◌, ◌+◌, ◌∙◌, ap, false, ◌++◌, ◌∷◌, [], length, cond}
 use Rattle.std.specs.Prelude.{chars, is_some, position, Option, None, Some, string_bytes, String}
 use Rattle.std.specs.declared.alloc.Global.{Global}
 use Rattle.std.specs.String.{string_cmp}
