@@ -42,8 +42,8 @@ pub fn part_all(arena: &mut Arena, end: u32) {
 
 /// The ends that an end is joined to.
 fn listed(alloc: Global, arena: &Arena, end: u32) -> Result<Vec<u32>, AllocError>
-    requires { end < length arena.now }
-    ensures { IfOk result (λ order. order.items ≡ others_of arena.now end) }
+    requires { end < length arena.now.links }
+    ensures { IfOk result (λ order. order.items ≡ others_of arena.now.links end) }
 {
     arena.others(end).collect(alloc)
 }

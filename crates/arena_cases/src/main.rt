@@ -6,6 +6,7 @@
 //! | `ends COUNT` | begins an arena with so many ends |
 //! | `ring COUNT` | the same, with each end joined to the next one and to the seventh |
 //! | `star COUNT` | the same, with end 0 joined to each other one |
+//! | `reserve ENDS JOINS` | makes room for so many more |
 //! | `join A B`, `part A B`, `part_all A` | edits the arena |
 //! | `part_evens` | parts each even end from all |
 //! | `part_from A B` | parts end A from B and all ends above |

@@ -101,6 +101,7 @@ impl Session {
             "ends" => self.begin(first),
             "ring" => self.begin_ring(first),
             "star" => self.begin_star(first),
+            "reserve" => self.arena.reserve(first, second as usize),
             "join" => join(&mut self.arena, first, second),
             "reverse" => reverse(self.alloc, &mut self.arena, first),
             "copy" => self.keep_copy(),

@@ -4,8 +4,8 @@ use Rattle.std.proofs.lemmas.List.{get_or-set_same, set-set, set-get_or, take_mo
 use Rattle.std.proofs.lemmas.List.Sorted.{IsPermutation-sym, length_permutation, Contains-permutation}
 use Rattle.std.proofs.lemmas.List.Elements.{Contains-get_or}
 use Rattle.std.specs.Prelude.{Contains, IsPermutation}
-use Rattle.link_arena.specs.declared.slot.Slot.{Slot}
-use Rattle.link_arena.specs.declared.slot.Head.{Head}
+use Rattle.link_arena.specs.declared.half.Half.{Half}
+use Rattle.link_arena.specs.declared.half.Head.{Head}
 use Rattle.link_arena.specs.Links.{others_of, without, IsSimple}
 use Rattle.link_arena.specs.Lists.{nexts, lists, list_at, list_of, head_at, owner_at, owners}
 use Rattle.link_arena.specs.Twins.{twin, other, links, IsArena, IsListed}
@@ -59,55 +59,55 @@ all_in_order V now a i order ok same all is =
     is ∙ (ap (λ (l : List ℕ). set V a (requeued xs l)) (take_all i order all) ∙ ap (set V a) whole)
 
 -- the number of an order has a mark
-pub order_within : (heads : List Head) (slots : List Slot) → IsArena heads slots → (a i : ℕ) (order : List ℕ)
-    → IsPermutation order (others_of (links heads slots) a) → i < length order → get_or order i 0 + 1 < length heads
-order_within heads slots ok a i order same more =
+pub order_within : (heads : List Head) (halves : List Half) → IsArena heads halves → (a i : ℕ) (order : List ℕ)
+    → IsPermutation order (others_of (links heads halves) a) → i < length order → get_or order i 0 + 1 < length heads
+order_within heads halves ok a i order same more =
     let x : ℕ = get_or order i 0 in
-    let has : Contains (others_of (links heads slots) a) x = Contains-permutation order (others_of (links heads slots) a) x same (Contains-get_or order i 0 more) in
-    let h : x < length (links heads slots) = (simple heads slots ok).within a x has in
-    omega (arith, length_links heads slots)
+    let has : Contains (others_of (links heads halves) a) x = Contains-permutation order (others_of (links heads halves) a) x same (Contains-get_or order i 0 more) in
+    let h : x < length (links heads halves) = (simple heads halves ok).within a x has in
+    omega (arith, length_links heads halves)
 
--- the slots of an end lead to ends
-pub listed_at : (heads : List Head) (slots : List Slot) → IsArena heads slots → (a A : ℕ) → A ≡ suc a → A < length heads
-    → (s : ℕ) → IsIn s (list_at heads slots A) → (owner_at slots s ≡ suc a) × ((owner_at slots (twin s) ≢ 0) × (owner_at slots (twin s) < length heads))
-listed_at heads slots ok a A is within s h =
-    let own : owner_at slots s ≡ suc a = owned_in ok.filed.threaded A s h ∙ is in
-    let some : owner_at slots (twin s) ≢ 0 = used_twin heads slots ok s a own in
-    let twin_within : twin s < length slots = (list_bounds heads slots ok A within s h).1 in
-    let there : IsIn (twin s) (list_at heads slots (owner_at slots (twin s))) = filed_in ok.filed (twin s) twin_within in
-    (own, (some, in_heads heads slots (owner_at slots (twin s)) (twin s) there))
+-- the halves of an end lead to ends
+pub listed_at : (heads : List Head) (halves : List Half) → IsArena heads halves → (a A : ℕ) → A ≡ suc a → A < length heads
+    → (s : ℕ) → IsIn s (list_at heads halves A) → (owner_at halves s ≡ suc a) × ((owner_at halves (twin s) ≢ 0) × (owner_at halves (twin s) < length heads))
+listed_at heads halves ok a A is within s h =
+    let own : owner_at halves s ≡ suc a = owned_in ok.filed.threaded A s h ∙ is in
+    let some : owner_at halves (twin s) ≢ 0 = used_twin heads halves ok s a own in
+    let twin_within : twin s < length halves = (list_bounds heads halves ok A within s h).1 in
+    let there : IsIn (twin s) (list_at heads halves (owner_at halves (twin s))) = filed_in ok.filed (twin s) twin_within in
+    (own, (some, in_heads heads halves (owner_at halves (twin s)) (twin s) there))
   where
-    in_heads : (heads : List Head) (slots : List Slot) (j s : ℕ) → IsIn s (list_at heads slots j) → j < length heads
-    in_heads heads slots j s h =
-        let k : j < length (lists heads slots) = in_some_list (lists heads slots) j s h in
-        omega (arith, length-map heads (list_of slots))
+    in_heads : (heads : List Head) (halves : List Half) (j s : ℕ) → IsIn s (list_at heads halves j) → j < length heads
+    in_heads heads halves j s h =
+        let k : j < length (lists heads halves) = in_some_list (lists heads halves) j s h in
+        omega (arith, length-map heads (list_of halves))
 
-pub end_listed : (heads : List Head) (slots : List Slot) → IsArena heads slots → (a A : ℕ) → A ≡ suc a → A < length heads
-    → IsListed slots (list_of slots (head_at heads A))
-end_listed heads slots ok a A is within = record {
-  within = λ s h. (list_bounds heads slots ok A within s (in_list_at heads slots A within s (in_from (list_of slots (head_at heads A)) s h))).0;
-  twin_within = λ s h. (list_bounds heads slots ok A within s (in_list_at heads slots A within s (in_from (list_of slots (head_at heads A)) s h))).1;
-  some = λ s h. (let n : owner_at slots (twin s) ≢ 0 = (listed_at heads slots ok a A is within s (in_list_at heads slots A within s (in_from (list_of slots (head_at heads A)) s h))).1.0 in omega arith);
-  few = λ s h. (let n : owner_at slots (twin s) < length heads = (listed_at heads slots ok a A is within s (in_list_at heads slots A within s (in_from (list_of slots (head_at heads A)) s h))).1.1 in omega (arith, ok.few));
+pub end_listed : (heads : List Head) (halves : List Half) → IsArena heads halves → (a A : ℕ) → A ≡ suc a → A < length heads
+    → IsListed halves (list_of halves (head_at heads A))
+end_listed heads halves ok a A is within = record {
+  within = λ s h. (list_bounds heads halves ok A within s (in_list_at heads halves A within s (in_from (list_of halves (head_at heads A)) s h))).0;
+  twin_within = λ s h. (list_bounds heads halves ok A within s (in_list_at heads halves A within s (in_from (list_of halves (head_at heads A)) s h))).1;
+  some = λ s h. (let n : owner_at halves (twin s) ≢ 0 = (listed_at heads halves ok a A is within s (in_list_at heads halves A within s (in_from (list_of halves (head_at heads A)) s h))).1.0 in omega arith);
+  few = λ s h. (let n : owner_at halves (twin s) < length heads = (listed_at heads halves ok a A is within s (in_list_at heads halves A within s (in_from (list_of halves (head_at heads A)) s h))).1.1 in omega (arith, ok.few));
 }
 
-pub end_single : (heads : List Head) (slots : List Slot) → IsArena heads slots → (a A : ℕ) → A ≡ suc a → A < length heads
-    → (s u : ℕ) → Contains (list_of slots (head_at heads A)) s → Contains (list_of slots (head_at heads A)) u → owner_at slots (twin s) ≡ owner_at slots (twin u) → s ≡ u
-end_single heads slots ok a A is within s u hs hu same =
-    let os : owner_at slots s ≡ suc a = (listed_at heads slots ok a A is within s (in_list_at heads slots A within s (in_from (list_of slots (head_at heads A)) s hs))).0 in
-    let ou : owner_at slots u ≡ suc a = (listed_at heads slots ok a A is within u (in_list_at heads slots A within u (in_from (list_of slots (head_at heads A)) u hu))).0 in
+pub end_single : (heads : List Head) (halves : List Half) → IsArena heads halves → (a A : ℕ) → A ≡ suc a → A < length heads
+    → (s u : ℕ) → Contains (list_of halves (head_at heads A)) s → Contains (list_of halves (head_at heads A)) u → owner_at halves (twin s) ≡ owner_at halves (twin u) → s ≡ u
+end_single heads halves ok a A is within s u hs hu same =
+    let os : owner_at halves s ≡ suc a = (listed_at heads halves ok a A is within s (in_list_at heads halves A within s (in_from (list_of halves (head_at heads A)) s hs))).0 in
+    let ou : owner_at halves u ≡ suc a = (listed_at heads halves ok a A is within u (in_list_at heads halves A within u (in_from (list_of halves (head_at heads A)) u hu))).0 in
     ok.twinned.single s u (λ z. (let k : suc a ≡ 0 = sym os ∙ z in omega arith)) (os ∙ sym ou) same
 
 -- what an end's list shows
-pub view_at : (heads : List Head) (slots : List Slot) (a A : ℕ) → A ≡ suc a → A < length heads
-    → others_of (links heads slots) a ≡ map (other (owners slots)) (list_of slots (head_at heads A))
-view_at heads slots a A is within =
-    at_shown (owners slots) (lists heads slots) a
-    ∙ (ap (λ (i : ℕ). map (other (owners slots)) (list_at heads slots i)) (sym is)
-    ∙ ap (map (other (owners slots))) (list_at-is heads slots A within))
+pub view_at : (heads : List Head) (halves : List Half) (a A : ℕ) → A ≡ suc a → A < length heads
+    → others_of (links heads halves) a ≡ map (other (owners halves)) (list_of halves (head_at heads A))
+view_at heads halves a A is within =
+    at_shown (owners halves) (lists heads halves) a
+    ∙ (ap (λ (i : ℕ). map (other (owners halves)) (list_at heads halves i)) (sym is)
+    ∙ ap (map (other (owners halves))) (list_at-is heads halves A within))
 
-pub degree_at : (heads : List Head) (slots : List Slot) (a A : ℕ) → A ≡ suc a → A < length heads
-    → length (others_of (links heads slots) a) ≡ (head_at heads A).len
-degree_at heads slots a A is within =
-    ap length (view_at heads slots a A is within)
-    ∙ (length-map (list_of slots (head_at heads A)) (other (owners slots)) ∙ length-walk (nexts slots) (head_at heads A).len (head_at heads A).first)
+pub degree_at : (heads : List Head) (halves : List Half) (a A : ℕ) → A ≡ suc a → A < length heads
+    → length (others_of (links heads halves) a) ≡ (head_at heads A).len
+degree_at heads halves a A is within =
+    ap length (view_at heads halves a A is within)
+    ∙ (length-map (list_of halves (head_at heads A)) (other (owners halves)) ∙ length-walk (nexts halves) (head_at heads A).len (head_at heads A).first)

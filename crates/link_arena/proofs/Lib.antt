@@ -21,3 +21,6 @@ pub mod Requeued
 pub mod Ordering
 pub mod InOrder
 pub mod Begun
+pub mod Free
+pub mod Roomy
+pub mod Refuting

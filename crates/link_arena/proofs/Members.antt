@@ -1,8 +1,8 @@
 -- Membership and difference by recursion. Definitions and contracts say `Contains` and `AllPairs`; here stands what ties the two.
 use Rattle.std.proofs.Common.{◌≡◌, ◌≢◌, ℕ, zero, suc, ◌<◌, ◌⊎◌, List, [], ◌∷◌, length, get_or, sym, subst, arith, inl, inr}
 use Rattle.std.specs.Prelude.{Contains, AllPairs}
-use Rattle.link_arena.specs.declared.slot.Slot.{Slot}
-use Rattle.link_arena.specs.declared.slot.Head.{Head}
+use Rattle.link_arena.specs.declared.half.Half.{Half}
+use Rattle.link_arena.specs.declared.half.Head.{Head}
 use Rattle.link_arena.specs.Threads.{IsThread}
 use Rattle.link_arena.specs.Lists.{list_at, owner_at, IsThreaded, IsFiled}
 use Rattle.link_arena.specs.Twins.{twin, IsListed}
@@ -55,14 +55,14 @@ thread_within {xs = xs} t x h = t.within x (contains_in xs x h)
 pub thread_apart : {N P : List ℕ} {f l : ℕ} {xs : List ℕ} → IsThread N P f l xs → IsDistinct xs
 thread_apart {xs = xs} t = distinct_from xs t.apart
 
-pub owned_in : {heads : List Head} {slots : List Slot} → IsThreaded heads slots → (id s : ℕ) → IsIn s (list_at heads slots id) → owner_at slots s ≡ id
-owned_in {heads = heads} {slots = slots} ok id s h = ok.owned id s (contains_in (list_at heads slots id) s h)
+pub owned_in : {heads : List Head} {halves : List Half} → IsThreaded heads halves → (id s : ℕ) → IsIn s (list_at heads halves id) → owner_at halves s ≡ id
+owned_in {heads = heads} {halves = halves} ok id s h = ok.owned id s (contains_in (list_at heads halves id) s h)
 
-pub filed_in : {heads : List Head} {slots : List Slot} → IsFiled heads slots → (s : ℕ) → s < length slots → IsIn s (list_at heads slots (owner_at slots s))
-filed_in {heads = heads} {slots = slots} ok s h = in_from (list_at heads slots (owner_at slots s)) s (ok.all s h)
+pub filed_in : {heads : List Head} {halves : List Half} → IsFiled heads halves → (s : ℕ) → s < length halves → IsIn s (list_at heads halves (owner_at halves s))
+filed_in {heads = heads} {halves = halves} ok s h = in_from (list_at heads halves (owner_at halves s)) s (ok.all s h)
 
-pub listed_within : {slots : List Slot} {xs : List ℕ} → IsListed slots xs → (s : ℕ) → IsIn s xs → s < length slots
+pub listed_within : {halves : List Half} {xs : List ℕ} → IsListed halves xs → (s : ℕ) → IsIn s xs → s < length halves
 listed_within {xs = xs} ok s h = ok.within s (contains_in xs s h)
 
-pub listed_twin : {slots : List Slot} {xs : List ℕ} → IsListed slots xs → (s : ℕ) → IsIn s xs → twin s < length slots
+pub listed_twin : {halves : List Half} {xs : List ℕ} → IsListed halves xs → (s : ℕ) → IsIn s xs → twin s < length halves
 listed_twin {xs = xs} ok s h = ok.twin_within s (contains_in xs s h)

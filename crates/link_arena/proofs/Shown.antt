@@ -42,7 +42,7 @@ map-without f g s b (x ∷ xs) same is =
           rw (test, test2) (ap (λ (l : List ℕ). f x ∷ l) rest ∙ ap (λ (k : ℕ). k ∷ without b (map g xs)) both.0)
     ]
 
--- a slot that moves
+-- a half that moves
 
 pub length-moved : (L : List (List ℕ)) (from to x : ℕ) → length (moved_to L from to x) ≡ length L
 length-moved L from to x =

@@ -2,8 +2,8 @@
 use Rattle.std.proofs.Common.{◌≡◌, ◌≢◌, ℕ, ◌<◌, ◌≤◌, ◌+◌, ◌-◌, List, [], ◌∷◌, ◌++◌, length, get_or, set, map, refl, sym, ◌∙◌, ap, subst, arith, inl, inr, zero, suc, reverse, true, false, eqb, eq-eqb, ne_eqb}
 use Rattle.std.proofs.lemmas.Bool.{cases_eq}
 use Rattle.std.proofs.lemmas.List.{get_or-set_same, get_or-set_other, length-set, length-map, ext_get_or, length-append, length_push}
-use Rattle.link_arena.specs.declared.slot.Slot.{Slot}
-use Rattle.link_arena.specs.declared.slot.Head.{Head}
+use Rattle.link_arena.specs.declared.half.Half.{Half}
+use Rattle.link_arena.specs.declared.half.Head.{Head}
 use Rattle.link_arena.specs.Links.{without}
 use Rattle.link_arena.specs.Threads.{walk, IsThread, LeadsThrough, start_past, step_past, start_onto, step_onto, last_or, first_or}
 use Rattle.link_arena.specs.Lists.{nexts, previouses, owners, list_of, lists, head_at, list_at, IsThreaded, IsAfter}
@@ -22,73 +22,73 @@ length-walk step (suc n) start = ap suc (length-walk step n (get_or step start 0
 no_head : Head
 no_head = record { first = 0; last = 0; len = 0 }
 
-pub list_at-is : (heads : List Head) (slots : List Slot) (id : ℕ) → id < length heads → list_at heads slots id ≡ list_of slots (head_at heads id)
-list_at-is heads slots id within = get_or-mapped (list_of slots) heads id (record { first = 0; last = 0; len = 0 }) [] within
+pub list_at-is : (heads : List Head) (halves : List Half) (id : ℕ) → id < length heads → list_at heads halves id ≡ list_of halves (head_at heads id)
+list_at-is heads halves id within = get_or-mapped (list_of halves) heads id (record { first = 0; last = 0; len = 0 }) [] within
 
-pub length-list_at : (heads : List Head) (slots : List Slot) (id : ℕ) → id < length heads → length (list_at heads slots id) ≡ (head_at heads id).len
-length-list_at heads slots id within =
-    ap length (list_at-is heads slots id within) ∙ length-walk (nexts slots) (head_at heads id).len (head_at heads id).first
+pub length-list_at : (heads : List Head) (halves : List Half) (id : ℕ) → id < length heads → length (list_at heads halves id) ≡ (head_at heads id).len
+length-list_at heads halves id within =
+    ap length (list_at-is heads halves id within) ∙ length-walk (nexts halves) (head_at heads id).len (head_at heads id).first
 
-pub thread-walk : (slots : List Slot) (head : Head) (xs : List ℕ) → IsThread (nexts slots) (previouses slots) head.first head.last xs
-    → head.len ≡ length xs → list_of slots head ≡ xs
-thread-walk slots head xs t len =
-    ap (λ (n : ℕ). walk (nexts slots) n head.first) len ∙ walk_is (nexts slots) head.first xs t.ahead
+pub thread-walk : (halves : List Half) (head : Head) (xs : List ℕ) → IsThread (nexts halves) (previouses halves) head.first head.last xs
+    → head.len ≡ length xs → list_of halves head ≡ xs
+thread-walk halves head xs t len =
+    ap (λ (n : ℕ). walk (nexts halves) n head.first) len ∙ walk_is (nexts halves) head.first xs t.ahead
 
-pub rebuilt : (heads : List Head) (slots : List Slot) (id : ℕ) (h' : Head) (slots' : List Slot) (xs : List ℕ) → id < length heads
-    → IsThread (nexts slots') (previouses slots') h'.first h'.last xs → h'.len ≡ length xs
+pub rebuilt : (heads : List Head) (halves : List Half) (id : ℕ) (h' : Head) (halves' : List Half) (xs : List ℕ) → id < length heads
+    → IsThread (nexts halves') (previouses halves') h'.first h'.last xs → h'.len ≡ length xs
     → ((j : ℕ) → j < length heads → j ≢ id
-    → IsThread (nexts slots') (previouses slots') (head_at heads j).first (head_at heads j).last (list_at heads slots j))
-    → ((j s : ℕ) → IsIn s (get_or (set (lists heads slots) id xs) j []) → get_or (owners slots') s 0 ≡ j)
-    → IsAfter heads slots (set heads id h') slots' id xs
-rebuilt heads slots id h' slots' xs within mine len beside owned =
+    → IsThread (nexts halves') (previouses halves') (head_at heads j).first (head_at heads j).last (list_at heads halves j))
+    → ((j s : ℕ) → IsIn s (get_or (set (lists heads halves) id xs) j []) → get_or (owners halves') s 0 ≡ j)
+    → IsAfter heads halves (set heads id h') halves' id xs
+rebuilt heads halves id h' halves' xs within mine len beside owned =
     let heads' : List Head = set heads id h' in
     let count : length heads' ≡ length heads = length-set heads id h' in
     let here : head_at heads' id ≡ h' = get_or-set_same heads id h' (record { first = 0; last = 0; len = 0 }) within in
-    let same_len : length (lists heads' slots') ≡ length (set (lists heads slots) id xs) =
-    length-map heads' (list_of slots') ∙ (count ∙ (sym (length-map heads (list_of slots)) ∙ sym (length-set (lists heads slots) id xs))) in
-    let in_lists : id < length (lists heads slots) = subst (λ (n : ℕ). id < n) (sym (length-map heads (list_of slots))) within in
-    let each : (j : ℕ) → j < length (lists heads' slots') → get_or (lists heads' slots') j [] ≡ get_or (set (lists heads slots) id xs) j [] = λ j h.
-    let jn : j < length heads' = subst (λ (n : ℕ). j < n) (length-map heads' (list_of slots')) h in
+    let same_len : length (lists heads' halves') ≡ length (set (lists heads halves) id xs) =
+    length-map heads' (list_of halves') ∙ (count ∙ (sym (length-map heads (list_of halves)) ∙ sym (length-set (lists heads halves) id xs))) in
+    let in_lists : id < length (lists heads halves) = subst (λ (n : ℕ). id < n) (sym (length-map heads (list_of halves))) within in
+    let each : (j : ℕ) → j < length (lists heads' halves') → get_or (lists heads' halves') j [] ≡ get_or (set (lists heads halves) id xs) j [] = λ j h.
+    let jn : j < length heads' = subst (λ (n : ℕ). j < n) (length-map heads' (list_of halves')) h in
     let jo : j < length heads = subst (λ (n : ℕ). j < n) count jn in
     elim (cases_eq j id) [
       | inl e ↦
-          let at_id : get_or (lists heads' slots') id [] ≡ get_or (set (lists heads slots) id xs) id [] =
-          list_at-is heads' slots' id (subst (λ (n : ℕ). id < n) (sym count) within)
-          ∙ (ap (list_of slots') here ∙ (thread-walk slots' h' xs mine len ∙ sym (get_or-set_same (lists heads slots) id xs [] in_lists))) in
-          subst (λ (k : ℕ). get_or (lists heads' slots') k [] ≡ get_or (set (lists heads slots) id xs) k []) (sym e) at_id
+          let at_id : get_or (lists heads' halves') id [] ≡ get_or (set (lists heads halves) id xs) id [] =
+          list_at-is heads' halves' id (subst (λ (n : ℕ). id < n) (sym count) within)
+          ∙ (ap (list_of halves') here ∙ (thread-walk halves' h' xs mine len ∙ sym (get_or-set_same (lists heads halves) id xs [] in_lists))) in
+          subst (λ (k : ℕ). get_or (lists heads' halves') k [] ≡ get_or (set (lists heads halves) id xs) k []) (sym e) at_id
       | inr n ↦
-          list_at-is heads' slots' j jn
-          ∙ (ap (list_of slots') (get_or-set_other heads id j h' (record { first = 0; last = 0; len = 0 }) n)
-          ∙ (thread-walk slots' (head_at heads j) (list_at heads slots j) (beside j jo n) (sym (length-list_at heads slots j jo))
-          ∙ sym (get_or-set_other (lists heads slots) id j xs [] n)))
+          list_at-is heads' halves' j jn
+          ∙ (ap (list_of halves') (get_or-set_other heads id j h' (record { first = 0; last = 0; len = 0 }) n)
+          ∙ (thread-walk halves' (head_at heads j) (list_at heads halves j) (beside j jo n) (sym (length-list_at heads halves j jo))
+          ∙ sym (get_or-set_other (lists heads halves) id j xs [] n)))
     ] in
-    let eq : lists heads' slots' ≡ set (lists heads slots) id xs = ext_get_or [] (lists heads' slots') (set (lists heads slots) id xs) same_len each in
+    let eq : lists heads' halves' ≡ set (lists heads halves) id xs = ext_get_or [] (lists heads' halves') (set (lists heads halves) id xs) same_len each in
     record {
       threaded = record {
         thread = λ j h.
             let jo : j < length heads = subst (λ (n : ℕ). j < n) count h in
             elim (cases_eq j id) [
               | inl e ↦
-                  let list_is : list_at heads' slots' id ≡ xs = ap (λ (l : List (List ℕ)). get_or l id []) eq ∙ get_or-set_same (lists heads slots) id xs [] in_lists in
-                  let P : ℕ → Type 0 = λ (k : ℕ). IsThread (nexts slots') (previouses slots') (head_at heads' k).first (head_at heads' k).last (list_at heads' slots' k) in
-                  let Q : Head → Type 0 = λ (k : Head). IsThread (nexts slots') (previouses slots') k.first k.last (list_at heads' slots' id) in
-                  let R : List ℕ → Type 0 = λ (l : List ℕ). IsThread (nexts slots') (previouses slots') h'.first h'.last l in
+                  let list_is : list_at heads' halves' id ≡ xs = ap (λ (l : List (List ℕ)). get_or l id []) eq ∙ get_or-set_same (lists heads halves) id xs [] in_lists in
+                  let P : ℕ → Type 0 = λ (k : ℕ). IsThread (nexts halves') (previouses halves') (head_at heads' k).first (head_at heads' k).last (list_at heads' halves' k) in
+                  let Q : Head → Type 0 = λ (k : Head). IsThread (nexts halves') (previouses halves') k.first k.last (list_at heads' halves' id) in
+                  let R : List ℕ → Type 0 = λ (l : List ℕ). IsThread (nexts halves') (previouses halves') h'.first h'.last l in
                   subst P (sym e) (subst Q (sym here) (subst R (sym list_is) mine))
               | inr n ↦
-                  let list_is : list_at heads' slots' j ≡ list_at heads slots j = ap (λ (l : List (List ℕ)). get_or l j []) eq ∙ get_or-set_other (lists heads slots) id j xs [] n in
+                  let list_is : list_at heads' halves' j ≡ list_at heads halves j = ap (λ (l : List (List ℕ)). get_or l j []) eq ∙ get_or-set_other (lists heads halves) id j xs [] n in
                   let there : head_at heads' j ≡ head_at heads j = get_or-set_other heads id j h' (record { first = 0; last = 0; len = 0 }) n in
-                  let Q : Head → Type 0 = λ (k : Head). IsThread (nexts slots') (previouses slots') k.first k.last (list_at heads' slots' j) in
-                  let R : List ℕ → Type 0 = λ (l : List ℕ). IsThread (nexts slots') (previouses slots') (head_at heads j).first (head_at heads j).last l in
+                  let Q : Head → Type 0 = λ (k : Head). IsThread (nexts halves') (previouses halves') k.first k.last (list_at heads' halves' j) in
+                  let R : List ℕ → Type 0 = λ (l : List ℕ). IsThread (nexts halves') (previouses halves') (head_at heads j).first (head_at heads j).last l in
                   subst Q (sym there) (subst R (sym list_is) (beside j jo n))
             ];
-        owned = λ j s h. owned j s (subst (λ (l : List (List ℕ)). IsIn s (get_or l j [])) eq (in_from (list_at heads' slots' j) s h));
+        owned = λ j s h. owned j s (subst (λ (l : List (List ℕ)). IsIn s (get_or l j [])) eq (in_from (list_at heads' halves' j) s h));
       };
       lists_are = eq;
     }
 
-pub apart_lists : (heads : List Head) (slots : List Slot) → IsThreaded heads slots → (id j : ℕ) → j ≢ id
-    → (x : ℕ) → IsIn x (list_at heads slots id) → ¬ IsIn x (list_at heads slots j)
-apart_lists heads slots ok id j n x here there = n (sym (owned_in ok j x there) ∙ owned_in ok id x here)
+pub apart_lists : (heads : List Head) (halves : List Half) → IsThreaded heads halves → (id j : ℕ) → j ≢ id
+    → (x : ℕ) → IsIn x (list_at heads halves id) → ¬ IsIn x (list_at heads halves j)
+apart_lists heads halves ok id j n x here there = n (sym (owned_in ok j x there) ∙ owned_in ok id x here)
 
 thread-by : (N N' P P' : List ℕ) (f f' l l' : ℕ) (xs : List ℕ) → N' ≡ N → P' ≡ P → f' ≡ f → l' ≡ l → IsThread N P f l xs → IsThread N' P' f' l' xs
 thread-by N N' P P' f f' l l' xs a b c d t =
@@ -97,49 +97,49 @@ thread-by N N' P P' f f' l l' xs a b c d t =
     (subst (λ (k : ℕ). IsThread N P k l' xs) (sym c)
     (subst (λ (k : ℕ). IsThread N P f k xs) (sym d) t)))
 
--- a slot is taken out of its list
-pub unlinked : (heads : List Head) (slots : List Slot) (id at : ℕ) (h' : Head) (slots' : List Slot) → IsThreaded heads slots → id < length heads
-    → IsIn at (list_at heads slots id)
-    → h'.first ≡ start_past (nexts slots) (head_at heads id).first at
-    → h'.last ≡ start_past (previouses slots) (head_at heads id).last at
+-- a half is taken out of its list
+pub unlinked : (heads : List Head) (halves : List Half) (id at : ℕ) (h' : Head) (halves' : List Half) → IsThreaded heads halves → id < length heads
+    → IsIn at (list_at heads halves id)
+    → h'.first ≡ start_past (nexts halves) (head_at heads id).first at
+    → h'.last ≡ start_past (previouses halves) (head_at heads id).last at
     → h'.len ≡ (head_at heads id).len - 1
-    → nexts slots' ≡ step_past (nexts slots) (head_at heads id).first (get_or (previouses slots) at 0) at
-    → previouses slots' ≡ step_past (previouses slots) (head_at heads id).last (get_or (nexts slots) at 0) at
-    → owners slots' ≡ owners slots
-    → IsAfter heads slots (set heads id h') slots' id (without at (list_at heads slots id))
-unlinked heads slots id at h' slots' ok within there first last len nexts_are previouses_are owners_are =
+    → nexts halves' ≡ step_past (nexts halves) (head_at heads id).first (get_or (previouses halves) at 0) at
+    → previouses halves' ≡ step_past (previouses halves) (head_at heads id).last (get_or (nexts halves) at 0) at
+    → owners halves' ≡ owners halves
+    → IsAfter heads halves (set heads id h') halves' id (without at (list_at heads halves id))
+unlinked heads halves id at h' halves' ok within there first last len nexts_are previouses_are owners_are =
     let h : Head = head_at heads id in
-    let N : List ℕ = nexts slots in
-    let P : List ℕ = previouses slots in
+    let N : List ℕ = nexts halves in
+    let P : List ℕ = previouses halves in
     let N' : List ℕ = step_past N h.first (get_or P at 0) at in
     let P' : List ℕ = step_past P h.last (get_or N at 0) at in
-    let xs : List ℕ = list_at heads slots id in
+    let xs : List ℕ = list_at heads halves id in
     let parts : IsAround xs at = around xs at there in
     let ys : List ℕ = parts.before in
     let zs : List ℕ = parts.after in
     let t : IsThread N P h.first h.last (ys ++ at ∷ zs) = subst (IsThread N P h.first h.last) parts.is (ok.thread id within) in
     let cut : without at xs ≡ ys ++ zs = ap (without at) parts.is ∙ without-around ys at zs (thread_apart t) in
-    let mine : IsThread (nexts slots') (previouses slots') h'.first h'.last (ys ++ zs) =
-    thread-by N' (nexts slots') P' (previouses slots') (start_past N h.first at) h'.first (start_past P h.last at) h'.last (ys ++ zs)
+    let mine : IsThread (nexts halves') (previouses halves') h'.first h'.last (ys ++ zs) =
+    thread-by N' (nexts halves') P' (previouses halves') (start_past N h.first at) h'.first (start_past P h.last at) h'.last (ys ++ zs)
     nexts_are previouses_are first last (thread-past N P h.first h.last ys at zs t) in
-    let mine' : IsThread (nexts slots') (previouses slots') h'.first h'.last (without at xs) =
-    subst (IsThread (nexts slots') (previouses slots') h'.first h'.last) (sym cut) mine in
-    let len1 : length ys + length (at ∷ zs) ≡ h.len = sym (length-append ys (at ∷ zs)) ∙ (ap length (sym parts.is) ∙ length-list_at heads slots id within) in
+    let mine' : IsThread (nexts halves') (previouses halves') h'.first h'.last (without at xs) =
+    subst (IsThread (nexts halves') (previouses halves') h'.first h'.last) (sym cut) mine in
+    let len1 : length ys + length (at ∷ zs) ≡ h.len = sym (length-append ys (at ∷ zs)) ∙ (ap length (sym parts.is) ∙ length-list_at heads halves id within) in
     let len2 : length (without at xs) ≡ length ys + length zs = ap length cut ∙ length-append ys zs in
     let len' : h'.len ≡ length (without at xs) = omega (arith, len, len1, len2) in
-    let in_lists : id < length (lists heads slots) = subst (λ (n : ℕ). id < n) (sym (length-map heads (list_of slots))) within in
-    rebuilt heads slots id h' slots' (without at xs) within mine' len'
-    (λ j jo n. thread-by N' (nexts slots') P' (previouses slots') (head_at heads j).first (head_at heads j).first (head_at heads j).last (head_at heads j).last (list_at heads slots j)
+    let in_lists : id < length (lists heads halves) = subst (λ (n : ℕ). id < n) (sym (length-map heads (list_of halves))) within in
+    rebuilt heads halves id h' halves' (without at xs) within mine' len'
+    (λ j jo n. thread-by N' (nexts halves') P' (previouses halves') (head_at heads j).first (head_at heads j).first (head_at heads j).last (head_at heads j).last (list_at heads halves j)
     nexts_are previouses_are refl refl
-    (thread-beside N P h.first h.last ys at zs t (head_at heads j).first (head_at heads j).last (list_at heads slots j)
-    (λ x k. apart_lists heads slots ok id j n x (subst (IsIn x) (sym parts.is) k)) (ok.thread j jo)))
+    (thread-beside N P h.first h.last ys at zs t (head_at heads j).first (head_at heads j).last (list_at heads halves j)
+    (λ x k. apart_lists heads halves ok id j n x (subst (IsIn x) (sym parts.is) k)) (ok.thread j jo)))
     (λ j s k. ap (λ (l : List ℕ). get_or l s 0) owners_are ∙ elim (cases_eq j id) [
       | inl e ↦
-          let k1 : IsIn s (get_or (set (lists heads slots) id (without at xs)) id []) = subst (λ (i : ℕ). IsIn s (get_or (set (lists heads slots) id (without at xs)) i [])) e k in
-          let k2 : IsIn s (without at xs) = subst (IsIn s) (get_or-set_same (lists heads slots) id (without at xs) [] in_lists) k1 in
+          let k1 : IsIn s (get_or (set (lists heads halves) id (without at xs)) id []) = subst (λ (i : ℕ). IsIn s (get_or (set (lists heads halves) id (without at xs)) i [])) e k in
+          let k2 : IsIn s (without at xs) = subst (IsIn s) (get_or-set_same (lists heads halves) id (without at xs) [] in_lists) k1 in
           let k3 : IsIn s (ys ++ at ∷ zs) = IsIn-out_of s ys at zs (subst (IsIn s) cut k2) in
           owned_in ok id s (subst (IsIn s) (sym parts.is) k3) ∙ sym e
-      | inr n ↦ owned_in ok j s (subst (IsIn s) (get_or-set_other (lists heads slots) id j (without at xs) [] n) k)
+      | inr n ↦ owned_in ok j s (subst (IsIn s) (get_or-set_other (lists heads halves) id j (without at xs) [] n) k)
     ])
 
 -- a list of different numbers below n has n at most
@@ -192,110 +192,110 @@ pigeon (suc n) xs apart below =
     (λ x h. let w : IsIn x xs × (x ≢ n) = IsIn-without x n xs h in let lt : x < suc n = below x w.0 in let ne : x ≢ n = w.1 in omega arith) in
     omega (arith, rest, length-without_one n xs apart)
 
--- a slot that stands in no list is put last in one
+-- a half that stands in no list is put last in one
 
-pub room_for : (heads : List Head) (slots : List Slot) (id at : ℕ) → IsThreaded heads slots → id < length heads → at < length slots
-    → ¬ IsIn at (list_at heads slots id) → (head_at heads id).len < length slots
-room_for heads slots id at ok within at_within out =
-    let xs : List ℕ = list_at heads slots id in
-    let t : IsThread (nexts slots) (previouses slots) (head_at heads id).first (head_at heads id).last xs = ok.thread id within in
-    let count : length (nexts slots) ≡ length slots = length-map slots (λ (s : Slot). s.next) in
-    let le : length (xs ++ at ∷ []) ≤ length slots = pigeon (length slots) (xs ++ at ∷ []) (distinct-push xs at (thread_apart t) out)
+pub room_for : (heads : List Head) (halves : List Half) (id at : ℕ) → IsThreaded heads halves → id < length heads → at < length halves
+    → ¬ IsIn at (list_at heads halves id) → (head_at heads id).len < length halves
+room_for heads halves id at ok within at_within out =
+    let xs : List ℕ = list_at heads halves id in
+    let t : IsThread (nexts halves) (previouses halves) (head_at heads id).first (head_at heads id).last xs = ok.thread id within in
+    let count : length (nexts halves) ≡ length halves = length-map halves (λ (s : Half). s.next) in
+    let le : length (xs ++ at ∷ []) ≤ length halves = pigeon (length halves) (xs ++ at ∷ []) (distinct-push xs at (thread_apart t) out)
     (λ x h. elim (IsIn-either x xs (at ∷ []) h) [
       | inl e ↦ subst (λ (n : ℕ). x < n) count (thread_within t x e).0
-      | inr e ↦ elim e [ inl same ↦ subst (λ (k : ℕ). k < length slots) (sym same) at_within | inr none ↦ absurd none ]
+      | inr e ↦ elim e [ inl same ↦ subst (λ (k : ℕ). k < length halves) (sym same) at_within | inr none ↦ absurd none ]
     ]) in
-    omega (arith, le, length_push xs at, length-list_at heads slots id within)
+    omega (arith, le, length_push xs at, length-list_at heads halves id within)
 
-pub linked : (heads : List Head) (slots : List Slot) (id at : ℕ) (h' : Head) (slots' : List Slot) → IsThreaded heads slots → id < length heads
-    → at < length slots → ((j : ℕ) → ¬ IsIn at (list_at heads slots j))
+pub linked : (heads : List Head) (halves : List Half) (id at : ℕ) (h' : Head) (halves' : List Half) → IsThreaded heads halves → id < length heads
+    → at < length halves → ((j : ℕ) → ¬ IsIn at (list_at heads halves j))
     → h'.first ≡ start_onto (head_at heads id).len (head_at heads id).first at
     → h'.last ≡ at
     → h'.len ≡ (head_at heads id).len + 1
-    → nexts slots' ≡ step_onto (nexts slots) (head_at heads id).len (head_at heads id).last at
-    → previouses slots' ≡ set (previouses slots) at (head_at heads id).last
-    → owners slots' ≡ set (owners slots) at id
-    → IsAfter heads slots (set heads id h') slots' id (list_at heads slots id ++ at ∷ [])
-linked heads slots id at h' slots' ok within at_within out first last len nexts_are previouses_are owners_are =
+    → nexts halves' ≡ step_onto (nexts halves) (head_at heads id).len (head_at heads id).last at
+    → previouses halves' ≡ set (previouses halves) at (head_at heads id).last
+    → owners halves' ≡ set (owners halves) at id
+    → IsAfter heads halves (set heads id h') halves' id (list_at heads halves id ++ at ∷ [])
+linked heads halves id at h' halves' ok within at_within out first last len nexts_are previouses_are owners_are =
     let h : Head = head_at heads id in
-    let N : List ℕ = nexts slots in
-    let P : List ℕ = previouses slots in
-    let xs : List ℕ = list_at heads slots id in
+    let N : List ℕ = nexts halves in
+    let P : List ℕ = previouses halves in
+    let xs : List ℕ = list_at heads halves id in
     let N' : List ℕ = step_onto N (length xs) h.last at in
     let P' : List ℕ = set P at h.last in
     let t : IsThread N P h.first h.last xs = ok.thread id within in
-    let count : length xs ≡ h.len = length-list_at heads slots id within in
-    let in_nexts : at < length N = subst (λ (n : ℕ). at < n) (sym (length-map slots (λ (s : Slot). s.next))) at_within in
-    let in_previouses : at < length P = subst (λ (n : ℕ). at < n) (sym (length-map slots (λ (s : Slot). s.previous))) at_within in
-    let in_owners : at < length (owners slots) = subst (λ (n : ℕ). at < n) (sym (length-map slots (λ (s : Slot). s.owner))) at_within in
-    let nexts_are' : nexts slots' ≡ N' = nexts_are ∙ ap (λ (n : ℕ). step_onto N n h.last at) (sym count) in
+    let count : length xs ≡ h.len = length-list_at heads halves id within in
+    let in_nexts : at < length N = subst (λ (n : ℕ). at < n) (sym (length-map halves (λ (s : Half). s.next))) at_within in
+    let in_previouses : at < length P = subst (λ (n : ℕ). at < n) (sym (length-map halves (λ (s : Half). s.previous))) at_within in
+    let in_owners : at < length (owners halves) = subst (λ (n : ℕ). at < n) (sym (length-map halves (λ (s : Half). s.owner))) at_within in
+    let nexts_are' : nexts halves' ≡ N' = nexts_are ∙ ap (λ (n : ℕ). step_onto N n h.last at) (sym count) in
     let first' : h'.first ≡ start_onto (length xs) h.first at = first ∙ ap (λ (n : ℕ). start_onto n h.first at) (sym count) in
-    let mine : IsThread (nexts slots') (previouses slots') h'.first h'.last (xs ++ at ∷ []) =
-    thread-by N' (nexts slots') P' (previouses slots') (start_onto (length xs) h.first at) h'.first at h'.last (xs ++ at ∷ [])
+    let mine : IsThread (nexts halves') (previouses halves') h'.first h'.last (xs ++ at ∷ []) =
+    thread-by N' (nexts halves') P' (previouses halves') (start_onto (length xs) h.first at) h'.first at h'.last (xs ++ at ∷ [])
     nexts_are' previouses_are first' last (thread-onto N P h.first h.last xs at t (out id) in_nexts in_previouses) in
     let len' : h'.len ≡ length (xs ++ at ∷ []) = omega (arith, len, length_push xs at, count) in
-    let in_lists : id < length (lists heads slots) = subst (λ (n : ℕ). id < n) (sym (length-map heads (list_of slots))) within in
-    rebuilt heads slots id h' slots' (xs ++ at ∷ []) within mine len'
-    (λ j jo n. thread-by N' (nexts slots') P' (previouses slots') (head_at heads j).first (head_at heads j).first (head_at heads j).last (head_at heads j).last (list_at heads slots j)
+    let in_lists : id < length (lists heads halves) = subst (λ (n : ℕ). id < n) (sym (length-map heads (list_of halves))) within in
+    rebuilt heads halves id h' halves' (xs ++ at ∷ []) within mine len'
+    (λ j jo n. thread-by N' (nexts halves') P' (previouses halves') (head_at heads j).first (head_at heads j).first (head_at heads j).last (head_at heads j).last (list_at heads halves j)
     nexts_are' previouses_are refl refl
-    (thread_onto-beside N P h.first h.last xs at t (head_at heads j).first (head_at heads j).last (list_at heads slots j)
-    (λ x k. apart_lists heads slots ok id j n x k) (out j) (ok.thread j jo)))
+    (thread_onto-beside N P h.first h.last xs at t (head_at heads j).first (head_at heads j).last (list_at heads halves j)
+    (λ x k. apart_lists heads halves ok id j n x k) (out j) (ok.thread j jo)))
     (λ j s k. ap (λ (l : List ℕ). get_or l s 0) owners_are ∙ elim (cases_eq j id) [
       | inl e ↦
-          let k1 : IsIn s (get_or (set (lists heads slots) id (xs ++ at ∷ [])) id []) = subst (λ (i : ℕ). IsIn s (get_or (set (lists heads slots) id (xs ++ at ∷ [])) i [])) e k in
-          let k2 : IsIn s (xs ++ at ∷ []) = subst (IsIn s) (get_or-set_same (lists heads slots) id (xs ++ at ∷ []) [] in_lists) k1 in
+          let k1 : IsIn s (get_or (set (lists heads halves) id (xs ++ at ∷ [])) id []) = subst (λ (i : ℕ). IsIn s (get_or (set (lists heads halves) id (xs ++ at ∷ [])) i [])) e k in
+          let k2 : IsIn s (xs ++ at ∷ []) = subst (IsIn s) (get_or-set_same (lists heads halves) id (xs ++ at ∷ []) [] in_lists) k1 in
           elim (IsIn-either s xs (at ∷ []) k2) [
             | inl old ↦
                 let n : s ≢ at = λ same. out id (subst (λ (i : ℕ). IsIn i xs) same old) in
-                get_or-set_other (owners slots) at s id 0 n ∙ (owned_in ok id s old ∙ sym e)
+                get_or-set_other (owners halves) at s id 0 n ∙ (owned_in ok id s old ∙ sym e)
             | inr new ↦ elim new [
-              | inl same ↦ ap (λ (i : ℕ). get_or (set (owners slots) at id) i 0) same ∙ (get_or-set_same (owners slots) at id 0 in_owners ∙ sym e)
+              | inl same ↦ ap (λ (i : ℕ). get_or (set (owners halves) at id) i 0) same ∙ (get_or-set_same (owners halves) at id 0 in_owners ∙ sym e)
               | inr none ↦ absurd none
             ]
           ]
       | inr n ↦
-          let old : IsIn s (list_at heads slots j) = subst (IsIn s) (get_or-set_other (lists heads slots) id j (xs ++ at ∷ []) [] n) k in
-          let ne : s ≢ at = λ same. out j (subst (λ (i : ℕ). IsIn i (list_at heads slots j)) same old) in
-          get_or-set_other (owners slots) at s id 0 ne ∙ owned_in ok j s old
+          let old : IsIn s (list_at heads halves j) = subst (IsIn s) (get_or-set_other (lists heads halves) id j (xs ++ at ∷ []) [] n) k in
+          let ne : s ≢ at = λ same. out j (subst (λ (i : ℕ). IsIn i (list_at heads halves j)) same old) in
+          get_or-set_other (owners halves) at s id 0 ne ∙ owned_in ok j s old
     ])
 
--- where the ways of a slot that is taken out lead
+-- where the ways of a half that is taken out lead
 
-pub bounds_around : (heads : List Head) (slots : List Slot) (id at : ℕ) → IsThreaded heads slots → id < length heads → IsIn at (list_at heads slots id)
-    → (at < length slots) × (0 < (head_at heads id).len)
-bounds_around heads slots id at ok within there =
-    let t : IsThread (nexts slots) (previouses slots) (head_at heads id).first (head_at heads id).last (list_at heads slots id) = ok.thread id within in
-    let parts : IsAround (list_at heads slots id) at = around (list_at heads slots id) at there in (
-      subst (λ (n : ℕ). at < n) (length-map slots (λ (s : Slot). s.next)) (thread_within t at there).0,
-      omega (arith, length-list_at heads slots id within, ap length parts.is, length-append parts.before (at ∷ parts.after)),
+pub bounds_around : (heads : List Head) (halves : List Half) (id at : ℕ) → IsThreaded heads halves → id < length heads → IsIn at (list_at heads halves id)
+    → (at < length halves) × (0 < (head_at heads id).len)
+bounds_around heads halves id at ok within there =
+    let t : IsThread (nexts halves) (previouses halves) (head_at heads id).first (head_at heads id).last (list_at heads halves id) = ok.thread id within in
+    let parts : IsAround (list_at heads halves id) at = around (list_at heads halves id) at there in (
+      subst (λ (n : ℕ). at < n) (length-map halves (λ (s : Half). s.next)) (thread_within t at there).0,
+      omega (arith, length-list_at heads halves id within, ap length parts.is, length-append parts.before (at ∷ parts.after)),
     )
 
-pub before_within : (heads : List Head) (slots : List Slot) (id at : ℕ) → IsThreaded heads slots → id < length heads → IsIn at (list_at heads slots id)
-    → (head_at heads id).first ≢ at → get_or (previouses slots) at 0 < length slots
-before_within heads slots id at ok within there away =
+pub before_within : (heads : List Head) (halves : List Half) (id at : ℕ) → IsThreaded heads halves → id < length heads → IsIn at (list_at heads halves id)
+    → (head_at heads id).first ≢ at → get_or (previouses halves) at 0 < length halves
+before_within heads halves id at ok within there away =
     let h : Head = head_at heads id in
-    let parts : IsAround (list_at heads slots id) at = around (list_at heads slots id) at there in
-    let t : IsThread (nexts slots) (previouses slots) h.first h.last (parts.before ++ at ∷ parts.after) = subst (IsThread (nexts slots) (previouses slots) h.first h.last) parts.is (ok.thread id within) in
-    let b : ℕ = get_or (previouses slots) at 0 in
-    let is : last_or b parts.before ≡ b = back_gives (nexts slots) (previouses slots) h.first h.last parts.before at parts.after t in
-    subst (λ (n : ℕ). b < n) (length-map slots (λ (s : Slot). s.next)) (first_part (nexts slots) h.first parts.before at parts.after b t.ahead away is (λ x h. (thread_within t x (IsIn-left x parts.before (at ∷ parts.after) h)).0))
+    let parts : IsAround (list_at heads halves id) at = around (list_at heads halves id) at there in
+    let t : IsThread (nexts halves) (previouses halves) h.first h.last (parts.before ++ at ∷ parts.after) = subst (IsThread (nexts halves) (previouses halves) h.first h.last) parts.is (ok.thread id within) in
+    let b : ℕ = get_or (previouses halves) at 0 in
+    let is : last_or b parts.before ≡ b = back_gives (nexts halves) (previouses halves) h.first h.last parts.before at parts.after t in
+    subst (λ (n : ℕ). b < n) (length-map halves (λ (s : Half). s.next)) (first_part (nexts halves) h.first parts.before at parts.after b t.ahead away is (λ x h. (thread_within t x (IsIn-left x parts.before (at ∷ parts.after) h)).0))
   where
     first_part : (step : List ℕ) (start : ℕ) (ys : List ℕ) (at : ℕ) (zs : List ℕ) (b : ℕ) → LeadsThrough step start (ys ++ at ∷ zs) → start ≢ at → last_or b ys ≡ b
         → ((x : ℕ) → IsIn x ys → x < length step) → b < length step
     first_part step start [] at zs b leads away is below = absurd (away leads.0)
     first_part step start (y ∷ ys) at zs b leads away is below = below b (subst (λ (k : ℕ). IsIn k (y ∷ ys)) is (last_or-in y ys))
 
-pub after_within : (heads : List Head) (slots : List Slot) (id at : ℕ) → IsThreaded heads slots → id < length heads → IsIn at (list_at heads slots id)
-    → (head_at heads id).last ≢ at → get_or (nexts slots) at 0 < length slots
-after_within heads slots id at ok within there away =
+pub after_within : (heads : List Head) (halves : List Half) (id at : ℕ) → IsThreaded heads halves → id < length heads → IsIn at (list_at heads halves id)
+    → (head_at heads id).last ≢ at → get_or (nexts halves) at 0 < length halves
+after_within heads halves id at ok within there away =
     let h : Head = head_at heads id in
-    let parts : IsAround (list_at heads slots id) at = around (list_at heads slots id) at there in
-    let t : IsThread (nexts slots) (previouses slots) h.first h.last (parts.before ++ at ∷ parts.after) = subst (IsThread (nexts slots) (previouses slots) h.first h.last) parts.is (ok.thread id within) in
-    let b : ℕ = get_or (nexts slots) at 0 in
-    let step : LeadsThrough (nexts slots) b parts.after = leads-after (nexts slots) h.first parts.before at parts.after t.ahead in
-    let back : LeadsThrough (previouses slots) h.last (reverse parts.after ++ at ∷ reverse parts.before) = subst (LeadsThrough (previouses slots) h.last) (reverse-around parts.before at parts.after) t.back in
-    subst (λ (n : ℕ). b < n) (length-map slots (λ (s : Slot). s.next))
-    (first_of_rest parts.after b (λ none. away (at_end (previouses slots) h.last parts.after at (reverse parts.before) none back)) (leads-first (nexts slots) b parts.after step)
+    let parts : IsAround (list_at heads halves id) at = around (list_at heads halves id) at there in
+    let t : IsThread (nexts halves) (previouses halves) h.first h.last (parts.before ++ at ∷ parts.after) = subst (IsThread (nexts halves) (previouses halves) h.first h.last) parts.is (ok.thread id within) in
+    let b : ℕ = get_or (nexts halves) at 0 in
+    let step : LeadsThrough (nexts halves) b parts.after = leads-after (nexts halves) h.first parts.before at parts.after t.ahead in
+    let back : LeadsThrough (previouses halves) h.last (reverse parts.after ++ at ∷ reverse parts.before) = subst (LeadsThrough (previouses halves) h.last) (reverse-around parts.before at parts.after) t.back in
+    subst (λ (n : ℕ). b < n) (length-map halves (λ (s : Half). s.next))
+    (first_of_rest parts.after b (λ none. away (at_end (previouses halves) h.last parts.after at (reverse parts.before) none back)) (leads-first (nexts halves) b parts.after step)
     (λ x h. (thread_within t x (IsIn-right x parts.before (at ∷ parts.after) (inr h))).0))
   where
     first_of_rest : {n : ℕ} (zs : List ℕ) (b : ℕ) → zs ≢ [] → first_or b zs ≡ b → ((x : ℕ) → IsIn x zs → x < n) → b < n
@@ -307,14 +307,14 @@ after_within heads slots id at ok within there away =
         let leads' : LeadsThrough step start (reverse [] ++ at ∷ rest) = subst (λ (l : List ℕ). LeadsThrough step start (reverse l ++ at ∷ rest)) none leads in
         leads'.0
 
-pub last_within : (heads : List Head) (slots : List Slot) (id : ℕ) → IsThreaded heads slots → id < length heads → 0 < (head_at heads id).len
-    → (head_at heads id).last < length slots
-last_within heads slots id ok within some =
+pub last_within : (heads : List Head) (halves : List Half) (id : ℕ) → IsThreaded heads halves → id < length heads → 0 < (head_at heads id).len
+    → (head_at heads id).last < length halves
+last_within heads halves id ok within some =
     let h : Head = head_at heads id in
-    let xs : List ℕ = list_at heads slots id in
-    let t : IsThread (nexts slots) (previouses slots) h.first h.last xs = ok.thread id within in
-    let len : 0 < length xs = omega (arith, length-list_at heads slots id within) in
-    subst (λ (n : ℕ). h.last < n) (length-map slots (λ (s : Slot). s.next)) (of_some xs h.last len (last_gives (nexts slots) (previouses slots) h.first h.last xs t) (λ x k. (thread_within t x k).0))
+    let xs : List ℕ = list_at heads halves id in
+    let t : IsThread (nexts halves) (previouses halves) h.first h.last xs = ok.thread id within in
+    let len : 0 < length xs = omega (arith, length-list_at heads halves id within) in
+    subst (λ (n : ℕ). h.last < n) (length-map halves (λ (s : Half). s.next)) (of_some xs h.last len (last_gives (nexts halves) (previouses halves) h.first h.last xs t) (λ x k. (thread_within t x k).0))
   where
     of_some : {n : ℕ} (xs : List ℕ) (b : ℕ) → 0 < length xs → last_or b xs ≡ b → ((x : ℕ) → IsIn x xs → x < n) → b < n
     of_some [] b some is below = absurd (omega arith)

@@ -1,6 +1,6 @@
 -- A walk along a list.
 use Rattle.std.proofs.Common.{◌≡◌, ℕ, ◌<◌, ◌-◌, List, [], ◌∷◌, get_or, map, refl, sym, ◌∙◌, ap, subst, arith, inl, inr, ◌⊎◌, zero, suc}
-use Rattle.link_arena.specs.declared.slot.Slot.{Slot}
+use Rattle.link_arena.specs.declared.half.Half.{Half}
 use Rattle.link_arena.specs.Threads.{walk}
 use Rattle.link_arena.specs.Lists.{nexts, owners}
 use Rattle.link_arena.specs.Twins.{other, IsListed}
@@ -36,29 +36,29 @@ pub walk_none : (N : List ℕ) (n at s : ℕ) → n ≡ 0 → ¬ IsIn s (walk N 
 walk_none N zero at s none h = h
 walk_none N (suc n) at s none h = absurd (omega arith)
 
-pub listed_some : (slots : List Slot) (xs ys : List ℕ) → ((s : ℕ) → IsIn s ys → IsIn s xs) → IsListed slots xs → IsListed slots ys
-listed_some slots xs ys sub ok = record {
+pub listed_some : (halves : List Half) (xs ys : List ℕ) → ((s : ℕ) → IsIn s ys → IsIn s xs) → IsListed halves xs → IsListed halves ys
+listed_some halves xs ys sub ok = record {
   within = λ s h. ok.within s (contains_in xs s (sub s (in_from ys s h)));
   twin_within = λ s h. ok.twin_within s (contains_in xs s (sub s (in_from ys s h)));
   some = λ s h. ok.some s (contains_in xs s (sub s (in_from ys s h)));
   few = λ s h. ok.few s (contains_in xs s (sub s (in_from ys s h)));
 }
 
-pub listed_here : (slots : List Slot) (n at : ℕ) → 0 < n → IsListed slots (walk (nexts slots) n at) → IsListed slots (at ∷ [])
-listed_here slots n at some ok = listed_some slots (walk (nexts slots) n at) (at ∷ [])
+pub listed_here : (halves : List Half) (n at : ℕ) → 0 < n → IsListed halves (walk (nexts halves) n at) → IsListed halves (at ∷ [])
+listed_here halves n at some ok = listed_some halves (walk (nexts halves) n at) (at ∷ [])
     (λ s h. elim h [
-      | inl e ↦ subst (λ (i : ℕ). IsIn i (walk (nexts slots) n at)) (sym e) (walk_here (nexts slots) (walk (nexts slots) n at) n at some (λ s h. h))
+      | inl e ↦ subst (λ (i : ℕ). IsIn i (walk (nexts halves) n at)) (sym e) (walk_here (nexts halves) (walk (nexts halves) n at) n at some (λ s h. h))
       | inr none ↦ absurd none
     ]) ok
 
-pub listed_rest : (slots : List Slot) (n at next : ℕ) → 0 < n → next ≡ get_or (nexts slots) at 0 → IsListed slots (walk (nexts slots) n at)
-    → IsListed slots (walk (nexts slots) (n - 1) next)
-listed_rest slots n at next some is ok = listed_some slots (walk (nexts slots) n at) (walk (nexts slots) (n - 1) next)
-    (walk_rest (nexts slots) (walk (nexts slots) n at) n at next some is (λ s h. h)) ok
+pub listed_rest : (halves : List Half) (n at next : ℕ) → 0 < n → next ≡ get_or (nexts halves) at 0 → IsListed halves (walk (nexts halves) n at)
+    → IsListed halves (walk (nexts halves) (n - 1) next)
+listed_rest halves n at next some is ok = listed_some halves (walk (nexts halves) n at) (walk (nexts halves) (n - 1) next)
+    (walk_rest (nexts halves) (walk (nexts halves) n at) n at next some is (λ s h. h)) ok
 
-pub view_step : (slots : List Slot) (n at next end : ℕ) (view : List ℕ) → 0 < n → next ≡ get_or (nexts slots) at 0 → end ≡ other (owners slots) at
-    → map (other (owners slots)) (walk (nexts slots) n at) ≡ view → view ≡ end ∷ map (other (owners slots)) (walk (nexts slots) (n - 1) next)
-view_step slots n at next end view some is e shown =
-    sym shown ∙ (ap (map (other (owners slots))) (walk_more (nexts slots) n at some)
-    ∙ (ap (λ (k : ℕ). k ∷ map (other (owners slots)) (walk (nexts slots) (n - 1) (get_or (nexts slots) at 0))) (sym e)
-    ∙ ap (λ (k : ℕ). end ∷ map (other (owners slots)) (walk (nexts slots) (n - 1) k)) (sym is)))
+pub view_step : (halves : List Half) (n at next end : ℕ) (view : List ℕ) → 0 < n → next ≡ get_or (nexts halves) at 0 → end ≡ other (owners halves) at
+    → map (other (owners halves)) (walk (nexts halves) n at) ≡ view → view ≡ end ∷ map (other (owners halves)) (walk (nexts halves) (n - 1) next)
+view_step halves n at next end view some is e shown =
+    sym shown ∙ (ap (map (other (owners halves))) (walk_more (nexts halves) n at some)
+    ∙ (ap (λ (k : ℕ). k ∷ map (other (owners halves)) (walk (nexts halves) (n - 1) (get_or (nexts halves) at 0))) (sym e)
+    ∙ ap (λ (k : ℕ). end ∷ map (other (owners halves)) (walk (nexts halves) (n - 1) k)) (sym is)))

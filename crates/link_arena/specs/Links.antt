@@ -1,5 +1,11 @@
 -- Links between numbered ends, as an arena's contracts see them: at each end, the ends that it is joined to, in its order.
-use Rattle.std.specs.Prelude.{◌≡◌, ◌≢◌, ℕ, ◌<◌, length, not, ◌==◌, List, [], ◌∷◌, ◌++◌, map, filter, slice_index_or, slice_set, Contains, AllPairs}
+use Rattle.std.specs.Prelude.{◌≡◌, ◌≢◌, ℕ, ◌<◌, length, not, ◌==◌, List, [], ◌∷◌, ◌++◌, map, filter, replicate, ◌-◌, max, slice_index_or, slice_set, Contains, AllPairs}
+
+-- an arena as its contracts see it: at each end the ends that it is joined to, and for how many ends and joins more there is room
+pub record Linkage : Type 0 where
+  pub links : List (List ℕ)
+  pub spare_ends : ℕ
+  pub spare_joins : ℕ
 
 -- the ends that an end is joined to, in its order
 abbrev pub others_of : List (List ℕ) → ℕ → List ℕ
@@ -51,6 +57,22 @@ parted links a b = without_other (without_other links a b) b a
 -- no end is joined to this one any more
 abbrev pub all_parted : List (List ℕ) → ℕ → List (List ℕ)
 all_parted links end = slice_set (map (without end) links) end []
+
+-- other links, with the room that there was
+abbrev pub with_links : Linkage → List (List ℕ) → Linkage
+with_links arena links = record arena { links = links }
+
+-- more ends, that are joined to nothing
+abbrev pub with_ends : Linkage → ℕ → Linkage
+with_ends arena count = record arena { links = arena.links ++ replicate count []; spare_ends = arena.spare_ends - count }
+
+-- one join more
+abbrev pub with_join : Linkage → ℕ → ℕ → Linkage
+with_join arena a b = record arena { links = joined_ends arena.links a b; spare_joins = arena.spare_joins - 1 }
+
+-- room for so many ends and joins at least
+abbrev pub with_room : Linkage → ℕ → ℕ → Linkage
+with_room arena ends joins = record arena { spare_ends = max arena.spare_ends ends; spare_joins = max arena.spare_joins joins }
 
 -- the end is parted from one that it was joined to
 pub record IsPartedSomewhere (old : List (List ℕ)) (end : ℕ) (new : List (List ℕ)) : Type 0 where

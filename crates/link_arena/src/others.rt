@@ -4,14 +4,15 @@ ghost use Rattle.link_arena.specs.Threads.{walk};
 ghost use Rattle.link_arena.specs.Lists.{nexts, owners, list_of};
 ghost use Rattle.link_arena.specs.Twins.{other, IsListed};
 
+use crate::half::Head;
+use crate::joins::Joins;
 use crate::sides::twin_of;
-use crate::slot::{Head, Slot, next_of, owner_of};
 use std::marker::Model;
 
 /// The ends that an end is joined to, in its order. Contracts see it as the list of those that are left.
 #[derive(Drop)]
 pub struct Others<'a> {
-    slots: &'a [Slot],
+    joins: &'a Joins,
     at: usize,
     left: usize,
 }
@@ -24,31 +25,31 @@ impl<'a> Model for Others<'a> {
 
     ghost Value = { List ℕ };
 
-    ghost view = { λ others. map (other (owners others.slots.now)) (walk (nexts others.slots.now) others.left others.at) };
+    ghost view = { λ others. map (other (owners others.joins.now.halves)) (walk (nexts others.joins.now.halves) others.left others.at) };
 
-    ghost invariant = { λ others. IsListed others.slots.now (walk (nexts others.slots.now) others.left others.at) };
+    ghost invariant = { λ others. IsListed others.joins.now.halves (walk (nexts others.joins.now.halves) others.left others.at) };
 }
 
 impl<'a> Others<'a> {
-    /// The ends that a list's slots lead to.
-    pub(crate) fn new(slots: &'a [Slot], head: Head) -> Others<'a>
-        requires { IsListed slots.now (list_of slots.now head) }
-        ensures { result ≡ map (other (owners slots.now)) (list_of slots.now head) }
+    /// The ends that a list's halves lead to.
+    pub(crate) fn new(joins: &'a Joins, head: Head) -> Others<'a>
+        requires { IsListed joins.now.halves (list_of joins.now.halves head) }
+        ensures { result ≡ map (other (owners joins.now.halves)) (list_of joins.now.halves head) }
     {
         Others {
-            slots,
+            joins,
             at: head.first,
             left: head.len,
         }
     }
 }
 
-/// The end that a slot leads to.
-fn end_of(slots: &[Slot], at: usize) -> u32
-    requires { IsListed slots.now (at ∷ []) }
-    ensures { result ≡ other (owners slots.now) at }
+/// The end that a half leads to.
+fn end_of(joins: &Joins, at: usize) -> u32
+    requires { IsListed joins.now.halves (at ∷ []) }
+    ensures { result ≡ other (owners joins.now.halves) at }
 {
-    (owner_of(slots, twin_of(at)) - 1) as u32
+    (joins.owner_of(twin_of(at)) - 1) as u32
 }
 
 impl<'a> Iterator for Others<'a> {
@@ -63,8 +64,8 @@ impl<'a> Iterator for Others<'a> {
             return None;
         }
         let at = self.at;
-        self.at = next_of(self.slots, at);
+        self.at = self.joins.next_of(at);
         self.left -= 1;
-        Some(end_of(self.slots, at))
+        Some(end_of(self.joins, at))
     }
 }

@@ -1,85 +1,90 @@
-ghost use Rattle.std.specs.Prelude.{◌≡◌, ◌≢◌, ℕ, ◌+◌, ◌<◌, ◌++◌, ◌∷◌, [], length, take, OnOk, OnErr, Contains};
+ghost use Rattle.std.specs.Prelude.{◌≡◌, ◌≢◌, ◌+◌, ◌*◌, ◌<◌, ◌≤◌, length, take, IsOk, OnOk, OnErr, Contains};
 ghost use Rattle.link_arena.specs.Links.{others_of, joined_ends};
-ghost use Rattle.link_arena.specs.Lists.{list_at};
-ghost use Rattle.link_arena.specs.Twins.{links, IsArena, IsGrown, free_row};
+ghost use Rattle.link_arena.specs.Lists.{list_at, free_count, IsSameSize};
+ghost use Rattle.link_arena.specs.Twins.{links, IsArena, IsGrown};
 
-use crate::sides::join_first;
-use crate::slot::{Head, Slot, link};
+use crate::joins::Joins;
 use std::alloc::AllocError;
 
-/// Adds a row, both of whose slots are free, in no list yet.
-fn push_row(slots: &mut Vec<Slot>) -> Result<(), AllocError>
-    ensures ok { OnOk result (slots.new.items ≡ slots.old.items ++ free_row) }
-    ensures err { OnErr result (slots.new.items ≡ slots.old.items) }
-{
-    let free = Slot {
-        owner: 0,
-        next: 0,
-        previous: 0,
-    };
-    slots.extend_from_slice(&[free, free])
-}
-
-/// Puts the slots of a new row, from a place on, in the list of the free ones.
-fn thread_row(heads: &mut [Head], slots: &mut [Slot], at: usize)
-    requires { IsGrown heads.old (take at slots.old) slots.old at }
-    ensures arena { IsArena heads.new slots.new }
-    ensures count { length heads.new ≡ length heads.old }
-    ensures view { links heads.new slots.new ≡ links heads.old (take at slots.old) }
-    ensures room { 0 < length (list_at heads.new slots.new 0) }
-{
-    link(heads, slots, 0, at);
-    link(heads, slots, 0, at + 1);
-}
-
-/// Adds a free row.
-fn add_row(heads: &mut [Head], slots: &mut Vec<Slot>) -> Result<(), AllocError>
-    requires arena { IsArena heads.old slots.old.items }
-    requires within { 0 < length heads.old }
-    ensures arena { IsArena heads.new slots.new.items }
-    ensures count { length heads.new ≡ length heads.old }
-    ensures view { links heads.new slots.new.items ≡ links heads.old slots.old.items }
-    ensures room { OnOk result (0 < length (list_at heads.new slots.new.items 0)) }
-{
-    let at = slots.len();
-    push_row(slots)?;
-    thread_row(heads, slots.as_mut_slice(), at);
-    Ok(())
-}
-
-/// Sees to it that a row is free.
-fn need_row(heads: &mut [Head], slots: &mut Vec<Slot>) -> Result<(), AllocError>
-    requires arena { IsArena heads.old slots.old.items }
-    requires within { 0 < length heads.old }
-    ensures arena { IsArena heads.new slots.new.items }
-    ensures count { length heads.new ≡ length heads.old }
-    ensures view { links heads.new slots.new.items ≡ links heads.old slots.old.items }
-    ensures room { OnOk result (0 < length (list_at heads.new slots.new.items 0)) }
-{
-    if heads[0].len == 0 {
-        return add_row(heads, slots);
+impl Joins {
+    /// Puts the halves of a new row, from a place on, in the list of the free ones.
+    fn thread_row(&mut self, at: usize)
+        requires { IsGrown self.old.heads (take at self.old.halves) self.old.halves at }
+        ensures arena { IsArena self.new.heads self.new.halves }
+        ensures same { IsSameSize self.old self.new }
+        ensures view { links self.new.heads self.new.halves ≡ links self.old.heads (take at self.old.halves) }
+        ensures room { free_count self.new ≡ length (list_at self.old.heads (take at self.old.halves) 0) + 2 }
+    {
+        self.link(0, at);
+        self.link(0, at + 1);
     }
-    Ok(())
-}
 
-/// Joins two ends, last at each.
-pub(crate) fn join_at(
-    heads: &mut [Head],
-    slots: &mut Vec<Slot>,
-    first: u32,
-    second: u32,
-) -> Result<(), AllocError>
-    requires arena { IsArena heads.old slots.old.items }
-    requires first_within { first + 1 < length heads.old }
-    requires second_within { second + 1 < length heads.old }
-    requires apart { first ≢ second }
-    requires unjoined { ¬ Contains (others_of (links heads.old slots.old.items) first) second }
-    ensures arena { IsArena heads.new slots.new.items }
-    ensures count { length heads.new ≡ length heads.old }
-    ensures ok { OnOk result (links heads.new slots.new.items ≡ joined_ends (links heads.old slots.old.items) first second) }
-    ensures err { OnErr result (links heads.new slots.new.items ≡ links heads.old slots.old.items) }
-{
-    need_row(heads, slots)?;
-    join_first(heads, slots.as_mut_slice(), first, second);
-    Ok(())
+    /// Adds a free row.
+    fn add_row(&mut self) -> Result<(), AllocError>
+        requires arena { IsArena self.old.heads self.old.halves }
+        requires within { 0 < length self.old.heads }
+        ensures arena { IsArena self.new.heads self.new.halves }
+        ensures same { IsSameSize self.old self.new }
+        ensures view { links self.new.heads self.new.halves ≡ links self.old.heads self.old.halves }
+        ensures free { free_count self.old ≤ free_count self.new }
+        ensures room { OnOk result (free_count self.new ≡ free_count self.old + 2) }
+    {
+        let at = self.half_count();
+        self.push_row()?;
+        self.thread_row(at);
+        Ok(())
+    }
+
+    /// Sees to it that a row is free.
+    fn need_row(&mut self) -> Result<(), AllocError>
+        requires arena { IsArena self.old.heads self.old.halves }
+        requires within { 0 < length self.old.heads }
+        ensures arena { IsArena self.new.heads self.new.halves }
+        ensures same { IsSameSize self.old self.new }
+        ensures view { links self.new.heads self.new.halves ≡ links self.old.heads self.old.halves }
+        ensures free { free_count self.old ≤ free_count self.new }
+        ensures some { OnOk result (0 < free_count self.new) }
+        ensures room { 0 < free_count self.old → IsOk result }
+    {
+        if self.head(0).len == 0 {
+            return self.add_row();
+        }
+        Ok(())
+    }
+
+    /// Sees to it that so many rows are free. Those that were added without memory for all stay free.
+    pub(crate) fn reserve_rows(&mut self, count: usize) -> Result<(), AllocError>
+        requires arena { IsArena self.old.heads self.old.halves }
+        requires within { 0 < length self.old.heads }
+        ensures arena { IsArena self.new.heads self.new.halves }
+        ensures same { IsSameSize self.old self.new }
+        ensures view { links self.new.heads self.new.halves ≡ links self.old.heads self.old.halves }
+        ensures free { free_count self.old ≤ free_count self.new }
+        ensures room { OnOk result (2 * count ≤ free_count self.new) }
+    {
+        while self.head(0).len / 2 < count {
+            self.add_row()?;
+        }
+        Ok(())
+    }
+
+    /// Joins two ends, last at each.
+    pub(crate) fn join_at(&mut self, first: u32, second: u32) -> Result<(), AllocError>
+        requires arena { IsArena self.old.heads self.old.halves }
+        requires first_within { first + 1 < length self.old.heads }
+        requires second_within { second + 1 < length self.old.heads }
+        requires apart { first ≢ second }
+        requires unjoined { ¬ Contains (others_of (links self.old.heads self.old.halves) first) second }
+        ensures arena { IsArena self.new.heads self.new.halves }
+        ensures same { IsSameSize self.old self.new }
+        ensures free { OnOk result (free_count self.old ≤ free_count self.new + 2) }
+        ensures free_stay { OnErr result (free_count self.old ≤ free_count self.new) }
+        ensures room { 0 < free_count self.old → IsOk result }
+        ensures ok { OnOk result (links self.new.heads self.new.halves ≡ joined_ends (links self.old.heads self.old.halves) first second) }
+        ensures err { OnErr result (links self.new.heads self.new.halves ≡ links self.old.heads self.old.halves) }
+    {
+        self.need_row()?;
+        self.join_first(first, second);
+        Ok(())
+    }
 }

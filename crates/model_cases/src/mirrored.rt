@@ -21,6 +21,19 @@ fn is_linked(model: &Model<'_>, p: PropId, a: ObjId, b: ObjId) -> bool {
     model.has_reference(a, p) && model.is_live(b) && model.linked(p, a, b)
 }
 
+/// Whether a at p stands among the incoming links of b.
+fn is_incoming(model: &Model<'_>, p: PropId, a: ObjId, b: ObjId) -> bool {
+    if !model.is_live(b) {
+        return false;
+    }
+    for (other, q) in model.incoming(b) {
+        if other == a && q == p {
+            return true;
+        }
+    }
+    false
+}
+
 /// Whether all calls agree on whether b is a partner of a at p, and a at the other end.
 fn is_mirrored_at(model: &Model<'_>, p: PropId, a: ObjId, b: ObjId) -> bool
     requires { IsPropOf model.now.meta p }
@@ -28,7 +41,7 @@ fn is_mirrored_at(model: &Model<'_>, p: PropId, a: ObjId, b: ObjId) -> bool
     let there = is_partner(model, p, a, b);
     let back = match model.meta().opposite(p) {
         Some(q) => is_partner(model, q, b, a),
-        None => there,
+        None => is_incoming(model, p, a, b),
     };
     there == back && there == is_linked(model, p, a, b)
 }

@@ -31,6 +31,24 @@ pub(crate) fn print_object(alloc: Global, pen: &mut Pen, model: &Model<'_>, o: O
     }
 }
 
+/// The links to an object that have no name at it: at each the object whose partner it is, and where.
+pub(crate) fn print_incoming(pen: &mut Pen, model: &Model<'_>, id: &str) {
+    let Some(o) = model.by_id(id) else {
+        pen.put("gone");
+        return;
+    };
+    let mut is_first = true;
+    for (a, p) in model.incoming(o) {
+        if !is_first {
+            pen.put(",");
+        }
+        pen.put(id_of(model, a));
+        pen.put(".");
+        pen.put(prop_name(model, a, p));
+        is_first = false;
+    }
+}
+
 fn print_container(pen: &mut Pen, model: &Model<'_>, o: ObjId)
     requires { IsLive model.now o.0 }
 {

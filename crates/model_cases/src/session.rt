@@ -2,7 +2,7 @@ ghost use Rattle.std.specs.Prelude.{IfSome};
 ghost use Rattle.mof_metamodel.specs.Tables.{IsPropOf};
 
 use crate::breaches::{print_cycle, print_depth, print_first_breach, print_greatest_depth};
-use crate::objects::{print_object, print_objects};
+use crate::objects::{print_incoming, print_object, print_objects};
 use crate::printing::{print_bounds, print_metamodel};
 use crate::script::{Command, edited, words};
 use case_texts::Pen;
@@ -34,7 +34,7 @@ impl<'m> Session<'m> {
     /// - `add Class c`, `set c name 'x,'y`, `link c uses d`, `unlink c uses d`, `order c uses e,d` and `delete c` are edits, and
     ///   so are `row`, `chain` and `ring` (of many objects). Their answer is `ok`, or why the edit is not made. After each the
     ///   links of a small model are compared at both ends.
-    /// - `show c` prints an object, `objects` all of them, `number c` its number, `depth c` its depth, `greatest` the greatest
+    /// - `show c` prints an object, `objects` all of them, `incoming c` the links to it that have no name there, `number c` its number, `depth c` its depth, `greatest` the greatest
     ///   depth, `validity` the first breach, `cycle` the least object on a cycle, `count` how many are live of how many that
     ///   were added.
     /// - `new` begins with an empty model, `copy` puts the model aside and goes on with a copy, `other` changes to the one that
@@ -77,6 +77,7 @@ impl<'m> Session<'m> {
             "property" => print_property(alloc, pen, self.meta, c),
             "show" => print_known(alloc, pen, self.editor.model(), c.object),
             "objects" => print_objects(alloc, pen, self.editor.model()),
+            "incoming" => print_incoming(pen, self.editor.model(), c.object),
             "number" => print_number(alloc, pen, self.editor.model(), c.object),
             "count" => print_count(alloc, pen, self.editor.model()),
             _ => pen.put(edited(alloc, &mut self.editor, c)),

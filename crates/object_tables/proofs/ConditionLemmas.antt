@@ -2,7 +2,7 @@
 use Rattle.std.proofs.Common.{◌≡◌, ◌≢◌, ℕ, ◌+◌, ◌-◌, ◌<◌, ◌≤◌, suc, List, [], ◌∷◌, length, get_or, map, take, drop, refl, sym, ◌∙◌, subst, ap, arith, Option, Some, None, Bool, true, false, inl, inr}
 use Rattle.std.specs.Prelude.{◌↔◌, IsTrue, Contains, is_some, position, nat_eq, not, All, AllPairs, IsPermutation, sum_by}
 use Rattle.std.specs.List.Sorted.{IsNonDecreasing}
-use Rattle.std.proofs.lemmas.Bool.{cases_lt}
+use Rattle.std.proofs.lemmas.Bool.{cases_lt, not-true}
 use Rattle.std.proofs.lemmas.List.{get_or_default, get_or-drop, length-drop, take_all}
 use Rattle.std.proofs.lemmas.List.Sums.{sum_by-cons}
 use Rattle.std.proofs.lemmas.List.Sorted.{sum_by-IsPermutation, IsPermutation-trans, IsPermutation-sym}
@@ -49,13 +49,9 @@ reference-exactly m o p ty r has t e = (
   (λ h. e ∙ ap is_class_type (sym t) ∙ h.reference),
 )
 
-not_false : (r : Bool) → not r ≡ true → r ≡ false
-not_false true h = absurd cc
-not_false false h = refl
-
 pub attribute-exactly : (m : ModelData) (o p : ℕ) (ty : PropType) (r : Bool) → IsPropertyOf m o p → type_of m.meta p ≡ Some ty → r ≡ is_class_type (Some ty) → IsTrue (not r) ↔ IsAttributeOf m o p
 attribute-exactly m o p ty r has t e = (
-  (λ h. record { class = has.class; class_is = has.class_is; has = has.has; attribute = ap is_class_type t ∙ sym e ∙ not_false r h }),
+  (λ h. record { class = has.class; class_is = has.class_is; has = has.has; attribute = ap is_class_type t ∙ sym e ∙ not-true r h }),
   (λ h. let w : r ≡ false = e ∙ ap is_class_type (sym t) ∙ h.attribute in ap not w),
 )
 

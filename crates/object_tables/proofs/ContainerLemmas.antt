@@ -12,7 +12,8 @@ use Rattle.object_tables.specs.Models.{ModelData, class_at, partners_at, index_o
 use Rattle.object_tables.specs.Tied.{near, far_among, nameless, IsTied}
 use Rattle.object_tables.specs.Kept.{Kept}
 use Rattle.object_tables.specs.Places.{IsPlaceOf}
-use Rattle.object_tables.proofs.ListLemmas.{Contains-map, Contains-from_map}
+use Rattle.object_tables.proofs.ListLemmas.{Contains-from_map}
+use Rattle.mof_metamodel.proofs.Facts.{contains_map}
 use Rattle.object_tables.proofs.ModelLemmas.{seen, class_seen, placed_seen, partners_seen, live_class, same_class, class_of_rows, has_seen, near-within, index-within, index-found}
 use Rattle.mof_metamodel.proofs.PropLemmas.{prop_known}
 use Rattle.object_tables.proofs.InheritLemmas.{pair_of_opposites}
@@ -140,7 +141,7 @@ nameless_found meta rows number live o a place rest v t both e l first =
       place_is = f.place ∙ ap (λ m. near m f.class f.prop) em;
       contained = record {
         composite = ap (λ m. (prop_at m f.prop).composite) (sym em) ∙ nameless-zero meta f.prop (far-zero (props_of meta c) (opposite_of meta f.prop) (nameless meta f.prop) f.back);
-        linked = subst (λ (xs : List ℕ). Contains xs o) (sym (partners_seen meta rows v a f.prop f.class e ha)) (Contains-map (λ x. x.0) (joined_at rows a (near meta f.class f.prop)) (o, 0) back);
+        linked = subst (λ (xs : List ℕ). Contains xs o) (sym (partners_seen meta rows v a f.prop f.class e ha)) (contains_map (λ x. x.0) (joined_at rows a (near meta f.class f.prop)) (o, 0) back);
       };
     }
 

@@ -3,7 +3,7 @@ use Rattle.std.proofs.Common.{◌≡◌, ◌≢◌, ℕ, ◌+◌, ◌-◌, ◌<�
 use Rattle.std.specs.Prelude.{Contains, option_map, is_some, count_by, encode_utf8_all, IsSome, ◌==◌, ◌&&◌, nat_lt}
 use Rattle.std.specs.Str.{bytes_eq}
 use Rattle.std.specs.Map.{update}
-use Rattle.std.proofs.lemmas.Bool.{cases_lt, cases_eq, eqb-true, ne_eqb}
+use Rattle.std.proofs.lemmas.Bool.{cases_lt, cases_eq, eqb-true, ne_eqb, lt-ltb}
 use Rattle.std.proofs.lemmas.List.{length-map, get_or_past, drop-map, ext_get_or, get_or-drop, length-drop, get_or_default}
 use Rattle.std.proofs.lemmas.List.Sums.{sum_by-cons}
 use Rattle.mof_metamodel.specs.declared.desc.MetaDesc.{MetaDesc}
@@ -75,9 +75,6 @@ filter_fuse p q r (x ∷ xs) h =
       first rest true = ap (λ ys. cond (p x) (x ∷ ys) ys) rest
       first rest false = rest
 
-lt_true : (a b : ℕ) → a < b → nat_lt a b ≡ true
-lt_true a b m = search rules
-
 lt_false : (a b : ℕ) → b ≤ a → nat_lt a b ≡ false
 lt_false a b m = search rules
 
@@ -91,9 +88,9 @@ stays-more : (o n : ℕ) (e : ℕ × ℕ) → (stays o n e && not (is_address (o
 stays-more o n e = by_test (e.0 == o) where
   tests : (not (nat_lt e.1 n) && not (e.1 == n)) ≡ not (nat_lt e.1 (suc n))
   tests = elim (cases_lt e.1 n) [
-    | inl l ↦ (let a : nat_lt e.1 n ≡ true = lt_true e.1 n l in let b : nat_lt e.1 (suc n) ≡ true = lt_true e.1 (suc n) (omega arith) in ap (λ x. not x && not (e.1 == n)) a ∙ ap not (sym b))
+    | inl l ↦ (let a : nat_lt e.1 n ≡ true = lt-ltb e.1 n l in let b : nat_lt e.1 (suc n) ≡ true = lt-ltb e.1 (suc n) (omega arith) in ap (λ x. not x && not (e.1 == n)) a ∙ ap not (sym b))
     | inr le ↦ elim (cases_eq e.1 n) [
-      | inl q ↦ (let a : nat_lt e.1 n ≡ false = lt_false e.1 n le in let b : nat_lt e.1 (suc n) ≡ true = lt_true e.1 (suc n) (omega arith) in let d : (e.1 == n) ≡ true = eq-eqb e.1 n q in
+      | inl q ↦ (let a : nat_lt e.1 n ≡ false = lt_false e.1 n le in let b : nat_lt e.1 (suc n) ≡ true = lt-ltb e.1 (suc n) (omega arith) in let d : (e.1 == n) ≡ true = eq-eqb e.1 n q in
           ap (λ x. not x && not (e.1 == n)) a ∙ ap not d ∙ ap not (sym b))
       | inr ne ↦ (let a : nat_lt e.1 n ≡ false = lt_false e.1 n le in let b : nat_lt e.1 (suc n) ≡ false = lt_false e.1 (suc n) (omega arith) in let d : (e.1 == n) ≡ false = ne_eqb e.1 n ne in
           ap (λ x. not x && not (e.1 == n)) a ∙ ap not d ∙ ap not (sym b))
@@ -176,7 +173,7 @@ count-unnamed (r ∷ rows) (suc o) n e =
 stays-other : (o n : ℕ) (e : ℕ × ℕ) → stays o n e ≡ true → (e.0 ≡ o → e.1 < n) → e.0 ≢ o
 stays-other o n e h r q =
     let a : (e.0 == o) ≡ true = eq-eqb e.0 o q in
-    let b : nat_lt e.1 n ≡ true = lt_true e.1 n (r q) in
+    let b : nat_lt e.1 n ≡ true = lt-ltb e.1 n (r q) in
     let w : stays o n e ≡ false = ap (λ x. not (x && nat_lt e.1 n)) a ∙ ap not b in
     let z : true ≡ false = sym h ∙ w in cc
 
@@ -259,7 +256,7 @@ slot-upto : (o n : ℕ) (p : Place) → ((e : ℕ × ℕ) → Contains p.joined 
 slot-upto o n p h = ap (λ ps. record { values = p.values; partners = ps })
     (filter-map_all (λ e. e.0) (stays o n) (λ x. not (x == o)) p.joined (λ e c. ap not (by_test e (e.0 == o) refl (h e c)))) where
       by_test : (e : ℕ × ℕ) (t : Bool) → (e.0 == o) ≡ t → (e.0 ≡ o → e.1 < n) → (e.0 == o) ≡ ((e.0 == o) && nat_lt e.1 n)
-      by_test e true q f = let w : nat_lt e.1 n ≡ true = lt_true e.1 n (f (eqb-true e.0 o q)) in cc
+      by_test e true q f = let w : nat_lt e.1 n ≡ true = lt-ltb e.1 n (f (eqb-true e.0 o q)) in cc
       by_test e false q f = cc
 
 map-map_all : {X Y Z : Type 0} (f : X → Y) (g : Y → Z) (h : Z → Z) (k : X → X) (xs : List X) → ((x : X) → Contains xs x → g (f (k x)) ≡ h (g (f x))) → map (λ x. g (f (k x))) xs ≡ map (λ x. h (g (f x))) xs

@@ -14,7 +14,8 @@ use Rattle.object_tables.specs.Rows.{Row, Place, row_at, place_at, joined_at, no
 use Rattle.object_tables.specs.Objects.{Object, Slot, object_of, object_from, slot_of, with_slots}
 use Rattle.object_tables.specs.Models.{ModelData, object_at, class_at, with_slot, with_object_slot, with_partner, without_partner, at_opposite, linked, unlinked, slot_number, index_of, without_number, IsReferenceOf, partners_at}
 use Rattle.object_tables.specs.Tied.{near, far, far_among, nameless, named_in, class_in, IsTied, IsFarEnd, IsNearEnd}
-use Rattle.object_tables.proofs.ListLemmas.{length-update_at, get_or-update_at_same, get_or-update_at_other, update_at_past, map-update_at_at, update_at_agree, count_by-update_at, Contains-map, Contains-from_map, Contains-filter, filter-map_all}
+use Rattle.object_tables.proofs.ListLemmas.{length-update_at, get_or-update_at_same, get_or-update_at_other, update_at_past, map-update_at_at, update_at_agree, count_by-update_at, Contains-from_map, Contains-filter, filter-map_all}
+use Rattle.mof_metamodel.proofs.Facts.{contains_map}
 use Rattle.object_tables.proofs.ObjectLemmas.{objects-nameless}
 use Rattle.object_tables.proofs.ModelLemmas.{seen, class_seen, object_seen, IsPlaced, placed, index-within, index-same, index-found, live_class, class_of_rows, near-within, partners_seen}
 use Rattle.mof_metamodel.proofs.PropLemmas.{prop_known}
@@ -122,7 +123,7 @@ far-among_named props (Some q) n k l e = by_test (nat_lt (index_of props q) (len
   by_test true h w = (q, refl, omega arith, ltb-true (index_of props q) (length props) h)
   by_test false h w = absurd (omega arith)
 
-nameless-below : (meta : MetaDesc) (p : ℕ) → nameless meta p < 2
+pub nameless-below : (meta : MetaDesc) (p : ℕ) → nameless meta p < 2
 nameless-below meta p = choice (prop_at meta p).composite where
   choice : (b : Bool) → cond b 0 1 < 2
   choice true = omega arith
@@ -131,7 +132,7 @@ nameless-below meta p = choice (prop_at meta p).composite where
 pub far_named : (meta : MetaDesc) (c p k : ℕ) → far meta c p ≡ suc (suc k) → (q : ℕ) × (opposite_of meta p ≡ Some q) × (k ≡ index_of (props_of meta c) q) × (index_of (props_of meta c) q < length (props_of meta c))
 far_named meta c p k e = far-among_named (props_of meta c) (opposite_of meta p) (nameless meta p) k (nameless-below meta p) e
 
-far-among_back : (props : List ℕ) (q n : ℕ) → index_of props q < length props → far_among props (Some q) n ≡ suc (suc (index_of props q))
+pub far-among_back : (props : List ℕ) (q n : ℕ) → index_of props q < length props → far_among props (Some q) n ≡ suc (suc (index_of props q))
 far-among_back props q n l = ap (λ b. cond b (suc (suc (index_of props q))) n) (lt-test (index_of props q) (length props) l) where
   lt-test : (a b : ℕ) → a < b → nat_lt a b ≡ true
   lt-test a b m = search rules
@@ -406,7 +407,7 @@ pub pair-linked : (meta : MetaDesc) (rows : List Row) (v : ModelData) (p a b n f
 pair-linked meta rows v p a b n f e s c =
     subst (λ xs. Contains xs b)
     (ap (λ k. map (λ x. x.0) (joined_at rows a k)) s.near_is ∙ sym (partners_seen meta rows v a p s.ca e (ap (λ x. class_at x a) (sym e) ∙ class_seen meta rows a ∙ s.a_is)))
-    (Contains-map (λ x. x.0) (joined_at rows a n) (b, f) c)
+    (contains_map (λ x. x.0) (joined_at rows a n) (b, f) c)
 
 pub pair-joined : (meta : MetaDesc) (rows : List Row) (v : ModelData) (number : List ℕ → Option ℕ) (live p a b n f : ℕ) → IsTied meta rows number live → seen meta rows ≡ v → IsPair meta rows p a b n f
     → Contains (partners_at v a p) b → Contains (joined_at rows a n) (b, f)

@@ -11,6 +11,7 @@ use Rattle.object_tables.specs.Models.{ModelData, object_at, class_at, slot_in, 
 use Rattle.object_tables.specs.Objects.{Object, Slot}
 use Rattle.object_tables.specs.Sameness.{HasSameParts}
 use Rattle.object_tables.proofs.DistinctLemmas.{property_place}
+use Rattle.std.proofs.lemmas.Option.{same_Some}
 
 abbrev slot : List Value → List ℕ → Slot
 slot vs ps = record { values = vs; partners = ps }
@@ -26,9 +27,6 @@ object_parts x y e f g = ap (λ (c : ℕ). object c x.id x.slots) e ∙ ap₂ (o
 
 abbrev model : MetaDesc → List (Option Object) → ModelData
 model meta objects = record { meta = meta; objects = objects }
-
-some_same : {X : Type 0} (x y : X) → Some x ≡ Some y → x ≡ y
-some_same x y e = cc
 
 module _ (a b : ModelData) (h : HasSameParts a b) (ka : Kept a) (kb : Kept b) where
   reference_there : (o p : ℕ) → IsReferenceOf a o p → IsReferenceOf b o p
@@ -73,10 +71,10 @@ module _ (a b : ModelData) (h : HasSameParts a b) (ka : Kept a) (kb : Kept b) wh
   object_both o x y e f = object_parts x y class_is id_is (ext_get_or no_slot x.slots y.slots long each)
     where
       class_is : x.class ≡ y.class
-      class_is = some_same _ _ (sym (ap (option_map (λ ob. ob.class)) e) ∙ sym (h.classes o) ∙ ap (option_map (λ ob. ob.class)) f)
+      class_is = same_Some _ _ (sym (ap (option_map (λ ob. ob.class)) e) ∙ sym (h.classes o) ∙ ap (option_map (λ ob. ob.class)) f)
 
       id_is : x.id ≡ y.id
-      id_is = some_same _ _ (sym (ap (option_map (λ ob. ob.id)) e) ∙ sym (h.identifiers o) ∙ ap (option_map (λ ob. ob.id)) f)
+      id_is = same_Some _ _ (sym (ap (option_map (λ ob. ob.id)) e) ∙ sym (h.identifiers o) ∙ ap (option_map (λ ob. ob.id)) f)
 
       props_are : props_of a.meta x.class ≡ props_of b.meta y.class
       props_are = ap₂ props_of (sym h.meta) class_is

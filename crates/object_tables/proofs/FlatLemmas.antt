@@ -1,16 +1,17 @@
 -- What is read of the rows of flat tables, and what a change of the tables does to the rows.
-use Rattle.std.proofs.Common.{◌≡◌, ◌≢◌, ℕ, ◌+◌, ◌-◌, ◌<◌, ◌≤◌, ◌^◌, zero, suc, List, [], ◌∷◌, ◌++◌, length, get_or, set, map, not, Bool, true, false, refl, ap, sym, ◌∙◌, arith, subst}
+use Rattle.std.proofs.Common.{◌≡◌, ◌≢◌, ℕ, ◌+◌, ◌-◌, ◌<◌, ◌≤◌, ◌^◌, zero, suc, List, [], ◌∷◌, ◌++◌, length, get_or, set, map, not, refl, ap, sym, ◌∙◌, arith, subst}
 use Rattle.std.proofs.Common.{inl, inr, eq-eqb, Some, None, replicate}
-use Rattle.std.specs.Prelude.{◌==◌, ◌&&◌, Contains, All}
-use Rattle.std.proofs.lemmas.Bool.{cases_lt, cases_eq, eqb-true}
+use Rattle.std.specs.Prelude.{◌==◌, Contains, All}
+use Rattle.std.proofs.lemmas.Bool.{cases_lt, cases_eq, eqb-true, and_parts, and_from}
 use Rattle.std.specs.Cmp.{both_ways}
 use Rattle.std.proofs.lemmas.List.{get_or_past, length-map, get_or-map, get_or-set_same, get_or-set_other, length-set, map-append}
 use Rattle.std.proofs.lemmas.List.{length-append, length-replicate, get_or_append_left, get_or-append-add, get_or-replicate, get_or_push}
 use Rattle.std.proofs.lemmas.List.Elements.{Contains-get_or}
 use Rattle.link_arena.specs.Links.{joined_ends, parted, all_parted, without, IsSimple}
 use Rattle.object_tables.specs.Lists.{update_at}
-use Rattle.object_tables.proofs.ListLemmas.{Contains-map, Contains-from_map, filter-map_all, map-update_at, length-update_at}
-use Rattle.object_tables.specs.Rows.{Row, no_place, no_row, row_at, place_at, joined_at, with_joined, with_last, without_join, without_address, is_address, with_values, fresh_row, row_without, place_without, cleared_place, unnamed, IsRanged, IsMutual}
+use Rattle.object_tables.proofs.ListLemmas.{Contains-from_map, filter-map_all, map-update_at, length-update_at}
+use Rattle.mof_metamodel.proofs.Facts.{contains_map}
+use Rattle.object_tables.specs.Rows.{Row, no_place, no_row, row_at, place_at, joined_at, with_joined, with_last, without_join, without_address, is_address, with_values, fresh_row, row_without, place_without, cleared_place, unnamed, IsRanged, IsMutual, IsSingle}
 use Rattle.object_tables.specs.Flat.{row_of, rows_of, entry_at, home_at, no_entry, address, joined_of, place_of, IsFlat, IsSpot, number_at, end_at}
 use Rattle.object_tables.specs.declared.tables.Named.{Named}
 use Rattle.object_tables.specs.declared.tables.Entry.{Entry}
@@ -188,7 +189,7 @@ pub contains_seen : (es : List Entry) (vs : List (List Value)) (ix : List ℕ) (
 contains_seen es vs ix hs ls v o k i j f e s t ne c =
     subst (λ xs. Contains xs (i, j)) (sym (joined_seen es vs ix hs ls v o k e s))
     (subst (λ x. Contains (map (address hs) (get_or ls (end_at es ix o k) [])) x) (f.known i j t.object t.place ne)
-    (Contains-map (address hs) _ _ c))
+    (contains_map (address hs) _ _ c))
 
 pub ends_apart : (es : List Entry) (ix : List ℕ) (hs : List Home) (ls : List (List ℕ)) (o k i j : ℕ) → IsFlat es ix hs ls → IsSpot es o k → IsSpot es i j
     → end_at es ix i j ≢ 0 → (o ≡ i → k ≢ j) → end_at es ix o k ≢ end_at es ix i j
@@ -229,13 +230,6 @@ contains_ends es vs ix hs ls v o k i j f m e s c =
     let r : x < length ls = others_ranged ls (end_at es ix o k) x m cx in
     subst (λ y. Contains xs y) (end_found es ix hs ls i j x f (omega (arith, f.ends)) (others_some ls (end_at es ix o k) x m f.blank cx) ex) cx
 
-and_parts : (a b : Bool) → (a && b) ≡ true → (a ≡ true) × (b ≡ true)
-and_parts true b h = (refl, h)
-and_parts false b h = cc
-
-both_true : (a b : Bool) → a ≡ true → b ≡ true → (a && b) ≡ true
-both_true a b p q = cc
-
 -- two ends are one exactly where their addresses are
 pub address_test : (es : List Entry) (ix : List ℕ) (hs : List Home) (ls : List (List ℕ)) (i j x : ℕ) → IsFlat es ix hs ls → IsSpot es i j → x < length hs → x ≢ 0
     → is_address (i, j) (address hs x) ≡ (x == end_at es ix i j)
@@ -248,7 +242,7 @@ address_test es ix hs ls i j x f s l ne =
     eq-eqb x (end_at es ix i j) (end_found es ix hs ls i j x f l ne w))
     (λ h. let y : x ≡ end_at es ix i j = eqb-true x (end_at es ix i j) h in
     let w : address hs x ≡ (i, j) = ap (address hs) y ∙ f.known i j s.object s.place (λ z. ne (y ∙ z)) in
-    both_true _ _ (eq-eqb (home_at hs x).object i (ap (λ a. a.0) w)) (eq-eqb (home_at hs x).place j (ap (λ a. a.1) w)))
+    and_from _ _ (eq-eqb (home_at hs x).object i (ap (λ a. a.0) w)) (eq-eqb (home_at hs x).place j (ap (λ a. a.1) w)))
 
 pub rows-without : (es : List Entry) (vs : List (List Value)) (ix : List ℕ) (hs : List Home) (ls : List (List ℕ)) (o k i j : ℕ) → IsFlat es ix hs ls
     → IsSpot es o k → IsSpot es i j
@@ -508,6 +502,24 @@ mutual_seen es vs ix hs ls v f m e o k x c =
     subst (λ (z : ℕ). Contains (get_or ls z []) (end_at es ix o k)) (sym (f.found y good.0 good.1)) there in
     subst (λ (z : ℕ × ℕ). Contains (joined_at v z.0 z.1) (o, k)) ey (contains_seen es vs ix hs ls v (home_at hs y).object (home_at hs y).place o k f e t s (others_some
     ls y (end_at es ix o k) m f.blank there) back)
+
+-- a place is joined to another once
+pub once_seen : (es : List Entry) (vs : List (List Value)) (ix : List ℕ) (hs : List Home) (ls : List (List ℕ)) (v : List Row) → IsFlat es ix hs ls → IsSimple ls
+    → rows_of es vs ix hs ls ≡ v → IsSingle v
+once_seen es vs ix hs ls v f m e o k i j d before within same =
+    let s : IsSpot es o k = spot_joined es vs ix hs ls v o k (get_or (joined_at v o k) j d) e (Contains-get_or (joined_at v o k) j d within) in
+    let end : ℕ = end_at es ix o k in
+    let zs : List ℕ = get_or ls end [] in
+    let shown : joined_at v o k ≡ map (address hs) zs = joined_seen es vs ix hs ls v o k e s in
+    let lj : j < length zs = omega (arith, ap length shown, length-map zs (address hs)) in
+    let li : i < length zs = omega arith in
+    let at_i : get_or (joined_at v o k) i d ≡ address hs (get_or zs i 0) = ap (λ xs. get_or xs i d) shown ∙ get_or-map (address hs) zs i 0 d li in
+    let at_j : get_or (joined_at v o k) j d ≡ address hs (get_or zs j 0) = ap (λ xs. get_or xs j d) shown ∙ get_or-map (address hs) zs j 0 d lj in
+    let one : address hs (get_or zs i 0) ≡ address hs (get_or zs j 0) = sym at_i ∙ same ∙ at_j in
+    let good_i = others_good es ix hs ls end (get_or zs i 0) f m (Contains-get_or zs i 0 li) in
+    let good_j = others_good es ix hs ls end (get_or zs j 0) f m (Contains-get_or zs j 0 lj) in
+    m.single end i j 0 before lj
+    (sym (f.found (get_or zs i 0) good_i.0 good_i.1) ∙ ap (λ (z : ℕ × ℕ). end_at es ix z.0 z.1) one ∙ f.found (get_or zs j 0) good_j.0 good_j.1)
 
 -- an object taken from its number
 entry-forget : (es : List Entry) (o i : ℕ) → ((entry_at (update_at es o (λ e. record e { named = None })) i).first ≡ (entry_at es i).first) × ((entry_at (update_at es

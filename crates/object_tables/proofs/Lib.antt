@@ -30,3 +30,4 @@ pub mod ContainerLemmas
 pub mod PlaceLemmas
 pub mod ConditionLemmas
 pub mod Refuting
+pub mod IncomingLemmas

@@ -1,7 +1,6 @@
 -- Lemmas on one changed element of a list.
-use Rattle.std.proofs.Common.{◌≡◌, ◌≢◌, ℕ, ◌+◌, ◌<◌, ◌≤◌, zero, suc, List, [], ◌∷◌, length, get_or, set, map, refl, ap, sym, ◌∙◌, arith, subst, Bool, true, false, cond, filter}
+use Rattle.std.proofs.Common.{◌≡◌, ◌≢◌, ℕ, ◌+◌, ◌<◌, ◌≤◌, zero, suc, List, [], ◌∷◌, length, get_or, set, map, refl, ap, sym, ◌∙◌, arith, Bool, true, false, cond, filter}
 use Rattle.std.specs.Prelude.{count_by, Contains, OnOk, Result, Ok, Err}
-use Rattle.std.proofs.lemmas.List.{length-map, get_or-map}
 use Rattle.std.proofs.lemmas.List.Sums.{sum_by-cons}
 use Rattle.object_tables.specs.Lists.{update_at}
 
@@ -46,9 +45,6 @@ update_at_id (x ∷ xs) (suc n) f h = ap (λ ys. x ∷ ys) (update_at_id xs n f 
 
 pub Contains-cons : {X : Type 0} (y : X) (xs : List X) (x : X) → Contains xs x → Contains (y ∷ xs) x
 Contains-cons y xs x (k, l, e) = (suc k, omega arith, e)
-
-pub Contains-map : {X Y : Type 0} (f : X → Y) (xs : List X) (x : X) → Contains xs x → Contains (map f xs) (f x)
-Contains-map f xs x (k, l, e) = (k, subst (λ n. k < n) (sym (length-map xs f)) l, get_or-map f xs k x (f x) l ∙ ap f e)
 
 pub Contains-from_map : {X Y : Type 0} (f : X → Y) (xs : List X) (y : Y) → Contains (map f xs) y → (x : X) × Contains xs x × (f x ≡ y)
 Contains-from_map f [] y (k, l, e) = absurd (omega arith)

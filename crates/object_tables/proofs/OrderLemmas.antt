@@ -18,7 +18,8 @@ use Rattle.object_tables.specs.declared.value.Value.{Value}
 use Rattle.object_tables.specs.Rows.{Row, joined_at, with_joined}
 use Rattle.object_tables.specs.Flat.{rows_of, home_at, address, end_at, IsFlat, IsSpot}
 use Rattle.object_tables.specs.Orders.{AreOfObjects, IsReordered, IsMarkedFor}
-use Rattle.object_tables.proofs.ListLemmas.{Contains-map, Contains-from_map}
+use Rattle.object_tables.proofs.ListLemmas.{Contains-from_map}
+use Rattle.mof_metamodel.proofs.Facts.{contains_map}
 use Rattle.object_tables.proofs.MapLemmas.{map-map, map-back}
 use Rattle.object_tables.proofs.FlatLemmas.{joined_seen, rows-links, others_good}
 
@@ -44,7 +45,7 @@ ends_of_objects es vs ix hs ls v o k ys f m e s apart ey x y cx cy h =
     let gx = others_good es ix hs ls (end_at es ix o k) x f m dx in
     let gy = others_good es ix hs ls (end_at es ix o k) y f m dy in
     let seen : (z : ℕ) → Contains zs z → Contains (joined_at v o k) (address hs z) =
-    (λ z cz. subst (λ us. Contains us (address hs z)) (sym (joined_seen es vs ix hs ls v o k e s)) (Contains-map (address hs) zs z cz)) in
+    (λ z cz. subst (λ us. Contains us (address hs z)) (sym (joined_seen es vs ix hs ls v o k e s)) (contains_map (address hs) zs z cz)) in
     let same : address hs x ≡ address hs y = apart (address hs x) (address hs y) (seen x dx) (seen y dy) h in
     sym (f.found x gx.0 gx.1) ∙ ap (λ a. end_at es ix a.0 a.1) same ∙ f.found y gy.0 gy.1
 
@@ -72,7 +73,7 @@ pub order_all : (es : List Entry) (vs : List (List Value)) (ix : List ℕ) (hs :
     → IsPermutation (map (λ b. b.0) order) (map (λ e. e.0) (joined_at v o k)) → length es ≤ n → All (λ b. b.0 < n) order
 order_all es vs ix hs ls v o k n order f m e s p le i d l =
     let b : ObjId = get_or order i d in
-    let c : Contains (map (λ b. b.0) order) b.0 = Contains-map (λ b. b.0) order b (Contains-get_or order i d l) in
+    let c : Contains (map (λ b. b.0) order) b.0 = contains_map (λ b. b.0) order b (Contains-get_or order i d l) in
     let (x, cx, ex) = Contains-from_map (object hs) (get_or ls (end_at es ix o k) []) b.0 (Contains-permutation _ _ b.0 (in_order_of es vs ix hs ls v o k order e s p)
     c) in
     let r = owned_below es vs ix hs ls (end_at es ix o k) x f m cx in

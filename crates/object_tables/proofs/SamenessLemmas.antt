@@ -7,7 +7,7 @@ use Rattle.mof_metamodel.specs.Metamodels.{props_of, prop_at, type_of}
 use Rattle.object_tables.specs.Models.{ModelData, class_at, id_at, values_at, partners_at, is_class_type, IsLive, IsLinked, IsAttributeOf, IsReferenceOf, IsTop}
 use Rattle.object_tables.specs.Kept.{Kept}
 use Rattle.object_tables.specs.Sameness.{IsSame}
-use Rattle.object_tables.proofs.ListLemmas.{Contains-map}
+use Rattle.mof_metamodel.proofs.Facts.{contains_map}
 use Rattle.object_tables.proofs.MapLemmas.{map-map, map-back}
 use Rattle.object_tables.proofs.ModelLemmas.{live_from_class}
 use Rattle.object_tables.proofs.KeptLemmas.{sound_of, linked_reference, linked_partner}
@@ -74,7 +74,7 @@ top_back m n s a k l top x p h =
     let r : IsReferenceOf m x p = linked_reference m p x a (sound_of m k) h.linked in
     top (s.image x) p (record {
       composite = subst (λ (d : MetaDesc). (prop_at d p).composite ≡ true) (sym s.meta) h.composite;
-      linked = subst (λ xs. Contains xs (s.image a)) (sym (s.partners x p r)) (Contains-map s.image (partners_at m x p) a h.linked);
+      linked = subst (λ xs. Contains xs (s.image a)) (sym (s.partners x p r)) (contains_map s.image (partners_at m x p) a h.linked);
     })
 
 -- sameness goes both ways

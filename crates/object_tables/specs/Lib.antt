@@ -7,6 +7,7 @@ pub mod Models
 pub mod Tied
 pub mod AddFaults
 pub mod Ids
+pub mod Incoming
 pub mod Sameness
 pub mod Orders
 pub mod Kept

@@ -1,5 +1,5 @@
 -- What the tables hold: a row for each number of an object, with a list of places. Each place holds values, and is joined to other places.
-use Rattle.std.specs.Prelude.{zero, suc, ◌<◌, length, Contains, ℕ, ◌==◌, ◌&&◌, not, Bool, List, [], ◌∷◌, ◌++◌, map, filter, Option, None, Some, slice_index_or, replicate}
+use Rattle.std.specs.Prelude.{zero, suc, ◌<◌, ◌≢◌, AllPairs, length, Contains, ℕ, ◌==◌, ◌&&◌, not, Bool, List, [], ◌∷◌, ◌++◌, map, filter, Option, None, Some, slice_index_or, replicate}
 use Rattle.object_tables.specs.declared.value.Value.{Value}
 use Rattle.object_tables.specs.declared.tables.Named.{Named}
 use Rattle.object_tables.specs.Lists.{update_at}
@@ -92,3 +92,7 @@ IsRanged rows = (o k : ℕ) (e : ℕ × ℕ) → Contains (joined_at rows o k) e
 -- two places are joined to each other
 abbrev pub IsMutual : List Row → Type 0
 IsMutual rows = (o k : ℕ) (e : ℕ × ℕ) → Contains (joined_at rows o k) e → Contains (joined_at rows e.0 e.1) (o, k)
+
+-- a place is joined to another once
+abbrev pub IsSingle : List Row → Type 0
+IsSingle rows = (o k : ℕ) → AllPairs (λ x y. x ≢ y) (joined_at rows o k)

@@ -1,4 +1,4 @@
-ghost use Rattle.std.specs.Prelude.{◌≡◌};
+ghost use Rattle.std.specs.Prelude.{◌≡◌, [], ◌∷◌};
 ghost use Rattle.object_tables.specs.Keys.{no_key, after};
 
 use std::hash::{BuildHasher, DefaultHasher, Hasher};
@@ -27,6 +27,14 @@ impl HashKey {
         let mut start = self.start;
         start.write(bytes);
         HashKey { start }
+    }
+
+    /// The key that this text besides changes, with a byte behind it that no text has: texts that are cut elsewhere make
+    /// another key. In time linear in its length.
+    pub fn after_text(self, text: &str) -> HashKey
+        ensures { result ≡ after (after self text.now) (255 ∷ []) }
+    {
+        self.after(text.as_bytes()).after(&[0xff])
     }
 }
 

@@ -9,7 +9,7 @@
 //! `may_be_partner`, `is_free`, `linked` and `is_order`.
 //!
 //! Costs: `class_of`, `id_of`, `by_id`, `is_live`, `len`, `end`, `partner_count` and the tests of properties are constant; `attr`, `set_attr`
-//! and `partners` take what is given or returned, `collect_into` the partners that are left, and `may_hold` the square of the number of values; `linked`, `link` and
+//! and `partners` take what is given or returned, `incoming` the links that it gives, `collect_into` the partners that are left, and `may_hold` the square of the number of values; `linked`, `link` and
 //! `unlink` the smaller of the numbers of partners of the two ends; `set_order` the number of partners, and `is_order` sorts
 //! them; `add`, `container`, `is_top` and `is_free` the number of properties of the objects' classes; `delete` that and the
 //! links of the object; `depth` what `container` takes for each container above; `duplicate` the places, values and links of
@@ -23,6 +23,7 @@
 
 mod breach;
 mod fault;
+mod incoming;
 mod keys;
 mod limit;
 mod model;
@@ -34,6 +35,7 @@ mod value;
 
 pub use breach::{Breach, BreachKind};
 pub use fault::AddFault;
+pub use incoming::Incoming;
 pub use keys::HashKey;
 pub use limit::{LimitKind, MAX_ADDED, MAX_DEPTH, MAX_OBJECTS};
 pub use model::Model;

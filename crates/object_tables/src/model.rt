@@ -12,6 +12,7 @@ mod contents;
 mod copies;
 mod cycles;
 mod depths;
+mod incoming;
 mod links;
 mod orders;
 mod validity;

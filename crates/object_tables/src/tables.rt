@@ -3,7 +3,7 @@ ghost use Rattle.std.specs.Option.{option_copied};
 ghost use Rattle.std.specs.Vec.{vec_len, vec_capacity};
 ghost use Rattle.object_tables.specs.Flat.{number_at, end_at, entry_at, home_at, address};
 ghost use Rattle.object_tables.specs.Lists.{update_at};
-ghost use Rattle.object_tables.specs.Rows.{row_at, place_at, joined_at, with_place, with_joined, with_last, without_address, without_join, with_values, fresh_row, cleared_place, cleared_upto, unnamed, IsRanged, IsMutual};
+ghost use Rattle.object_tables.specs.Rows.{row_at, place_at, joined_at, with_place, with_joined, with_last, without_address, without_join, with_values, fresh_row, cleared_place, cleared_upto, unnamed, IsRanged, IsMutual, IsSingle};
 
 mod copies;
 mod ends;
@@ -69,9 +69,9 @@ impl Model for Tables {
     ghost use Rattle.std.specs.Vec.{vec_capacity};
     ghost use Rattle.object_tables.specs.Flat.{rows_of, IsFlat};
 
-    ghost view = { λ t. rows_of t.entries.items t.values t.index.items t.homes.items t.arena };
+    ghost view = { λ t. rows_of t.entries.items t.values t.index.items t.homes.items t.arena.links };
 
-    ghost invariant = { λ t. IsFlat t.entries.items t.index.items t.homes.items t.arena × (length t.values ≡ length t.index.items) × (length t.entries.items ≤ length t.marks.items) × (length t.entries.items ≤ vec_capacity t.order) };
+    ghost invariant = { λ t. IsFlat t.entries.items t.index.items t.homes.items t.arena.links × (length t.values ≡ length t.index.items) × (length t.entries.items ≤ length t.marks.items) × (length t.entries.items ≤ vec_capacity t.order) };
 }
 
 impl Tables {
@@ -240,10 +240,11 @@ impl Tables {
         }
     }
 
-    /// What a place is joined to is a place, and is joined to it. It does nothing.
+    /// What a place is joined to is a place, once, and is joined to it. It does nothing.
     pub(crate) fn look(&self)
         ensures ranged { IsRanged self.now }
         ensures both { IsMutual self.now }
+        ensures once { IsSingle self.now }
     {
         let _ = &self.entries;
         let _ = self.arena.end_count();

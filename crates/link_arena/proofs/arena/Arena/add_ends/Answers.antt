@@ -1,52 +1,72 @@
-use Rattle.std.proofs.Common.{arith, ◌≡◌, ◌≤◌, ◌+◌, ◌^◌, ◌∙◌, ◌++◌, List, ℕ, [], length, replicate, take, ap, sym, subst}
-use Rattle.std.proofs.lemmas.List.{length-append, length-replicate}
-use Rattle.link_arena.specs.declared.slot.Head.{Head}
-use Rattle.link_arena.specs.Twins.{links, IsArena, no_head, with_free_head}
-use Rattle.link_arena.proofs.Begun.{IsBegun, begun}
-use Rattle.link_arena.proofs.Heads.{wider}
+use Rattle.std.proofs.Common.{arith, ◌≡◌, ◌<◌, ◌≤◌, ◌+◌, ◌-◌, ◌^◌, ◌∙◌, ◌++◌, List, ℕ, [], length, replicate, ap, refl, sym, subst}
+use Rattle.std.specs.Vec.{vec_capacity}
+use Rattle.link_arena.specs.declared.half.Head.{Head}
+use Rattle.link_arena.specs.Links.{Linkage, with_ends}
+use Rattle.link_arena.specs.Twins.{links, IsRoomy}
+use Rattle.link_arena.proofs.Roomy.{IsReady, IsExtended, roomy_as, roomy_ready, roomy_wider, roomy_more}
 use Rattle.link_arena.proofs.arena.Arena.add_ends.Goals as goal
 
-pub invariant_of-self-in_err-push_marks : goal.invariant_of-self-in_err-push_marks
-invariant_of-self-in_err-push_marks c =
-    let b : IsBegun c.self.inside.heads.items c.self.inside.slots.items = begun c.self.inside.heads.items c.self.inside.slots.items c.self.invariant.0 in (
-      subst (λ (l : List Head). IsArena l c.self.inside.slots.items) (sym c.in_ok-need_free_head.ensures.ok) b.arena,
-      omega (arith, c.in_err-push_marks.ensures.err, c.need_free_head.ensures.marks),
-    )
+pub invariant_of-self-in_err-reserve : goal.invariant_of-self-in_err-reserve
+invariant_of-self-in_err-reserve c =
+    let ready : IsReady c.self.inside.joins c.need_free_list.new.joins (length c.need_free_list.new.marks.items) (vec_capacity c.need_free_list.new.marks) c.self.inside.spare_ends c.self.inside.spare_joins =
+    roomy_ready c.self.inside.joins c.need_free_list.new.joins _ _ _ _ c.self.inside.spare_ends c.self.inside.spare_joins c.self.invariant
+    c.in_ok-need_free_list.ensures.ok c.need_free_list.ensures.halves c.need_free_list.ensures.marks c.need_free_list.ensures.same
+    (λ h. ap (λ v. length v.items) (c.need_free_list.ensures.same_marks h)) (λ h. ap (λ v. vec_capacity v) (c.need_free_list.ensures.same_marks h)) in
+    subst (λ (n : ℕ). IsRoomy c.need_free_list.new.joins n (vec_capacity c.reserve.new.self) c.self.inside.spare_ends c.self.inside.spare_joins) (sym (ap length c.reserve.ensures.items))
+    (roomy_wider c.need_free_list.new.joins c.need_free_list.new.joins _ _ _ _ _ ready.roomy refl refl (omega arith) c.reserve.ensures.capacity)
 
-pub invariant_of-self-in-Ok : goal.invariant_of-self-in-Ok
-invariant_of-self-in-Ok c =
-    let H : List Head = with_free_head c.self.inside.heads.items in
-    let b : IsBegun c.self.inside.heads.items c.self.inside.slots.items = begun c.self.inside.heads.items c.self.inside.slots.items c.self.invariant.0 in
-    let shown : length (links c.self.inside.heads.items c.self.inside.slots.items) ≡ length c.args.self.now = ap length c.self.view_is in
-    let few : length H + c.args.count ≤ 2 ^ 32 = omega (arith, b.count) in
-    let is : c.push_heads.new.heads.items ≡ H ++ replicate c.args.count no_head =
-    c.in-Ok.ensures.ok ∙ ap (λ (l : List Head). l ++ replicate c.args.count no_head) c.in_ok-need_free_head.ensures.ok in
-    let len : length c.push_heads.new.heads.items ≡ length c.need_free_head.new.heads.items + c.args.count =
-    ap length c.in-Ok.ensures.ok ∙ (let k : length (c.need_free_head.new.heads.items ++ replicate c.args.count no_head) ≡ length c.need_free_head.new.heads.items + c.args.count =
-    omega (arith, length-append c.need_free_head.new.heads.items (replicate c.args.count no_head), length-replicate c.args.count no_head) in k) in (
-      subst (λ (l : List Head). IsArena l c.self.inside.slots.items) (sym is) (wider H c.self.inside.slots.items c.args.count b.arena b.some few).arena,
-      omega (arith, len, c.in_ok-push_marks.ensures.ok, c.need_free_head.ensures.marks),
-    )
+pub invariant_of-self-in_err-reserve_lists : goal.invariant_of-self-in_err-reserve_lists
+invariant_of-self-in_err-reserve_lists c =
+    let ready : IsReady c.self.inside.joins c.need_free_list.new.joins (length c.need_free_list.new.marks.items) (vec_capacity c.need_free_list.new.marks) c.self.inside.spare_ends c.self.inside.spare_joins =
+    roomy_ready c.self.inside.joins c.need_free_list.new.joins _ _ _ _ c.self.inside.spare_ends c.self.inside.spare_joins c.self.invariant
+    c.in_ok-need_free_list.ensures.ok c.need_free_list.ensures.halves c.need_free_list.ensures.marks c.need_free_list.ensures.same
+    (λ h. ap (λ v. length v.items) (c.need_free_list.ensures.same_marks h)) (λ h. ap (λ v. vec_capacity v) (c.need_free_list.ensures.same_marks h)) in
+    let wide : IsRoomy c.reserve_lists.new.self (length c.reserve.new.self.items) (vec_capacity c.reserve.new.self) c.self.inside.spare_ends c.self.inside.spare_joins =
+    subst (λ (n : ℕ). IsRoomy c.reserve_lists.new.self n (vec_capacity c.reserve.new.self) c.self.inside.spare_ends c.self.inside.spare_joins) (sym (ap length c.reserve.ensures.items))
+    (roomy_wider c.need_free_list.new.joins c.reserve_lists.new.self _ _ _ _ _ ready.roomy c.reserve_lists.ensures.heads c.reserve_lists.ensures.halves
+    c.reserve_lists.ensures.capacity c.reserve.ensures.capacity) in
+    wide
 
-pub invariant_of-self-in-Err : goal.invariant_of-self-in-Err
-invariant_of-self-in-Err c =
-    let b : IsBegun c.self.inside.heads.items c.self.inside.slots.items = begun c.self.inside.heads.items c.self.inside.slots.items c.self.invariant.0 in
-    let at : c.len-before.result ≡ length c.need_free_head.new.heads.items = c.len-before.ensures ∙ c.need_free_head.new.heads.ok.0 in
-    let back : c.truncate.new.self.items ≡ c.need_free_head.new.heads.items =
-    c.truncate.ensures.items ∙ (ap (λ (n : ℕ). take n c.push_heads.new.heads.items) at ∙ c.in-Err.ensures.err) in
-    let len : length c.truncate.new.self.items ≡ length c.need_free_head.new.heads.items = ap length back in (
-      subst (λ (l : List Head). IsArena l c.self.inside.slots.items) (sym (back ∙ c.in_ok-need_free_head.ensures.ok)) b.arena,
-      omega (arith, len, c.in_ok-push_marks.ensures.ok, c.need_free_head.ensures.marks),
-    )
+pub invariant_of-self-2 : goal.invariant_of-self-2
+invariant_of-self-2 c =
+    let ready : IsReady c.self.inside.joins c.need_free_list.new.joins (length c.need_free_list.new.marks.items) (vec_capacity c.need_free_list.new.marks) c.self.inside.spare_ends c.self.inside.spare_joins =
+    roomy_ready c.self.inside.joins c.need_free_list.new.joins _ _ _ _ c.self.inside.spare_ends c.self.inside.spare_joins c.self.invariant
+    c.in_ok-need_free_list.ensures.ok c.need_free_list.ensures.halves c.need_free_list.ensures.marks c.need_free_list.ensures.same
+    (λ h. ap (λ v. length v.items) (c.need_free_list.ensures.same_marks h)) (λ h. ap (λ v. vec_capacity v) (c.need_free_list.ensures.same_marks h)) in
+    let wide : IsRoomy c.reserve_lists.new.self (length c.reserve.new.self.items) (vec_capacity c.reserve.new.self) c.self.inside.spare_ends c.self.inside.spare_joins =
+    subst (λ (n : ℕ). IsRoomy c.reserve_lists.new.self n (vec_capacity c.reserve.new.self) c.self.inside.spare_ends c.self.inside.spare_joins) (sym (ap length c.reserve.ensures.items))
+    (roomy_wider c.need_free_list.new.joins c.reserve_lists.new.self _ _ _ _ _ ready.roomy c.reserve_lists.ensures.heads c.reserve_lists.ensures.halves
+    c.reserve_lists.ensures.capacity c.reserve.ensures.capacity) in
+    let some : 0 < length c.reserve_lists.new.self.heads = omega (arith, ready.some, ap length c.reserve_lists.ensures.heads) in
+    let few : length c.reserve_lists.new.self.heads + c.args.count ≤ 2 ^ 32 =
+    omega (arith, ready.count, ap length c.reserve_lists.ensures.heads, ap (λ (v : Linkage). length v.links) c.self.view_is, c.requires) in
+    let more : IsExtended c.reserve_lists.new.self c.push_lists.new.self (length c.push_marks.new.marks.items) (vec_capacity c.reserve.new.self)
+    (c.self.inside.spare_ends - c.args.count) c.self.inside.spare_joins c.args.count =
+    roomy_more c.reserve_lists.new.self c.push_lists.new.self _ _ _ _ _ c.args.count wide some few c.push_lists.ensures.heads c.push_lists.ensures.halves
+    c.push_lists.ensures.capacity c.push_marks.ensures.count in
+    roomy_as c.push_lists.new.self _ _ _ _ _ _ _ _ more.roomy refl c.push_marks.ensures.capacity c.saturating_sub-self-inside.ensures refl
 
-pub returns-in-Ok-clause-ok : goal.returns-in-Ok-clause-ok
-returns-in-Ok-clause-ok c =
-    let H : List Head = with_free_head c.self.inside.heads.items in
-    let b : IsBegun c.self.inside.heads.items c.self.inside.slots.items = begun c.self.inside.heads.items c.self.inside.slots.items c.self.invariant.0 in
-    let shown : length (links c.self.inside.heads.items c.self.inside.slots.items) ≡ length c.args.self.now = ap length c.self.view_is in
-    let few : length H + c.args.count ≤ 2 ^ 32 = omega (arith, b.count) in
-    let is : c.push_heads.new.heads.items ≡ H ++ replicate c.args.count no_head =
-    c.in-Ok.ensures.ok ∙ ap (λ (l : List Head). l ++ replicate c.args.count no_head) c.in_ok-need_free_head.ensures.ok in
-    ap (λ (l : List Head). links l c.self.inside.slots.items) is
-    ∙ ((wider H c.self.inside.slots.items c.args.count b.arena b.some few).view
-    ∙ ap (λ (l : List (List ℕ)). l ++ replicate c.args.count []) (b.view ∙ c.self.view_is))
+pub returns-clause-ok : goal.returns-clause-ok
+returns-clause-ok c =
+    let ready : IsReady c.self.inside.joins c.need_free_list.new.joins (length c.need_free_list.new.marks.items) (vec_capacity c.need_free_list.new.marks) c.self.inside.spare_ends c.self.inside.spare_joins =
+    roomy_ready c.self.inside.joins c.need_free_list.new.joins _ _ _ _ c.self.inside.spare_ends c.self.inside.spare_joins c.self.invariant
+    c.in_ok-need_free_list.ensures.ok c.need_free_list.ensures.halves c.need_free_list.ensures.marks c.need_free_list.ensures.same
+    (λ h. ap (λ v. length v.items) (c.need_free_list.ensures.same_marks h)) (λ h. ap (λ v. vec_capacity v) (c.need_free_list.ensures.same_marks h)) in
+    let wide : IsRoomy c.reserve_lists.new.self (length c.reserve.new.self.items) (vec_capacity c.reserve.new.self) c.self.inside.spare_ends c.self.inside.spare_joins =
+    subst (λ (n : ℕ). IsRoomy c.reserve_lists.new.self n (vec_capacity c.reserve.new.self) c.self.inside.spare_ends c.self.inside.spare_joins) (sym (ap length c.reserve.ensures.items))
+    (roomy_wider c.need_free_list.new.joins c.reserve_lists.new.self _ _ _ _ _ ready.roomy c.reserve_lists.ensures.heads c.reserve_lists.ensures.halves
+    c.reserve_lists.ensures.capacity c.reserve.ensures.capacity) in
+    let some : 0 < length c.reserve_lists.new.self.heads = omega (arith, ready.some, ap length c.reserve_lists.ensures.heads) in
+    let few : length c.reserve_lists.new.self.heads + c.args.count ≤ 2 ^ 32 =
+    omega (arith, ready.count, ap length c.reserve_lists.ensures.heads, ap (λ (v : Linkage). length v.links) c.self.view_is, c.requires) in
+    let more : IsExtended c.reserve_lists.new.self c.push_lists.new.self (length c.push_marks.new.marks.items) (vec_capacity c.reserve.new.self)
+    (c.self.inside.spare_ends - c.args.count) c.self.inside.spare_joins c.args.count =
+    roomy_more c.reserve_lists.new.self c.push_lists.new.self _ _ _ _ _ c.args.count wide some few c.push_lists.ensures.heads c.push_lists.ensures.halves
+    c.push_lists.ensures.capacity c.push_marks.ensures.count in
+    let seen : links c.reserve_lists.new.self.heads c.reserve_lists.new.self.halves ≡ links c.self.inside.joins.heads c.self.inside.joins.halves =
+    ap (λ (l : List Head). links l c.reserve_lists.new.self.halves) c.reserve_lists.ensures.heads
+    ∙ (ap (links c.need_free_list.new.joins.heads) c.reserve_lists.ensures.halves ∙ ready.view) in
+    let shown_as : List (List ℕ) → ℕ → Linkage = λ l n. record { links = l; spare_ends = n; spare_joins = c.self.inside.spare_joins } in
+    ap (shown_as (links c.push_lists.new.self.heads c.push_lists.new.self.halves)) c.saturating_sub-self-inside.ensures
+    ∙ (ap (λ (l : List (List ℕ)). shown_as l (c.self.inside.spare_ends - c.args.count)) (more.view ∙ ap (λ (l : List (List ℕ)). l ++ replicate c.args.count []) seen)
+    ∙ ap (λ (v : Linkage). with_ends v c.args.count) c.self.view_is)

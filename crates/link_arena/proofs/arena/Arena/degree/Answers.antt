@@ -1,19 +1,18 @@
-use Rattle.std.proofs.Common.{arith, ◌≡◌, ◌<◌, ◌+◌, ◌∙◌, List, ℕ, length, ap, sym}
-use Rattle.std.proofs.lemmas.List.{get_or_default}
-use Rattle.link_arena.specs.declared.slot.Head.{Head}
-use Rattle.link_arena.specs.Links.{others_of}
-use Rattle.link_arena.specs.Lists.{head_at}
-use Rattle.link_arena.specs.Twins.{links, no_head}
+use Rattle.std.proofs.Common.{arith, ◌≡◌, ◌<◌, ◌+◌, ◌∙◌, length, ap, sym}
+use Rattle.link_arena.specs.declared.half.Head.{Head}
+use Rattle.link_arena.specs.Links.{Linkage, others_of}
+use Rattle.link_arena.specs.Twins.{links}
 use Rattle.link_arena.proofs.Found.{length_links}
 use Rattle.link_arena.proofs.InOrder.{degree_at}
 use Rattle.link_arena.proofs.arena.Arena.degree.Goals as goal
 
+pub head-requires : goal.head-requires
+head-requires c = omega (arith, length_links c.self.inside.joins.heads c.self.inside.joins.halves, ap (λ (v : Linkage). length v.links) c.self.view_is, c.requires)
+
 pub returns : goal.returns
 returns c =
-    let count : length (links c.self.inside.heads.items c.self.inside.slots.items) ≡ length c.args.self.now = ap length c.self.view_is in
-    let within : c.args.end + 1 < length c.self.inside.heads.items = omega (arith, length_links c.self.inside.heads.items c.self.inside.slots.items) in
-    let head : c.index.result.now ≡ head_at c.self.inside.heads.items (c.args.end + 1) =
-    c.index.ensures ∙ get_or_default c.self.inside.heads.items (c.args.end + 1) c.index.result.now no_head within in
-    ap (λ (h : Head). h.len) head
-    ∙ (sym (degree_at c.self.inside.heads.items c.self.inside.slots.items c.args.end (c.args.end + 1) (omega arith) within)
-    ∙ ap (λ (l : List (List ℕ)). length (others_of l c.args.end)) c.self.view_is)
+    let count : length (links c.self.inside.joins.heads c.self.inside.joins.halves) ≡ length c.args.self.now.links = ap (λ (v : Linkage). length v.links) c.self.view_is in
+    let within : c.args.end + 1 < length c.self.inside.joins.heads = omega (arith, length_links c.self.inside.joins.heads c.self.inside.joins.halves) in
+    ap (λ (h : Head). h.len) c.head.ensures
+    ∙ (sym (degree_at c.self.inside.joins.heads c.self.inside.joins.halves c.args.end (c.args.end + 1) (omega arith) within)
+    ∙ ap (λ (v : Linkage). length (others_of v.links c.args.end)) c.self.view_is)

@@ -1,13 +1,16 @@
-use Rattle.std.proofs.Common.{◌≡◌, ◌∙◌, List, ℕ, ap, subst}
+use Rattle.std.proofs.Common.{arith, ap, length, subst}
 use Rattle.std.specs.Prelude.{◌↔◌, IsTrue, Contains}
-use Rattle.link_arena.specs.declared.slot.Head.{Head}
-use Rattle.link_arena.specs.Links.{others_of}
-use Rattle.link_arena.specs.Twins.{links}
+use Rattle.link_arena.specs.Links.{Linkage, others_of}
+use Rattle.link_arena.proofs.Found.{length_links}
 use Rattle.link_arena.proofs.arena.Arena.is_joined.Goals as goal
 
+pub are_joined-requires-clause-first_within : goal.are_joined-requires-clause-first_within
+are_joined-requires-clause-first_within c =
+    omega (arith, length_links c.self.inside.joins.heads c.self.inside.joins.halves, ap (λ (v : Linkage). length v.links) c.self.view_is, c.requires.first_within)
+
+pub are_joined-requires-clause-second_within : goal.are_joined-requires-clause-second_within
+are_joined-requires-clause-second_within c =
+    omega (arith, length_links c.self.inside.joins.heads c.self.inside.joins.halves, ap (λ (v : Linkage). length v.links) c.self.view_is, c.requires.second_within)
+
 pub returns : goal.returns
-returns c =
-    let now : links c.as_slice.result.now c.as_slice-2.result.now ≡ c.args.self.now =
-    ap (λ (l : List Head). links l c.as_slice-2.result.now) c.as_slice.ensures.value
-    ∙ (ap (links c.self.inside.heads.items) c.as_slice-2.ensures.value ∙ c.self.view_is) in
-    subst (λ (l : List (List ℕ)). IsTrue c.are_joined.result ↔ Contains (others_of l c.args.first) c.args.second) now c.are_joined.ensures
+returns c = subst (λ (v : Linkage). IsTrue c.are_joined.result ↔ Contains (others_of v.links c.args.first) c.args.second) c.self.view_is c.are_joined.ensures

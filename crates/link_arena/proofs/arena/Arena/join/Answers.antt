@@ -1,56 +1,48 @@
-use Rattle.std.proofs.Common.{arith, ◌≡◌, ◌∙◌, List, ℕ, ap, length, subst, sym}
-use Rattle.std.proofs.lemmas.List.{with_items_is}
-use Rattle.std.specs.Prelude.{Contains, OnOk, OnErr}
-use Rattle.std.specs.Vec.{with_items}
-use Rattle.link_arena.specs.declared.slot.Head.{Head}
-use Rattle.link_arena.specs.Links.{others_of, joined_ends}
-use Rattle.link_arena.specs.Twins.{links, IsArena}
+use Rattle.std.proofs.Common.{arith, ◌∙◌, ◌-◌, List, ℕ, ap, length, subst, sym}
+use Rattle.std.proofs.lemmas.Result.{IfOk-from_err, MatchResult-from_err}
+use Rattle.std.specs.Prelude.{Contains}
+use Rattle.link_arena.specs.Links.{Linkage, others_of, with_links, with_join}
+use Rattle.link_arena.specs.Twins.{links}
 use Rattle.link_arena.proofs.Found.{length_links}
+use Rattle.link_arena.proofs.Roomy.{roomy_same}
 use Rattle.link_arena.proofs.arena.Arena.join.Goals as goal
 
 pub join_at-requires-clause-arena : goal.join_at-requires-clause-arena
-join_at-requires-clause-arena c = subst (λ (l : List Head). IsArena l c.self.inside.slots.items) (sym c.as_mut_slice.ensures.value) c.self.invariant.0
+join_at-requires-clause-arena c = c.self.invariant.arena
 
 pub join_at-requires-clause-first_within : goal.join_at-requires-clause-first_within
 join_at-requires-clause-first_within c =
-    omega (arith, length_links c.self.inside.heads.items c.self.inside.slots.items, ap length c.self.view_is, ap length c.as_mut_slice.ensures.value, c.requires.first_within)
+    omega (arith, length_links c.self.inside.joins.heads c.self.inside.joins.halves, ap (λ (v : Linkage). length v.links) c.self.view_is, c.requires.first_within)
 
 pub join_at-requires-clause-second_within : goal.join_at-requires-clause-second_within
 join_at-requires-clause-second_within c =
-    omega (arith, length_links c.self.inside.heads.items c.self.inside.slots.items, ap length c.self.view_is, ap length c.as_mut_slice.ensures.value, c.requires.second_within)
-
-pub join_at-requires-clause-apart : goal.join_at-requires-clause-apart
-join_at-requires-clause-apart c = c.requires.apart
+    omega (arith, length_links c.self.inside.joins.heads c.self.inside.joins.halves, ap (λ (v : Linkage). length v.links) c.self.view_is, c.requires.second_within)
 
 pub join_at-requires-clause-unjoined : goal.join_at-requires-clause-unjoined
 join_at-requires-clause-unjoined c =
-    let now : links c.as_mut_slice.result.now c.self.inside.slots.items ≡ c.args.self.now =
-    ap (λ (l : List Head). links l c.self.inside.slots.items) c.as_mut_slice.ensures.value ∙ c.self.view_is in
-    subst (λ (l : List (List ℕ)). ¬ Contains (others_of l c.args.first) c.args.second) (sym now) c.requires.unjoined
+    subst (λ (v : Linkage). ¬ Contains (others_of v.links c.args.first) c.args.second) (sym c.self.view_is) c.requires.unjoined
 
 pub invariant_of-self : goal.invariant_of-self
 invariant_of-self c =
-    let heads : (with_items c.self.inside.heads c.join_at.new.heads).items ≡ c.join_at.new.heads =
-    with_items_is c.self.inside.heads c.join_at.new.heads (c.join_at.ensures.count ∙ c.as_mut_slice.ensures.len) in (
-      subst (λ (l : List Head). IsArena l c.join_at.new.slots.items) (sym heads) c.join_at.ensures.arena,
-      omega (arith, ap length heads, c.join_at.ensures.count, ap length c.as_mut_slice.ensures.value, c.self.invariant.1),
-    )
+    roomy_same c.self.inside.joins c.join_at.new.self _ _ _ _ c.self.inside.spare_joins c.self.invariant c.join_at.ensures.arena c.join_at.ensures.same
+    (omega (arith, c.self.invariant.joins, c.in_err-join_at.ensures.free_stay))
+
+pub invariant_of-self-2 : goal.invariant_of-self-2
+invariant_of-self-2 c =
+    roomy_same c.self.inside.joins c.join_at.new.self _ _ _ _ c.saturating_sub-self-inside.result c.self.invariant c.join_at.ensures.arena c.join_at.ensures.same
+    (omega (arith, c.self.invariant.joins, c.in_ok-join_at.ensures.free, c.saturating_sub-self-inside.ensures))
 
 pub returns-clause-ok : goal.returns-clause-ok
 returns-clause-ok c =
-    let heads : (with_items c.self.inside.heads c.join_at.new.heads).items ≡ c.join_at.new.heads =
-    with_items_is c.self.inside.heads c.join_at.new.heads (c.join_at.ensures.count ∙ c.as_mut_slice.ensures.len) in
-    let now : links c.as_mut_slice.result.now c.self.inside.slots.items ≡ c.args.self.now =
-    ap (λ (l : List Head). links l c.self.inside.slots.items) c.as_mut_slice.ensures.value ∙ c.self.view_is in
-    subst (λ (l : List Head). OnOk c.join_at.result (links l c.join_at.new.slots.items ≡ joined_ends c.args.self.now c.args.first c.args.second)) (sym heads)
-    (subst (λ (l : List (List ℕ)). OnOk c.join_at.result (links c.join_at.new.heads c.join_at.new.slots.items ≡ joined_ends l c.args.first c.args.second)) now
-    c.join_at.ensures.ok)
+    let shown_as : List (List ℕ) → ℕ → Linkage = λ l n. record { links = l; spare_ends = c.self.inside.spare_ends; spare_joins = n } in
+    ap (shown_as (links c.join_at.new.self.heads c.join_at.new.self.halves)) c.saturating_sub-self-inside.ensures
+    ∙ (ap (λ (l : List (List ℕ)). shown_as l (c.self.inside.spare_joins - 1)) c.in_ok-join_at.ensures.ok ∙ ap (λ (v : Linkage). with_join v c.args.first c.args.second) c.self.view_is)
 
-pub returns-clause-err : goal.returns-clause-err
-returns-clause-err c =
-    let heads : (with_items c.self.inside.heads c.join_at.new.heads).items ≡ c.join_at.new.heads =
-    with_items_is c.self.inside.heads c.join_at.new.heads (c.join_at.ensures.count ∙ c.as_mut_slice.ensures.len) in
-    let now : links c.as_mut_slice.result.now c.self.inside.slots.items ≡ c.args.self.now =
-    ap (λ (l : List Head). links l c.self.inside.slots.items) c.as_mut_slice.ensures.value ∙ c.self.view_is in
-    subst (λ (l : List Head). OnErr c.join_at.result (links l c.join_at.new.slots.items ≡ c.args.self.now)) (sym heads)
-    (subst (λ (l : List (List ℕ)). OnErr c.join_at.result (links c.join_at.new.heads c.join_at.new.slots.items ≡ l)) now c.join_at.ensures.err)
+pub returns-in_err-join_at-clause-ok : goal.returns-in_err-join_at-clause-ok
+returns-in_err-join_at-clause-ok c = IfOk-from_err c.from_residual.result _ c.from_residual.ensures.0
+
+pub returns-in_err-join_at-clause-err : goal.returns-in_err-join_at-clause-err
+returns-in_err-join_at-clause-err c =
+    let was : Linkage =
+    record { links = links c.self.inside.joins.heads c.self.inside.joins.halves; spare_ends = c.self.inside.spare_ends; spare_joins = c.self.inside.spare_joins } in
+    MatchResult-from_err c.from_residual.result _ _ c.from_residual.ensures.0 (λ e. ap (with_links was) c.in_err-join_at.ensures.err ∙ c.self.view_is)

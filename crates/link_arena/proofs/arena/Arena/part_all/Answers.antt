@@ -1,38 +1,24 @@
-use Rattle.std.proofs.Common.{arith, ◌≡◌, ◌∙◌, List, ℕ, ap, length}
-use Rattle.link_arena.specs.Links.{all_parted}
-use Rattle.link_arena.specs.declared.slot.Head.{Head}
+use Rattle.std.proofs.Common.{arith, ◌∙◌, ap, length}
+use Rattle.link_arena.specs.Links.{Linkage, with_links, all_parted}
 use Rattle.link_arena.specs.Twins.{links}
-use Rattle.link_arena.proofs.Begun.{view_written, arena_written, arena_same}
 use Rattle.link_arena.proofs.Found.{length_links}
-use Rattle.std.proofs.lemmas.List.{with_items_is}
+use Rattle.link_arena.proofs.Roomy.{roomy_same}
 use Rattle.link_arena.proofs.arena.Arena.part_all.Goals as goal
 
 pub returns : goal.returns
 returns c =
-    let now : links c.as_mut_slice.result.now c.as_mut_slice-2.result.now ≡ c.args.self.now =
-    ap (λ (l : List Head). links l c.as_mut_slice-2.result.now) c.as_mut_slice.ensures.value
-    ∙ (ap (links c.self.inside.heads.items) c.as_mut_slice-2.ensures.value ∙ c.self.view_is) in
-    view_written c.self.inside.heads c.self.inside.slots c.part_each.new.heads c.part_each.new.slots (omega arith) (omega arith)
-    ∙ (c.part_each.ensures.view ∙ ap (λ (l : List (List ℕ)). all_parted l c.args.end) now)
+    let was : Linkage =
+    record { links = links c.self.inside.joins.heads c.self.inside.joins.halves; spare_ends = c.self.inside.spare_ends; spare_joins = c.self.inside.spare_joins } in
+    ap (with_links was) c.part_each.ensures.view ∙ ap (λ (v : Linkage). with_links v (all_parted v.links c.args.end)) c.self.view_is
 
 pub part_each-requires-clause-arena : goal.part_each-requires-clause-arena
-part_each-requires-clause-arena c =
-    arena_same c.self.inside.heads.items c.as_mut_slice.result.now c.self.inside.slots.items c.as_mut_slice-2.result.now
-    c.as_mut_slice.ensures.value c.as_mut_slice-2.ensures.value c.self.invariant.0
+part_each-requires-clause-arena c = c.self.invariant.arena
 
 pub part_each-requires-clause-within : goal.part_each-requires-clause-within
 part_each-requires-clause-within c =
-    omega (arith, length_links c.self.inside.heads.items c.self.inside.slots.items, ap length c.self.view_is, ap length c.as_mut_slice.ensures.value, c.requires)
+    omega (arith, length_links c.self.inside.joins.heads c.self.inside.joins.halves, ap (λ (v : Linkage). length v.links) c.self.view_is, c.requires)
 
 pub invariant_of-self : goal.invariant_of-self
 invariant_of-self c =
-    let one : length c.part_each.new.heads ≡ c.self.inside.heads.len = c.part_each.ensures.count ∙ c.as_mut_slice.ensures.len in (
-      arena_written c.self.inside.heads c.self.inside.slots c.part_each.new.heads c.part_each.new.slots one (omega arith) c.part_each.ensures.arena,
-      omega (
-        arith,
-        ap length (with_items_is c.self.inside.heads c.part_each.new.heads one),
-        c.part_each.ensures.count,
-        ap length c.as_mut_slice.ensures.value,
-        c.self.invariant.1,
-      ),
-    )
+    roomy_same c.self.inside.joins c.part_each.new.self _ _ _ _ c.self.inside.spare_joins c.self.invariant c.part_each.ensures.arena c.part_each.ensures.same
+    (omega (arith, c.self.invariant.joins, c.part_each.ensures.free))

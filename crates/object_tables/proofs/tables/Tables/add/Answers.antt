@@ -8,11 +8,11 @@ use Rattle.object_tables.proofs.tables.Tables.add.Goals as goal
 
 pub invariant_of-self-in-Ok-add : goal.invariant_of-self-in-Ok-add
 invariant_of-self-in-Ok-add c =
-    let g : IsGrown c.self.inside.entries.items c.self.inside.index.items c.self.inside.homes.items c.self.inside.arena c.self.inside.index.items
-    c.need_no_end.new.homes.items c.need_no_end.new.arena =
-    subst (λ (es : List Entry). IsGrown es c.self.inside.index.items c.self.inside.homes.items c.self.inside.arena c.self.inside.index.items
-    c.need_no_end.new.homes.items c.need_no_end.new.arena) (c.deref.ensures.value ∙ c.reserve.ensures.items)
-    (subst (λ (ix : List ℕ). IsGrown c.deref.result.now ix c.self.inside.homes.items c.self.inside.arena ix c.need_no_end.new.homes.items c.need_no_end.new.arena)
+    let g : IsGrown c.self.inside.entries.items c.self.inside.index.items c.self.inside.homes.items c.self.inside.arena.links c.self.inside.index.items
+    c.need_no_end.new.homes.items c.need_no_end.new.arena.links =
+    subst (λ (es : List Entry). IsGrown es c.self.inside.index.items c.self.inside.homes.items c.self.inside.arena.links c.self.inside.index.items
+    c.need_no_end.new.homes.items c.need_no_end.new.arena.links) (c.deref.ensures.value ∙ c.reserve.ensures.items)
+    (subst (λ (ix : List ℕ). IsGrown c.deref.result.now ix c.self.inside.homes.items c.self.inside.arena.links ix c.need_no_end.new.homes.items c.need_no_end.new.arena.links)
     (c.deref-2.ensures.value ∙ c.reserve-2.ensures.items) c.need_no_end.ensures.grown) in
     let first : c.len-first.result ≡ length c.self.inside.index.items = c.len-first.ensures ∙ c.self.inside.index.ok.0 in
     let entries : c.push_reserved.new.self.items ≡ c.self.inside.entries.items ++ record {
@@ -47,16 +47,16 @@ invariant_of-self-in-Ok-add c =
 
 pub returns-in-Ok-add-clause-ok : goal.returns-in-Ok-add-clause-ok
 returns-in-Ok-add-clause-ok c =
-    let g : IsGrown c.self.inside.entries.items c.self.inside.index.items c.self.inside.homes.items c.self.inside.arena c.self.inside.index.items
-    c.need_no_end.new.homes.items c.need_no_end.new.arena =
-    subst (λ (es : List Entry). IsGrown es c.self.inside.index.items c.self.inside.homes.items c.self.inside.arena c.self.inside.index.items
-    c.need_no_end.new.homes.items c.need_no_end.new.arena) (c.deref.ensures.value ∙ c.reserve.ensures.items)
-    (subst (λ (ix : List ℕ). IsGrown c.deref.result.now ix c.self.inside.homes.items c.self.inside.arena ix c.need_no_end.new.homes.items c.need_no_end.new.arena)
+    let g : IsGrown c.self.inside.entries.items c.self.inside.index.items c.self.inside.homes.items c.self.inside.arena.links c.self.inside.index.items
+    c.need_no_end.new.homes.items c.need_no_end.new.arena.links =
+    subst (λ (es : List Entry). IsGrown es c.self.inside.index.items c.self.inside.homes.items c.self.inside.arena.links c.self.inside.index.items
+    c.need_no_end.new.homes.items c.need_no_end.new.arena.links) (c.deref.ensures.value ∙ c.reserve.ensures.items)
+    (subst (λ (ix : List ℕ). IsGrown c.deref.result.now ix c.self.inside.homes.items c.self.inside.arena.links ix c.need_no_end.new.homes.items c.need_no_end.new.arena.links)
     (c.deref-2.ensures.value ∙ c.reserve-2.ensures.items) c.need_no_end.ensures.grown) in
-    let seen : rows_of c.self.inside.entries.items c.self.inside.values c.self.inside.index.items c.need_no_end.new.homes.items c.need_no_end.new.arena ≡
+    let seen : rows_of c.self.inside.entries.items c.self.inside.values c.self.inside.index.items c.need_no_end.new.homes.items c.need_no_end.new.arena.links ≡
     c.args.self.now =
     rows_grown c.self.inside.entries.items c.self.inside.values c.self.inside.index.items c.self.inside.index.items c.self.inside.homes.items
-    c.need_no_end.new.homes.items c.self.inside.arena c.need_no_end.new.arena c.args.self.now g c.self.view_is in
+    c.need_no_end.new.homes.items c.self.inside.arena.links c.need_no_end.new.arena.links c.args.self.now g c.self.view_is in
     let first : c.len-first.result ≡ length c.self.inside.index.items = c.len-first.ensures ∙ c.self.inside.index.ok.0 in
     let entries : c.push_reserved.new.self.items ≡ c.self.inside.entries.items ++ record {
       named = Some c.args.named;
@@ -73,33 +73,33 @@ returns-in-Ok-add-clause-ok c =
     let index : c.push_zeros.new.index.items ≡ c.self.inside.index.items ++ replicate c.args.count 0 = c.push_zeros.ensures
     ∙ ap (λ xs. xs ++ replicate c.args.count 0) c.reserve-2.ensures.items in
     rows-add_at c.self.inside.entries.items c.push_reserved.new.self.items c.self.inside.values c.add.new.self c.self.inside.index.items c.push_zeros.new.index.items
-    c.need_no_end.new.homes.items c.need_no_end.new.arena c.args.self.now c.args.named c.args.count c.len-first.result
+    c.need_no_end.new.homes.items c.need_no_end.new.arena.links c.args.self.now c.args.named c.args.count c.len-first.result
     g.flat c.self.invariant.1 seen first entries c.in-Ok-add.ensures.ok index
 
 pub returns-in_default-need_no_end-clause-err : goal.returns-in_default-need_no_end-clause-err
 returns-in_default-need_no_end-clause-err c =
-    let g : IsGrown c.self.inside.entries.items c.self.inside.index.items c.self.inside.homes.items c.self.inside.arena c.self.inside.index.items
-    c.need_no_end.new.homes.items c.need_no_end.new.arena =
-    subst (λ (es : List Entry). IsGrown es c.self.inside.index.items c.self.inside.homes.items c.self.inside.arena c.self.inside.index.items
-    c.need_no_end.new.homes.items c.need_no_end.new.arena) (c.deref.ensures.value ∙ c.reserve.ensures.items)
-    (subst (λ (ix : List ℕ). IsGrown c.deref.result.now ix c.self.inside.homes.items c.self.inside.arena ix c.need_no_end.new.homes.items c.need_no_end.new.arena)
+    let g : IsGrown c.self.inside.entries.items c.self.inside.index.items c.self.inside.homes.items c.self.inside.arena.links c.self.inside.index.items
+    c.need_no_end.new.homes.items c.need_no_end.new.arena.links =
+    subst (λ (es : List Entry). IsGrown es c.self.inside.index.items c.self.inside.homes.items c.self.inside.arena.links c.self.inside.index.items
+    c.need_no_end.new.homes.items c.need_no_end.new.arena.links) (c.deref.ensures.value ∙ c.reserve.ensures.items)
+    (subst (λ (ix : List ℕ). IsGrown c.deref.result.now ix c.self.inside.homes.items c.self.inside.arena.links ix c.need_no_end.new.homes.items c.need_no_end.new.arena.links)
     (c.deref-2.ensures.value ∙ c.reserve-2.ensures.items) c.need_no_end.ensures.grown) in
-    let seen : rows_of c.self.inside.entries.items c.self.inside.values c.self.inside.index.items c.need_no_end.new.homes.items c.need_no_end.new.arena ≡
+    let seen : rows_of c.self.inside.entries.items c.self.inside.values c.self.inside.index.items c.need_no_end.new.homes.items c.need_no_end.new.arena.links ≡
     c.args.self.now =
     rows_grown c.self.inside.entries.items c.self.inside.values c.self.inside.index.items c.self.inside.index.items c.self.inside.homes.items
-    c.need_no_end.new.homes.items c.self.inside.arena c.need_no_end.new.arena c.args.self.now g c.self.view_is in
+    c.need_no_end.new.homes.items c.self.inside.arena.links c.need_no_end.new.arena.links c.args.self.now g c.self.view_is in
     (rw (c.reserve.ensures.items, c.reserve-2.ensures.items) seen, refl)
 
 pub returns-in-Err-clause-err : goal.returns-in-Err-clause-err
 returns-in-Err-clause-err c =
-    let g : IsGrown c.self.inside.entries.items c.self.inside.index.items c.self.inside.homes.items c.self.inside.arena c.self.inside.index.items
-    c.need_no_end.new.homes.items c.need_no_end.new.arena =
-    subst (λ (es : List Entry). IsGrown es c.self.inside.index.items c.self.inside.homes.items c.self.inside.arena c.self.inside.index.items
-    c.need_no_end.new.homes.items c.need_no_end.new.arena) (c.deref.ensures.value ∙ c.reserve.ensures.items)
-    (subst (λ (ix : List ℕ). IsGrown c.deref.result.now ix c.self.inside.homes.items c.self.inside.arena ix c.need_no_end.new.homes.items c.need_no_end.new.arena)
+    let g : IsGrown c.self.inside.entries.items c.self.inside.index.items c.self.inside.homes.items c.self.inside.arena.links c.self.inside.index.items
+    c.need_no_end.new.homes.items c.need_no_end.new.arena.links =
+    subst (λ (es : List Entry). IsGrown es c.self.inside.index.items c.self.inside.homes.items c.self.inside.arena.links c.self.inside.index.items
+    c.need_no_end.new.homes.items c.need_no_end.new.arena.links) (c.deref.ensures.value ∙ c.reserve.ensures.items)
+    (subst (λ (ix : List ℕ). IsGrown c.deref.result.now ix c.self.inside.homes.items c.self.inside.arena.links ix c.need_no_end.new.homes.items c.need_no_end.new.arena.links)
     (c.deref-2.ensures.value ∙ c.reserve-2.ensures.items) c.need_no_end.ensures.grown) in
-    let seen : rows_of c.self.inside.entries.items c.self.inside.values c.self.inside.index.items c.need_no_end.new.homes.items c.need_no_end.new.arena ≡
+    let seen : rows_of c.self.inside.entries.items c.self.inside.values c.self.inside.index.items c.need_no_end.new.homes.items c.need_no_end.new.arena.links ≡
     c.args.self.now =
     rows_grown c.self.inside.entries.items c.self.inside.values c.self.inside.index.items c.self.inside.index.items c.self.inside.homes.items
-    c.need_no_end.new.homes.items c.self.inside.arena c.need_no_end.new.arena c.args.self.now g c.self.view_is in
+    c.need_no_end.new.homes.items c.self.inside.arena.links c.need_no_end.new.arena.links c.args.self.now g c.self.view_is in
     (rw (c.reserve.ensures.items, c.reserve-2.ensures.items, c.in-Err.ensures.err) seen, refl)

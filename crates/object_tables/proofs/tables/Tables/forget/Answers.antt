@@ -13,5 +13,5 @@ invariant_of-self c =
 
 pub returns : goal.returns
 returns c =
-    rows-forget c.self.inside.entries.items c.forget_at.new.entries.items c.self.inside.values c.self.inside.index.items c.self.inside.homes.items c.self.inside.arena
+    rows-forget c.self.inside.entries.items c.forget_at.new.entries.items c.self.inside.values c.self.inside.index.items c.self.inside.homes.items c.self.inside.arena.links
     c.args.self.now c.args.o c.self.view_is c.forget_at.ensures

@@ -1,5 +1,6 @@
 use Rattle.std.proofs.Common.{◌≡◌, ◌∙◌, ℕ, List, [], sym, ap, subst, get_or}
 use Rattle.std.specs.Prelude.{Result, Ok, Err, OnErr, Contains}
+use Rattle.link_arena.specs.Links.{Linkage}
 use Rattle.object_tables.specs.declared.tables.Entry.{Entry}
 use Rattle.object_tables.specs.Flat.{IsSpot, IsGrown, end_at, rows_of}
 use Rattle.object_tables.proofs.ListLemmas.{on_ok}
@@ -18,39 +19,39 @@ on_any (Err e) h = h
 pub need_ends-requires-clause-spot : goal.need_ends-requires-clause-spot
 need_ends-requires-clause-spot c =
     let s : IsSpot c.self.inside.entries.items c.args.o c.args.k =
-    spot_of c.self.inside.entries.items c.self.inside.values c.self.inside.index.items c.self.inside.homes.items c.self.inside.arena c.args.self.now c.args.o c.args.k
+    spot_of c.self.inside.entries.items c.self.inside.values c.self.inside.index.items c.self.inside.homes.items c.self.inside.arena.links c.args.self.now c.args.o c.args.k
     c.self.view_is c.requires.first_object c.requires.first_place in
     subst (λ (es : List Entry). IsSpot es c.args.o c.args.k) (sym c.deref.ensures.value) s
 
 pub need_ends-requires-clause-other_spot : goal.need_ends-requires-clause-other_spot
 need_ends-requires-clause-other_spot c =
     let t : IsSpot c.self.inside.entries.items c.args.other c.args.place =
-    spot_of c.self.inside.entries.items c.self.inside.values c.self.inside.index.items c.self.inside.homes.items c.self.inside.arena c.args.self.now c.args.other
+    spot_of c.self.inside.entries.items c.self.inside.values c.self.inside.index.items c.self.inside.homes.items c.self.inside.arena.links c.args.self.now c.args.other
     c.args.place c.self.view_is c.requires.second_object c.requires.second_place in
     subst (λ (es : List Entry). IsSpot es c.args.other c.args.place) (sym c.deref.ensures.value) t
 
 pub returns-in_err-first-clause-err : goal.returns-in_err-first-clause-err
 returns-in_err-first-clause-err c =
-    let g : IsGrown c.self.inside.entries.items c.self.inside.index.items c.self.inside.homes.items c.self.inside.arena c.need_ends.new.index.items
-    c.need_ends.new.homes.items c.need_ends.new.arena = subst (λ (es : List Entry). IsGrown es c.self.inside.index.items c.self.inside.homes.items c.self.inside.arena
-    c.need_ends.new.index.items c.need_ends.new.homes.items c.need_ends.new.arena) c.deref.ensures.value c.need_ends.ensures.grown in
-    let seen : rows_of c.self.inside.entries.items c.self.inside.values c.need_ends.new.index.items c.need_ends.new.homes.items c.need_ends.new.arena ≡ c.args.self.now
+    let g : IsGrown c.self.inside.entries.items c.self.inside.index.items c.self.inside.homes.items c.self.inside.arena.links c.need_ends.new.index.items
+    c.need_ends.new.homes.items c.need_ends.new.arena.links = subst (λ (es : List Entry). IsGrown es c.self.inside.index.items c.self.inside.homes.items c.self.inside.arena.links
+    c.need_ends.new.index.items c.need_ends.new.homes.items c.need_ends.new.arena.links) c.deref.ensures.value c.need_ends.ensures.grown in
+    let seen : rows_of c.self.inside.entries.items c.self.inside.values c.need_ends.new.index.items c.need_ends.new.homes.items c.need_ends.new.arena.links ≡ c.args.self.now
     =
     rows_grown c.self.inside.entries.items c.self.inside.values c.self.inside.index.items c.need_ends.new.index.items c.self.inside.homes.items
-    c.need_ends.new.homes.items c.self.inside.arena c.need_ends.new.arena c.args.self.now g c.self.view_is in
+    c.need_ends.new.homes.items c.self.inside.arena.links c.need_ends.new.arena.links c.args.self.now g c.self.view_is in
     on_any c.from_residual.result seen
 
 pub join-requires-clause-apart : goal.join-requires-clause-apart
 join-requires-clause-apart c =
     let s : IsSpot c.self.inside.entries.items c.args.o c.args.k =
-    spot_of c.self.inside.entries.items c.self.inside.values c.self.inside.index.items c.self.inside.homes.items c.self.inside.arena c.args.self.now c.args.o c.args.k
+    spot_of c.self.inside.entries.items c.self.inside.values c.self.inside.index.items c.self.inside.homes.items c.self.inside.arena.links c.args.self.now c.args.o c.args.k
     c.self.view_is c.requires.first_object c.requires.first_place in
     let t : IsSpot c.self.inside.entries.items c.args.other c.args.place =
-    spot_of c.self.inside.entries.items c.self.inside.values c.self.inside.index.items c.self.inside.homes.items c.self.inside.arena c.args.self.now c.args.other
+    spot_of c.self.inside.entries.items c.self.inside.values c.self.inside.index.items c.self.inside.homes.items c.self.inside.arena.links c.args.self.now c.args.other
     c.args.place c.self.view_is c.requires.second_object c.requires.second_place in
-    let g : IsGrown c.self.inside.entries.items c.self.inside.index.items c.self.inside.homes.items c.self.inside.arena c.need_ends.new.index.items
-    c.need_ends.new.homes.items c.need_ends.new.arena = subst (λ (es : List Entry). IsGrown es c.self.inside.index.items c.self.inside.homes.items c.self.inside.arena
-    c.need_ends.new.index.items c.need_ends.new.homes.items c.need_ends.new.arena) c.deref.ensures.value c.need_ends.ensures.grown in
+    let g : IsGrown c.self.inside.entries.items c.self.inside.index.items c.self.inside.homes.items c.self.inside.arena.links c.need_ends.new.index.items
+    c.need_ends.new.homes.items c.need_ends.new.arena.links = subst (λ (es : List Entry). IsGrown es c.self.inside.index.items c.self.inside.homes.items c.self.inside.arena.links
+    c.need_ends.new.index.items c.need_ends.new.homes.items c.need_ends.new.arena.links) c.deref.ensures.value c.need_ends.ensures.grown in
     let e : c.in_ok-first.first ≡ end_at c.self.inside.entries.items c.need_ends.new.index.items c.args.o c.args.k =
     rw c.deref.ensures.value at c.in_ok-first.ensures.first in
     let d : c.in_ok-first.second ≡ end_at c.self.inside.entries.items c.need_ends.new.index.items c.args.other c.args.place =
@@ -60,61 +61,61 @@ join-requires-clause-apart c =
 pub join-requires-clause-unjoined : goal.join-requires-clause-unjoined
 join-requires-clause-unjoined c =
     let s : IsSpot c.self.inside.entries.items c.args.o c.args.k =
-    spot_of c.self.inside.entries.items c.self.inside.values c.self.inside.index.items c.self.inside.homes.items c.self.inside.arena c.args.self.now c.args.o c.args.k
+    spot_of c.self.inside.entries.items c.self.inside.values c.self.inside.index.items c.self.inside.homes.items c.self.inside.arena.links c.args.self.now c.args.o c.args.k
     c.self.view_is c.requires.first_object c.requires.first_place in
     let t : IsSpot c.self.inside.entries.items c.args.other c.args.place =
-    spot_of c.self.inside.entries.items c.self.inside.values c.self.inside.index.items c.self.inside.homes.items c.self.inside.arena c.args.self.now c.args.other
+    spot_of c.self.inside.entries.items c.self.inside.values c.self.inside.index.items c.self.inside.homes.items c.self.inside.arena.links c.args.self.now c.args.other
     c.args.place c.self.view_is c.requires.second_object c.requires.second_place in
-    let g : IsGrown c.self.inside.entries.items c.self.inside.index.items c.self.inside.homes.items c.self.inside.arena c.need_ends.new.index.items
-    c.need_ends.new.homes.items c.need_ends.new.arena = subst (λ (es : List Entry). IsGrown es c.self.inside.index.items c.self.inside.homes.items c.self.inside.arena
-    c.need_ends.new.index.items c.need_ends.new.homes.items c.need_ends.new.arena) c.deref.ensures.value c.need_ends.ensures.grown in
-    let seen : rows_of c.self.inside.entries.items c.self.inside.values c.need_ends.new.index.items c.need_ends.new.homes.items c.need_ends.new.arena ≡ c.args.self.now
+    let g : IsGrown c.self.inside.entries.items c.self.inside.index.items c.self.inside.homes.items c.self.inside.arena.links c.need_ends.new.index.items
+    c.need_ends.new.homes.items c.need_ends.new.arena.links = subst (λ (es : List Entry). IsGrown es c.self.inside.index.items c.self.inside.homes.items c.self.inside.arena.links
+    c.need_ends.new.index.items c.need_ends.new.homes.items c.need_ends.new.arena.links) c.deref.ensures.value c.need_ends.ensures.grown in
+    let seen : rows_of c.self.inside.entries.items c.self.inside.values c.need_ends.new.index.items c.need_ends.new.homes.items c.need_ends.new.arena.links ≡ c.args.self.now
     =
     rows_grown c.self.inside.entries.items c.self.inside.values c.self.inside.index.items c.need_ends.new.index.items c.self.inside.homes.items
-    c.need_ends.new.homes.items c.self.inside.arena c.need_ends.new.arena c.args.self.now g c.self.view_is in
+    c.need_ends.new.homes.items c.self.inside.arena.links c.need_ends.new.arena.links c.args.self.now g c.self.view_is in
     let e : c.in_ok-first.first ≡ end_at c.self.inside.entries.items c.need_ends.new.index.items c.args.o c.args.k =
     rw c.deref.ensures.value at c.in_ok-first.ensures.first in
     let d : c.in_ok-first.second ≡ end_at c.self.inside.entries.items c.need_ends.new.index.items c.args.other c.args.place =
     rw c.deref.ensures.value at c.in_ok-first.ensures.second in
     λ h. c.requires.unjoined
-    (contains_seen c.self.inside.entries.items c.self.inside.values c.need_ends.new.index.items c.need_ends.new.homes.items c.need_ends.new.arena c.args.self.now
+    (contains_seen c.self.inside.entries.items c.self.inside.values c.need_ends.new.index.items c.need_ends.new.homes.items c.need_ends.new.arena.links c.args.self.now
     c.args.o c.args.k c.args.other c.args.place g.flat seen s t (λ z. c.in_ok-first.ensures.second_some (d ∙ z))
-    (subst (λ (x : ℕ). Contains (get_or c.need_ends.new.arena x []) (end_at c.self.inside.entries.items c.need_ends.new.index.items c.args.other c.args.place)) e
-    (subst (λ (x : ℕ). Contains (get_or c.need_ends.new.arena c.in_ok-first.first []) x) d h)))
+    (subst (λ (x : ℕ). Contains (get_or c.need_ends.new.arena.links x []) (end_at c.self.inside.entries.items c.need_ends.new.index.items c.args.other c.args.place)) e
+    (subst (λ (x : ℕ). Contains (get_or c.need_ends.new.arena.links c.in_ok-first.first []) x) d h)))
 
 pub returns-clause-ok : goal.returns-clause-ok
 returns-clause-ok c =
     let s : IsSpot c.self.inside.entries.items c.args.o c.args.k =
-    spot_of c.self.inside.entries.items c.self.inside.values c.self.inside.index.items c.self.inside.homes.items c.self.inside.arena c.args.self.now c.args.o c.args.k
+    spot_of c.self.inside.entries.items c.self.inside.values c.self.inside.index.items c.self.inside.homes.items c.self.inside.arena.links c.args.self.now c.args.o c.args.k
     c.self.view_is c.requires.first_object c.requires.first_place in
     let t : IsSpot c.self.inside.entries.items c.args.other c.args.place =
-    spot_of c.self.inside.entries.items c.self.inside.values c.self.inside.index.items c.self.inside.homes.items c.self.inside.arena c.args.self.now c.args.other
+    spot_of c.self.inside.entries.items c.self.inside.values c.self.inside.index.items c.self.inside.homes.items c.self.inside.arena.links c.args.self.now c.args.other
     c.args.place c.self.view_is c.requires.second_object c.requires.second_place in
-    let g : IsGrown c.self.inside.entries.items c.self.inside.index.items c.self.inside.homes.items c.self.inside.arena c.need_ends.new.index.items
-    c.need_ends.new.homes.items c.need_ends.new.arena = subst (λ (es : List Entry). IsGrown es c.self.inside.index.items c.self.inside.homes.items c.self.inside.arena
-    c.need_ends.new.index.items c.need_ends.new.homes.items c.need_ends.new.arena) c.deref.ensures.value c.need_ends.ensures.grown in
-    let seen : rows_of c.self.inside.entries.items c.self.inside.values c.need_ends.new.index.items c.need_ends.new.homes.items c.need_ends.new.arena ≡ c.args.self.now
+    let g : IsGrown c.self.inside.entries.items c.self.inside.index.items c.self.inside.homes.items c.self.inside.arena.links c.need_ends.new.index.items
+    c.need_ends.new.homes.items c.need_ends.new.arena.links = subst (λ (es : List Entry). IsGrown es c.self.inside.index.items c.self.inside.homes.items c.self.inside.arena.links
+    c.need_ends.new.index.items c.need_ends.new.homes.items c.need_ends.new.arena.links) c.deref.ensures.value c.need_ends.ensures.grown in
+    let seen : rows_of c.self.inside.entries.items c.self.inside.values c.need_ends.new.index.items c.need_ends.new.homes.items c.need_ends.new.arena.links ≡ c.args.self.now
     =
     rows_grown c.self.inside.entries.items c.self.inside.values c.self.inside.index.items c.need_ends.new.index.items c.self.inside.homes.items
-    c.need_ends.new.homes.items c.self.inside.arena c.need_ends.new.arena c.args.self.now g c.self.view_is in
+    c.need_ends.new.homes.items c.self.inside.arena.links c.need_ends.new.arena.links c.args.self.now g c.self.view_is in
     let e : c.in_ok-first.first ≡ end_at c.self.inside.entries.items c.need_ends.new.index.items c.args.o c.args.k =
     rw c.deref.ensures.value at c.in_ok-first.ensures.first in
     let d : c.in_ok-first.second ≡ end_at c.self.inside.entries.items c.need_ends.new.index.items c.args.other c.args.place =
     rw c.deref.ensures.value at c.in_ok-first.ensures.second in
     on_ok c.join.result
-    (rows-joined_at c.self.inside.entries.items c.self.inside.values c.need_ends.new.index.items c.need_ends.new.homes.items c.need_ends.new.arena c.join.new.self
+    (rows-joined_at c.self.inside.entries.items c.self.inside.values c.need_ends.new.index.items c.need_ends.new.homes.items c.need_ends.new.arena.links c.join.new.self.links
     c.args.self.now c.args.o c.args.k c.args.other c.args.place c.in_ok-first.first c.in_ok-first.second
     g.flat s t seen e d c.in_ok-first.ensures.first_some c.in_ok-first.ensures.second_some)
-    c.join.ensures.ok
+    (on_ok c.join.result (λ q. ap (λ (v : Linkage). v.links) q) c.join.ensures.ok)
 
 pub returns-clause-err : goal.returns-clause-err
 returns-clause-err c =
-    let g : IsGrown c.self.inside.entries.items c.self.inside.index.items c.self.inside.homes.items c.self.inside.arena c.need_ends.new.index.items
-    c.need_ends.new.homes.items c.need_ends.new.arena = subst (λ (es : List Entry). IsGrown es c.self.inside.index.items c.self.inside.homes.items c.self.inside.arena
-    c.need_ends.new.index.items c.need_ends.new.homes.items c.need_ends.new.arena) c.deref.ensures.value c.need_ends.ensures.grown in
-    let seen : rows_of c.self.inside.entries.items c.self.inside.values c.need_ends.new.index.items c.need_ends.new.homes.items c.need_ends.new.arena ≡ c.args.self.now
+    let g : IsGrown c.self.inside.entries.items c.self.inside.index.items c.self.inside.homes.items c.self.inside.arena.links c.need_ends.new.index.items
+    c.need_ends.new.homes.items c.need_ends.new.arena.links = subst (λ (es : List Entry). IsGrown es c.self.inside.index.items c.self.inside.homes.items c.self.inside.arena.links
+    c.need_ends.new.index.items c.need_ends.new.homes.items c.need_ends.new.arena.links) c.deref.ensures.value c.need_ends.ensures.grown in
+    let seen : rows_of c.self.inside.entries.items c.self.inside.values c.need_ends.new.index.items c.need_ends.new.homes.items c.need_ends.new.arena.links ≡ c.args.self.now
     =
     rows_grown c.self.inside.entries.items c.self.inside.values c.self.inside.index.items c.need_ends.new.index.items c.self.inside.homes.items
-    c.need_ends.new.homes.items c.self.inside.arena c.need_ends.new.arena c.args.self.now g c.self.view_is in
-    on_err c.join.result (λ q. ap (rows_of c.self.inside.entries.items c.self.inside.values c.need_ends.new.index.items c.need_ends.new.homes.items) q
-    ∙ seen) c.join.ensures.err
+    c.need_ends.new.homes.items c.self.inside.arena.links c.need_ends.new.arena.links c.args.self.now g c.self.view_is in
+    on_err c.join.result (λ q. ap (rows_of c.self.inside.entries.items c.self.inside.values c.need_ends.new.index.items c.need_ends.new.homes.items)
+    (ap (λ (v : Linkage). v.links) q) ∙ seen) c.join.ensures.err

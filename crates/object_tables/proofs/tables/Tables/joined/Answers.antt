@@ -6,21 +6,21 @@ use Rattle.object_tables.proofs.tables.Tables.joined.Goals as goal
 pub end_of-end-requires-clause-small : goal.end_of-end-requires-clause-small
 end_of-end-requires-clause-small c =
     let s : IsSpot c.self.inside.entries.items c.args.o c.args.k =
-    spot_of c.self.inside.entries.items c.self.inside.values c.self.inside.index.items c.self.inside.homes.items c.self.inside.arena c.args.self.now c.args.o c.args.k
+    spot_of c.self.inside.entries.items c.self.inside.values c.self.inside.index.items c.self.inside.homes.items c.self.inside.arena.links c.args.self.now c.args.o c.args.k
     c.self.view_is c.requires.object c.requires.place in
     rw c.deref.ensures.value (number_small _ _ _ _ _ _ c.self.invariant.0 s)
 
 pub end_of-end-requires-clause-within : goal.end_of-end-requires-clause-within
 end_of-end-requires-clause-within c =
     let s : IsSpot c.self.inside.entries.items c.args.o c.args.k =
-    spot_of c.self.inside.entries.items c.self.inside.values c.self.inside.index.items c.self.inside.homes.items c.self.inside.arena c.args.self.now c.args.o c.args.k
+    spot_of c.self.inside.entries.items c.self.inside.values c.self.inside.index.items c.self.inside.homes.items c.self.inside.arena.links c.args.self.now c.args.o c.args.k
     c.self.view_is c.requires.object c.requires.place in
     rw (c.deref.ensures.value, c.deref-2.ensures.value) (number_placed _ _ _ _ _ _ c.self.invariant.0 s)
 
 pub others-requires : goal.others-requires
 others-requires c =
     let s : IsSpot c.self.inside.entries.items c.args.o c.args.k =
-    spot_of c.self.inside.entries.items c.self.inside.values c.self.inside.index.items c.self.inside.homes.items c.self.inside.arena c.args.self.now c.args.o c.args.k
+    spot_of c.self.inside.entries.items c.self.inside.values c.self.inside.index.items c.self.inside.homes.items c.self.inside.arena.links c.args.self.now c.args.o c.args.k
     c.self.view_is c.requires.object c.requires.place in
     let e : c.end_of-end.result ≡ end_at c.self.inside.entries.items c.self.inside.index.items c.args.o c.args.k =
     rw (c.deref.ensures.value, c.deref-2.ensures.value) at c.end_of-end.ensures in
@@ -28,18 +28,18 @@ others-requires c =
 
 pub invariant_of-result : goal.invariant_of-result
 invariant_of-result c =
-    rw c.as_slice.ensures.value (others_all c.self.inside.homes.items c.self.inside.arena c.others.result c.end_of-end.result c.self.invariant.0.ends
+    rw c.as_slice.ensures.value (others_all c.self.inside.homes.items c.self.inside.arena.links c.others.result c.end_of-end.result c.self.invariant.0.ends
     c.others.ensures.simple c.others.ensures.list)
 
 pub returns : goal.returns
 returns c =
     let s : IsSpot c.self.inside.entries.items c.args.o c.args.k =
-    spot_of c.self.inside.entries.items c.self.inside.values c.self.inside.index.items c.self.inside.homes.items c.self.inside.arena c.args.self.now c.args.o c.args.k
+    spot_of c.self.inside.entries.items c.self.inside.values c.self.inside.index.items c.self.inside.homes.items c.self.inside.arena.links c.args.self.now c.args.o c.args.k
     c.self.view_is c.requires.object c.requires.place in
     let e : c.end_of-end.result ≡ end_at c.self.inside.entries.items c.self.inside.index.items c.args.o c.args.k =
     rw (c.deref.ensures.value, c.deref-2.ensures.value) at c.end_of-end.ensures in
     ap (λ hs. map (address hs) c.others.result) c.as_slice.ensures.value
     ∙ ap (λ xs. map (address c.self.inside.homes.items) xs) c.others.ensures.list
-    ∙ ap (λ x. map (address c.self.inside.homes.items) (get_or c.self.inside.arena x [])) e
-    ∙ sym (joined_seen c.self.inside.entries.items c.self.inside.values c.self.inside.index.items c.self.inside.homes.items c.self.inside.arena c.args.self.now
+    ∙ ap (λ x. map (address c.self.inside.homes.items) (get_or c.self.inside.arena.links x [])) e
+    ∙ sym (joined_seen c.self.inside.entries.items c.self.inside.values c.self.inside.index.items c.self.inside.homes.items c.self.inside.arena.links c.args.self.now
     c.args.o c.args.k c.self.view_is s)

@@ -9,10 +9,10 @@ returns c =
     let l : c.args.o < length c.self.inside.entries.items = omega (
       arith,
       length-rows c.self.inside.entries.items c.self.inside.values c.self.inside.index.items
-          c.self.inside.homes.items c.self.inside.arena,
+          c.self.inside.homes.items c.self.inside.arena.links,
       ap length c.self.view_is,
       c.requires,
     ) in
     c.count_of.ensures ∙ ap (λ es. (entry_at es c.args.o).count) c.deref.ensures.value
-    ∙ sym (length-places c.self.inside.entries.items c.self.inside.values c.self.inside.index.items c.self.inside.homes.items c.self.inside.arena c.args.o l)
+    ∙ sym (length-places c.self.inside.entries.items c.self.inside.values c.self.inside.index.items c.self.inside.homes.items c.self.inside.arena.links c.args.o l)
     ∙ ap (λ rows. length (row_at rows c.args.o).places) c.self.view_is

@@ -1,5 +1,0 @@
-use Rattle.std.proofs.Common.{refl}
-use Rattle.link_arena.proofs.sides.leads_to.Goals as goal
-
-pub returns-in-Some : goal.returns-in-Some
-returns-in-Some c = (λ yes. c.in-Some.ensures.joined, λ has. refl)
