@@ -5,7 +5,7 @@ ghost use Rattle.qvtr_semantics.specs.declared.out.Out.TheVariants.{One};
 ghost use Rattle.object_tables.specs.declared.value.Value.TheVariants.{Str};
 ghost use Rattle.qvtr_semantics.specs.declared.datum.Datum.TheVariants.{Val};
 ghost use Rattle.qvtr_semantics.specs.Outs.{boolean_of};
-ghost use Rattle.qvtr_semantics.specs.Expressions.{on_collection as on_collection_of, with_variable, chosen, all_operated, all_called, in_scope, each, with_collection, bound_value, scope_of, value_for, is_true};
+ghost use Rattle.qvtr_semantics.specs.Expressions.{on_collection as on_collection_of, with_variable, chosen, all_operated, all_called, in_scope, each, with_collection, bound_value, scope_of, value, value_for, is_true};
 ghost use Rattle.qvtr_semantics.specs.Equality.{is_known_true as known_true};
 ghost use Rattle.qvtr_semantics.specs.Iterators.{iterated};
 ghost use Rattle.ocl_eval.specs.Progress.{advanced};
@@ -378,6 +378,27 @@ fn bound_values(alloc: Global, values: &[Option<Datum>]) -> Result<Seq<Out>, NoM
     Ok(outs)
 }
 
+/// The value of an expression (OCL 2.4, chapter 11) among the models of a program, with these values of the variables in reach, which
+/// may be null or invalid. The variables keep their values, but for want of memory.
+pub fn eval_in(
+    alloc: Global,
+    program: &Program,
+    typed: &Typed,
+    models: &Models<'_>,
+    scope: &mut Scope,
+) -> Result<Out, NoMemory>
+    ensures value { IfOk result (λ out. out ≡ value program.now models.now typed.now scope.old) }
+    ensures scope { OnOk result (scope.new ≡ scope.old) }
+{
+    let world = World {
+        alloc,
+        program,
+        models,
+        calls: program.queries.len(),
+    };
+    eval_part(&world, scope, typed)
+}
+
 /// The value of an expression (OCL 2.4, chapter 11) among the models of a program, where its first variables have the values of a
 /// binding. A variable without a value is invalid.
 pub fn eval(
@@ -389,14 +410,8 @@ pub fn eval(
 ) -> Result<Out, NoMemory>
     ensures { IfOk result (λ out. out ≡ value_for program.now models.now typed.now binding.now.values) }
 {
-    let world = World {
-        alloc,
-        program,
-        models,
-        calls: program.queries.len(),
-    };
     let mut scope = Scope::new(bound_values(alloc, binding.values.as_slice())?);
-    eval_part(&world, &mut scope, typed)
+    eval_in(alloc, program, typed, models, &mut scope)
 }
 
 /// Whether the value of an expression is true.

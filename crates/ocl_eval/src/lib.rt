@@ -45,7 +45,7 @@ pub use booleans::{and, implies, negation, or, xor};
 pub use classes::{extent_of, is_of_class};
 pub use datum::{duplicate_data, duplicate_datum, duplicate_out, same_datum, same_value};
 pub use equality::{equal, is_defined, same_kind, unequal};
-pub use evaluation::{eval, holds};
+pub use evaluation::{eval, eval_in, holds};
 pub use integers::{
     absolute, integer, maximum, minimum, minus, negated, plus, quotient, remainder, sum, times,
 };
@@ -61,5 +61,6 @@ pub use outs::{
 pub use progress::{Progress, iterator_result};
 pub use qvtr_semantics::{Binding, Datum, Out};
 pub use running::Running;
+pub use scope::Scope;
 pub use spelling::to_integer;
 pub use strings::{boolean_text, integer_text, size, string, substring};

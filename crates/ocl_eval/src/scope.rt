@@ -1,4 +1,5 @@
-ghost use Rattle.std.specs.Prelude.{◌≡◌, [], ◌∷◌, ◌++◌, ◌-◌, length, take, drop, IfOk, OnOk};
+ghost use Rattle.std.specs.Prelude.{◌≡◌, [], ◌∷◌, ◌++◌, ◌-◌, ◌<◌, length, take, drop, slice_get, slice_set, IfOk, OnOk};
+ghost use Rattle.std.specs.Option.{option_copied};
 ghost use Rattle.qvtr_semantics.specs.Expressions.{variable};
 
 use crate::datum::duplicate_out;
@@ -9,7 +10,7 @@ use std::marker::Model;
 
 /// The values of the variables in reach, by their numbers.
 #[derive(Drop)]
-pub(crate) struct Scope {
+pub struct Scope {
     values: Vec<Out>,
 }
 
@@ -24,12 +25,34 @@ impl Model for Scope {
 
 impl Scope {
     /// The scope of these values.
-    pub(crate) fn new(values: Seq<Out>) -> Scope
+    pub fn new(values: Seq<Out>) -> Scope
         ensures { result ≡ values }
     {
         Scope {
             values: values.into_vec(),
         }
+    }
+
+    /// How many variables are in reach.
+    pub fn len(&self) -> usize
+        ensures { result ≡ length self.now }
+    {
+        self.values.len()
+    }
+
+    /// The value of the variable of a number, if it is in reach.
+    pub fn get(&self, number: u32) -> Option<&Out>
+        ensures { option_copied result ≡ slice_get self.now number }
+    {
+        self.values.get(number as usize)
+    }
+
+    /// Gives a variable in reach another value. It takes no memory.
+    pub fn put(&mut self, number: u32, value: Out)
+        requires { number < length self.old }
+        ensures { self.new ≡ slice_set self.old number value }
+    {
+        self.values[number as usize] = value;
     }
 
     /// The value of a variable; one that has none is invalid.
