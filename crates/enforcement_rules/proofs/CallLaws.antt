@@ -1,7 +1,7 @@
 -- E9 and E10: the tests on calls tell what these rules ask.
-use Rattle.std.proofs.Common.{Result, Ok, Err, ◌≡◌, ◌<◌, ◌⊎◌, ◌&&◌, ◌||◌, ℕ, zero, suc, List, [], ◌∷◌, Bool, true, false, Option, None, Some, refl, sym, ap, ◌∙◌, subst, inl, inr, ⊎_elim, true≢false, if◌then◌else◌, length}
+use Rattle.std.proofs.Common.{Result, Ok, Err, ◌≡◌, ◌&&◌, ◌||◌, ℕ, List, [], Bool, true, false, Option, None, Some, refl, sym, ap, ◌∙◌, subst, inl, inr, true≢false, if◌then◌else◌}
 use Rattle.std.specs.Prelude.{Contains, ◌↔◌, IsTrue, IfOk, not, slice_get}
-use Rattle.std.specs.List.{list_any, list_all, flat_map}
+use Rattle.std.specs.List.{list_all, flat_map}
 use Rattle.std.specs.Option.{option_to_list}
 use Rattle.std.proofs.lemmas.Option.{slice_get_within}
 use Rattle.mof_metamodel.specs.declared.desc.MetaDesc.{MetaDesc}
@@ -15,26 +15,22 @@ use Rattle.qv_syntax.specs.declared.program.Var.{Var}
 use Rattle.qv_syntax.specs.declared.program.Dom.{Dom}
 use Rattle.qv_syntax.specs.declared.program.Conj.{Conj}
 use Rattle.qv_syntax.specs.declared.program.Conj.TheVariants as conjuncts
-use Rattle.qv_syntax.specs.Relations.{CallsIn}
 use Rattle.qv_syntax.specs.Directions.{IsMeant}
 use Rattle.qv_syntax.specs.ProgramNumbers.{AreVariablesInRange}
-use Rattle.ocl_environments.specs.Agreement.{same_type, fits}
-use Rattle.ocl_environments.specs.Conformance.{TypeConforms}
 use Rattle.ocl_environments.specs.Environments.{AreWell}
 use Rattle.ocl_environments.proofs.TypeLaws.{same_is_one}
 use Rattle.enforcement_rules.specs.declared.clause.Clause.{Clause}
 use Rattle.enforcement_rules.specs.declared.clause.Clause.TheVariants as clauses
-use Rattle.enforcement_rules.specs.Calls.{IsTargetArgument, IsVariable, IsTaken, HasUnmatchedCall, HasTypes, IsPassedInWhen, IsPassedInWhere, HasWrongArgument}
-use Rattle.enforcement_rules.specs.CallTests.{Pair, root_pairs, is_top_called, is_right_call, taken_by_pair, taken_by_called, taken_by_call, taken_by_conjunct, taken_by_clause, is_untaken, has_untaken, has_unmatched, type_of_variable, type_at, type_of_target, target_type, fits_in, is_passed_as, is_passed, is_right_pair, are_right_pairs, passes_conjunct}
+use Rattle.enforcement_rules.specs.Calls.{IsTargetArgument, IsTaken, HasUnmatchedCall, HasTypes, IsPassedInWhen, IsPassedInWhere, HasWrongArgument}
+use Rattle.enforcement_rules.specs.CallTests.{Pair, root_pairs, is_top_called, is_right_call, taken_by_pair, taken_by_called, taken_by_conjunct, taken_by_clause, is_untaken, has_untaken, has_unmatched, type_of_variable, type_at, type_of_target, target_type, fits_in, is_passed_as, is_passed, is_right_pair, are_right_pairs, passes_conjunct}
 use Rattle.enforcement_rules.specs.ExpressionTests.{variable_alone}
 use Rattle.enforcement_rules.specs.NumberSets.{is_among}
-use Rattle.enforcement_rules.specs.TargetParts.{IsTargetVariable}
 use Rattle.enforcement_rules.specs.TargetTests.{is_target_variable}
 use Rattle.enforcement_rules.proofs.ExpressionLaws.{target_there, there_target, alone_is, is_alone}
 use Rattle.enforcement_rules.proofs.FitLaws.{fits_told, told_fits}
 use Rattle.enforcement_rules.proofs.GivenLaws.{given_last, last_given}
 use Rattle.enforcement_rules.proofs.KnownLaws.{listed_universal, universal_listed}
-use Rattle.enforcement_rules.proofs.ListLaws.{first_in, later_in, nothing_in, in_either, only_in, or_cases, or_first, or_second, and_first, and_second, and_both, and_cases, not_true, not_false, false_unless, any_there, any_here, all_each, all_from, all_fails}
+use Rattle.enforcement_rules.proofs.ListLaws.{first_in, nothing_in, only_in, or_cases, or_first, or_second, and_first, and_second, and_both, and_cases, not_true, not_false, false_unless, any_there, any_here, all_each, all_fails}
 use Rattle.enforcement_rules.proofs.UnmadeLaws.{among_told, told_among}
 
 -- ---- what stands alone as a target argument

@@ -1,24 +1,12 @@
 -- While it is derived what follows from rules, what is bound follows, and each rule stands somewhere; at the end all that follows is bound.
-use Rattle.std.proofs.Common.{◌≡◌, ◌≢◌, ◌⊎◌, ℕ, ◌+◌, ◌<◌, ◌≤◌, List, [], ◌∷◌, ◌++◌, Bool, true, false, cond, refl, sym, ◌∙◌, ap, subst, length, set, get_or, replicate, arith, ⊎_elim, inl, inr, true≢false, length-append}
+use Rattle.std.proofs.Common.{◌≡◌, ◌≢◌, ℕ, ◌+◌, ◌<◌, ◌≤◌, List, [], ◌∷◌, ◌++◌, Bool, true, false, cond, refl, sym, ◌∙◌, ap, subst, length, set, get_or, arith, ⊎_elim, true≢false, length-append}
 use Rattle.std.specs.Prelude.{Contains, Result, Ok, Err, OnOk}
 use Rattle.std.specs.List.{sum_by}
-use Rattle.std.proofs.lemmas.Bool.{cases_order}
-use Rattle.std.proofs.lemmas.List.{get_or-set_same, get_or-set_other, length-set, get_or-replicate, length-replicate, get_or_past}
+use Rattle.std.proofs.lemmas.List.{get_or-set_same, get_or-set_other, length-set}
 use Rattle.std.proofs.lemmas.List.Sums.{sum_by-set, sum_by-append}
 use Rattle.std.proofs.lemmas.List.Elements.{Contains-append_left, Contains-append_right, Contains-append_cases}
 use Rattle.enforcement_rules.specs.Derivations.{IsDerivedNumber, NumberRule, Deriving, bound_at, waiting_at, with_pending, with_bound, with_asked, IsStep, pending_weight, waiting_weight, weight, IsRuleBelow, Follows, AreAmong, IsCovered, IsWithin, IsUnderway}
-
-pub only_in : {X : Type 0} (x y : X) → Contains (x ∷ []) y → x ≡ y
-only_in x y (k, l, at) = by k l at
-  where
-    by : (k : ℕ) → k < length (x ∷ []) → get_or (x ∷ []) k y ≡ y → x ≡ y
-    by k l at = let zero_is : k ≡ 0 = omega arith in subst (λ (i : ℕ). get_or (x ∷ []) i y ≡ y) zero_is at
-
-nothing_there : {X : Type 0} (y : X) → ¬ Contains {X = X} [] y
-nothing_there y (k, l, at) = omega arith
-
-same_or_not : (m n : ℕ) → (m ≡ n) ⊎ (m ≢ n)
-same_or_not m n = ⊎_elim (λ e. inl e) (λ h. inr (λ e. ⊎_elim (λ l. omega arith) (λ l. omega arith) h)) (cases_order m n)
+use Rattle.enforcement_rules.proofs.ListLaws.{nothing_in, only_in, same_or_not}
 
 -- ---- the lists after a step
 
@@ -71,7 +59,7 @@ module _ (st : Deriving) (v : ℕ) (asked : List ℕ) where
       waiting_long = length-set st.waiting v [] ∙ w.waiting_long;
       pending_below = λ rule c. ⊎_elim (λ left. w.pending_below rule (also rule left)) (λ right. w.waiting_below v rule right) (Contains-append_cases st.pending (waiting_at st v) rule c);
       waiting_below = λ n rule c. ⊎_elim
-          (λ same. absurd (nothing_there rule (subst (λ (rs : List NumberRule). Contains rs rule) (ap (λ (i : ℕ). get_or (set st.waiting v []) i []) same ∙ waiting_here st v [] (omega (arith, w.waiting_long, below.0))) c)))
+          (λ same. absurd (nothing_in rule (subst (λ (rs : List NumberRule). Contains rs rule) (ap (λ (i : ℕ). get_or (set st.waiting v []) i []) same ∙ waiting_here st v [] (omega (arith, w.waiting_long, below.0))) c)))
           (λ other. w.waiting_below n rule (subst (λ (rs : List NumberRule). Contains rs rule) (waiting_there st v [] n other) c))
           (same_or_not n v);
     }
@@ -221,7 +209,7 @@ module _ (st : Deriving) (v : ℕ) (asked : List ℕ) where
     module _ (is : asked ≡ []) where
       module _ (rules : List NumberRule) (u : IsUnderway rules before) where
         derived : IsDerivedNumber rules v
-        derived = u.pending_follow v asked looked_at (λ m c. absurd (nothing_there m (subst (λ (ns : List ℕ). Contains ns m) is c)))
+        derived = u.pending_follow v asked looked_at (λ m c. absurd (nothing_in m (subst (λ (ns : List ℕ). Contains ns m) is c)))
 
         same_covered : bound_at st v ≡ true → (x : ℕ) (a : List ℕ) → IsCovered before x a → IsCovered st x a
         same_covered bound x a (IsCovered.bound h) = IsCovered.bound h
@@ -264,7 +252,7 @@ module _ (st : Deriving) (v : ℕ) (asked : List ℕ) where
           sound = λ m h. ⊎_elim (λ same. subst (IsDerivedNumber rules) (sym same) derived) (λ other. u.sound m (sym (bound_there st v m other) ∙ h)) (same_or_not m v);
           pending_follow = λ x a c. ⊎_elim (λ left. u.pending_follow x a (also (x, a) left)) (λ right. u.waiting_follow v x a right derived) (Contains-append_cases st.pending (waiting_at st v) (x, a) c);
           waiting_follow = λ m x a c d. ⊎_elim
-              (λ same. absurd (nothing_there (x, a) (subst (λ (rs : List NumberRule). Contains rs (x, a)) (ap (waiting_at (woken st v)) same ∙ nothing_waits) c)))
+              (λ same. absurd (nothing_in (x, a) (subst (λ (rs : List NumberRule). Contains rs (x, a)) (ap (waiting_at (woken st v)) same ∙ nothing_waits) c)))
               (λ other. u.waiting_follow m x a (subst (λ (rs : List NumberRule). Contains rs (x, a)) (waiting_there st v [] m other) c) d)
               (same_or_not m v);
           covered = λ x a c. woken_covered x a (u.covered x a c);
@@ -316,13 +304,6 @@ stepped (Err f) st after v asked front n is e = tt
 
 -- ---- the begin and the end
 
--- what is everywhere in a list is so past its end too
-pub everywhere : {X : Type 0} (count n : ℕ) (d : X) → get_or (replicate count d) n d ≡ d
-everywhere count n d = ⊎_elim
-    (λ same. get_or_past (replicate count d) n d (omega (arith, length-replicate count d)))
-    (λ apart. ⊎_elim (λ less. get_or-replicate count n d d less) (λ more. get_or_past (replicate count d) n d (omega (arith, length-replicate count d))) apart)
-    (cases_order n count)
-
 module _ (bound : List Bool) (waiting : List (List NumberRule)) (rules : List NumberRule) (unbound : (n : ℕ) → get_or bound n false ≡ false) (empty : (n : ℕ) → get_or waiting n [] ≡ []) where
   abbrev start : Deriving
   start = record { bound = bound; waiting = waiting; pending = rules }
@@ -332,21 +313,21 @@ module _ (bound : List Bool) (waiting : List (List NumberRule)) (rules : List Nu
     long = long;
     waiting_long = waiting_long;
     pending_below = below;
-    waiting_below = λ n rule c. absurd (nothing_there rule (subst (λ (rs : List NumberRule). Contains rs rule) (empty n) c));
+    waiting_below = λ n rule c. absurd (nothing_in rule (subst (λ (rs : List NumberRule). Contains rs rule) (empty n) c));
   }
 
   pub start_underway : IsUnderway rules start
   start_underway = record {
     sound = λ n h. absurd (true≢false (sym h ∙ unbound n));
     pending_follow = λ v asked c all. IsDerivedNumber.by v asked c all;
-    waiting_follow = λ n v asked c derived. absurd (nothing_there (v, asked) (subst (λ (rs : List NumberRule). Contains rs (v, asked)) (empty n) c));
+    waiting_follow = λ n v asked c derived. absurd (nothing_in (v, asked) (subst (λ (rs : List NumberRule). Contains rs (v, asked)) (empty n) c));
     covered = λ v asked c. IsCovered.pending asked c (λ w among. among);
   }
 
 module _ (rules : List NumberRule) (st : Deriving) (u : IsUnderway rules st) (done : st.pending ≡ []) where
   all_bound : (v : ℕ) (asked : List ℕ) → IsCovered st v asked → ((w : ℕ) → Contains asked w → bound_at st w ≡ true) → bound_at st v ≡ true
   all_bound v asked (IsCovered.bound h) all = h
-  all_bound v asked (IsCovered.pending rest c among) all = absurd (nothing_there (v, rest) (subst (λ (rs : List NumberRule). Contains rs (v, rest)) done c))
+  all_bound v asked (IsCovered.pending rest c among) all = absurd (nothing_in (v, rest) (subst (λ (rs : List NumberRule). Contains rs (v, rest)) done c))
   all_bound v asked (IsCovered.waiting n rest unbound here c among) all = absurd (true≢false (sym (all n here) ∙ unbound))
 
   pub derived_bound : (n : ℕ) → IsDerivedNumber rules n → bound_at st n ≡ true

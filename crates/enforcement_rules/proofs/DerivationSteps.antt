@@ -4,7 +4,8 @@ use Rattle.std.specs.Prelude.{Contains, ◌↔◌}
 use Rattle.std.proofs.lemmas.List.{length-replicate, take-append-le, take_all}
 use Rattle.std.proofs.lemmas.List.Elements.{Contains-append_right}
 use Rattle.enforcement_rules.specs.Derivations.{IsDerivedNumber, NumberRule, Deriving, bound_at, with_pending, IsStep, weight, IsRuleBelow, IsWithin, IsUnderway}
-use Rattle.enforcement_rules.proofs.DerivationLaws.{step_within, step_underway, step_less, everywhere, start_within, start_underway, derived_bound}
+use Rattle.enforcement_rules.proofs.DerivationLaws.{step_within, step_underway, step_less, start_within, start_underway, derived_bound}
+use Rattle.enforcement_rules.proofs.ListLaws.{everywhere}
 
 module _ (count : ℕ) (bound : List Bool) (waiting : List (List NumberRule)) (pending rest : List NumberRule) (rule : NumberRule) (is : pending ≡ rest ++ rule ∷ [])
     (w : IsWithin count (record { bound = bound; waiting = waiting; pending = pending })) where
@@ -48,5 +49,5 @@ module _ (count : ℕ) (bound : List Bool) (waiting : List (List NumberRule)) (r
       (λ h. u.sound n h, λ d. derived_bound rules st u done n d)
 
 -- a list that is written over another as long
-pub written_over : (new rest : List Bool) (len : ℕ) → len ≡ length new → take len (new ++ rest) ≡ new
+pub written_over : {X : Type 0} (new rest : List X) (len : ℕ) → len ≡ length new → take len (new ++ rest) ≡ new
 written_over new rest len same = take-append-le len new rest (omega arith) ∙ take_all len new (omega arith)

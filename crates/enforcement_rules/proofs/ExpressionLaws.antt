@@ -1,5 +1,5 @@
 -- E2: the tests on the expressions of a relation tell whether one touches the target.
-use Rattle.std.proofs.Common.{Result, Ok, Err, map, ◌≡◌, ◌⊎◌, ◌||◌, ◌&&◌, ℕ, List, [], ◌∷◌, Bool, true, false, Option, None, Some, refl, sym, ap, ◌∙◌, subst, inl, inr, ⊎_elim, true≢false}
+use Rattle.std.proofs.Common.{Result, Ok, Err, map, ◌≡◌, ◌||◌, ◌&&◌, ℕ, List, [], Bool, true, false, Option, None, Some, refl, sym, ap, ◌∙◌, inl, inr, ⊎_elim, true≢false}
 use Rattle.std.specs.Prelude.{Contains, ◌↔◌, IsTrue, IfOk, not, is_some, slice_get}
 use Rattle.std.specs.List.{list_any}
 use Rattle.qv_syntax.specs.declared.ty.Ty.{Ty}
@@ -19,8 +19,7 @@ use Rattle.enforcement_rules.specs.declared.mention.Mention.TheVariants as menti
 use Rattle.qv_syntax.specs.declared.program.Dom.{Dom}
 use Rattle.qv_syntax.specs.declared.program.Tmpl.{Tmpl, out-Tmpl}
 use Rattle.qv_syntax.specs.declared.program.Item.{Item}
-use Rattle.qv_syntax.specs.declared.program.ItemValue.{ItemValue, roll-ItemValue, out-ItemValue, roll-out-ItemValue, out-roll-ItemValue}
-use Rattle.qv_syntax.specs.declared.program.ItemValue.TheVariants as items
+use Rattle.qv_syntax.specs.declared.program.ItemValue.{ItemValue, out-ItemValue}
 use Rattle.qv_syntax.specs.declared.program.ItemValue.TheOpen as layers
 use Rattle.qv_syntax.specs.declared.program.Conj.{Conj}
 use Rattle.qv_syntax.specs.declared.program.Conj.TheVariants as conjuncts
@@ -29,11 +28,12 @@ use Rattle.qv_syntax.specs.Parts.{Names, CallsQuery}
 use Rattle.enforcement_rules.specs.Expressions.{HasTargetExtent, ReadsTarget, IsAlone, IsAsked, IsArgument, IsConjunct, IsObjectPlace, IsDataPlace, IsExpressionOf, TouchesTarget}
 use Rattle.enforcement_rules.specs.ExpressionTests.{variable_alone, is_touch, touches, value_touches, item_touches, template_touches, conjunct_touches, touches_target}
 use Rattle.enforcement_rules.specs.Mentions.{mentions_in}
-use Rattle.enforcement_rules.specs.ReaderTests.{AreReaders, is_of_meta}
+use Rattle.enforcement_rules.specs.ReaderTests.{AreReaders}
 use Rattle.enforcement_rules.specs.Standings.{Shown, shown_standing, Adds, IsOfDomain, IsOfDomains}
 use Rattle.enforcement_rules.specs.TargetParts.{target_meta, IsTargetVariable}
 use Rattle.enforcement_rules.specs.TargetTests.{is_of_target, has_model, is_target_variable}
 use Rattle.std.proofs.lemmas.Bool.{eqb-true, eq-eqb}
+use Rattle.enforcement_rules.proofs.ItemLaws.{expression_is, is_expression}
 use Rattle.enforcement_rules.proofs.ListLaws.{nothing_in, or_cases, or_first, or_second, any_there, any_here, and_first, and_second, and_both, not_true, not_false}
 use Rattle.enforcement_rules.proofs.StandingLaws.{stands_nested, nested_stands}
 use Rattle.enforcement_rules.proofs.ReaderLaws.{extent_there, there_meta}
@@ -202,12 +202,6 @@ module _ (program : Program) (rel : Rel) (readers : List Bool) (exact : AreReade
   value_there (layers.Expr e) h = (e, refl, h)
   value_there (layers.Nested part) h = absurd (cc)
 
-  expression_is : (value : ItemValue) (e : Typed) → out-ItemValue value ≡ layers.Expr e → value ≡ items.Expr e
-  expression_is value e is = sym (roll-out-ItemValue value) ∙ ap roll-ItemValue is ∙ items.rolls-Expr e
-
-  is_expression : (value : ItemValue) (e : Typed) → value ≡ items.Expr e → out-ItemValue value ≡ layers.Expr e
-  is_expression value e is = ap out-ItemValue (is ∙ sym (items.rolls-Expr e)) ∙ out-roll-ItemValue (layers.Expr e)
-
   by_template : (s : Shown) → Contains templates s → template_touches program rel the_meta readers s ≡ true → TouchesTarget program rel
   by_template s among h =
       let found = any_there (item_touches program rel the_meta readers) (out-Tmpl s.0).items h in
@@ -268,7 +262,7 @@ module _ (program : Program) (rel : Rel) (readers : List Bool) (exact : AreReade
 pub any_told : {E : Type 0} (program : Program) (rel : Rel) (meta : ℕ) (readers : List Bool) → meta ≡ target_meta program → AreReaders program readers → (templates : List Standing)
     → Adds (IsOfDomains IsOfDomain rel.domains) [] (map shown_standing templates) → (slice : List Standing) → slice ≡ templates → (r : Result Bool E)
     → IfOk r (λ b. b ≡ touches_target program rel meta readers (map shown_standing slice)) → IfOk r (λ b. IsTrue b ↔ TouchesTarget program rel)
-any_told program rel meta readers is exact templates all slice same (Ok b) h =
+any_told program rel _ readers is exact templates all slice same (Ok b) h =
     touching_told program rel readers exact (map shown_standing templates) all b
     (h ∙ ap (λ (m : ℕ). touches_target program rel m readers (map shown_standing slice)) is ∙ ap (λ (ts : List Standing). touches_target program rel (target_meta program) readers (map shown_standing ts)) same)
-any_told program rel meta readers is exact templates all slice same (Err e) h = tt
+any_told program rel _ readers is exact templates all slice same (Err e) h = tt

@@ -1,6 +1,6 @@
 -- Whether a type conforms to another, and to that of a property, by the tests.
-use Rattle.std.proofs.Common.{◌≡◌, ◌<◌, ◌&&◌, ℕ, List, Bool, true, false, Option, None, Some, refl, sym, ap, ◌∙◌, subst, length, All}
-use Rattle.std.specs.Prelude.{◌==◌, nat_eq, nat_lt, Contains}
+use Rattle.std.proofs.Common.{◌≡◌, ◌<◌, ◌&&◌, ℕ, List, true, false, Option, None, Some, refl, sym, ap, ◌∙◌, subst, length}
+use Rattle.std.specs.Prelude.{◌==◌, nat_eq, nat_lt}
 use Rattle.std.specs.List.{list_any}
 use Rattle.std.specs.Option.{option_map_or}
 use Rattle.std.proofs.lemmas.Bool.{eqb-true, eq-eqb, ltb-true, lt-ltb}
@@ -15,7 +15,7 @@ use Rattle.mof_metamodel.specs.MetaFaults.{WellMeta}
 use Rattle.mof_metamodel.proofs.LineageLemmas.{conforms_exactly, grounded_from_acyclic}
 use Rattle.qv_syntax.specs.declared.ty.Ty.{Ty}
 use Rattle.ocl_environments.specs.Environments.{meta_at, no_meta, AreWell, class_of}
-use Rattle.ocl_environments.specs.Agreement.{class_fits, fits_by, fits, same_type}
+use Rattle.ocl_environments.specs.Agreement.{class_fits, fits_by, fits}
 use Rattle.ocl_environments.specs.Conformance.{ClassConforms, ConformsBy, TypeConforms}
 use Rattle.ocl_environments.specs.Navigation.{value_type}
 use Rattle.ocl_environments.proofs.TypeLaws.{same_is_one}

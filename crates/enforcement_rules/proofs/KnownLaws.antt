@@ -1,13 +1,11 @@
 -- The rules by which variables are known give what is known, in a relation as a transformation means it; and E11.
-use Rattle.std.proofs.Common.{◌≡◌, ◌≢◌, ◌<◌, ℕ, Result, Ok, Err, Vec, Global, List, [], ◌∷◌, Bool, true, false, Option, None, Some, refl, sym, ap, ◌∙◌, subst, length, map, inl, inr, ◌&&◌, true≢false}
+use Rattle.std.proofs.Common.{◌≡◌, ◌<◌, ℕ, Result, Ok, Err, Vec, Global, List, [], Bool, true, Option, None, Some, refl, sym, ap, ◌∙◌, subst, length, map, inl, inr, true≢false}
 use Rattle.std.specs.Prelude.{Contains, ◌↔◌, IsTrue, IfOk, not, slice_get}
-use Rattle.std.specs.List.{flat_map, list_any}
-use Rattle.std.proofs.lemmas.Option.{none-some, same_Some, slice_get_within}
+use Rattle.std.specs.List.{flat_map}
+use Rattle.std.proofs.lemmas.Option.{slice_get_within}
 use Rattle.std.proofs.lemmas.List.Elements.{Contains-append_left, Contains-append_right, Contains-append_cases}
 use Rattle.mof_metamodel.specs.declared.desc.MetaDesc.{MetaDesc}
-use Rattle.mof_metamodel.specs.declared.desc.ClassId.{ClassId}
 use Rattle.mof_metamodel.proofs.PropLemmas.{to_flat_map, from_flat_map}
-use Rattle.qv_syntax.specs.declared.ty.Ty.TheVariants as types
 use Rattle.qv_syntax.specs.declared.typed.Typed.{Typed}
 use Rattle.qv_syntax.specs.declared.program.Program.{Program}
 use Rattle.qv_syntax.specs.declared.program.Rel.{Rel}
@@ -18,7 +16,7 @@ use Rattle.qv_syntax.specs.Relations.{IsUniversal, IsDataVariable}
 use Rattle.qv_syntax.specs.Directions.{IsMeant}
 use Rattle.qv_syntax.specs.ProgramNumbers.{AreVariablesInRange}
 use Rattle.enforcement_rules.specs.Derivations.{NumberRule, IsDerivedNumber, IsRuleBelow}
-use Rattle.enforcement_rules.specs.KnownVariables.{NamesOf, IsKnown, HasUndeterminedData}
+use Rattle.enforcement_rules.specs.KnownVariables.{IsKnown, HasUndeterminedData}
 use Rattle.enforcement_rules.specs.KnownTests.{IsKnownTable, universal_rule, equation_rules, known_rules, is_marked, is_undetermined, has_undetermined}
 use Rattle.enforcement_rules.specs.Mentions.{variables_of}
 use Rattle.enforcement_rules.specs.TargetTests.{is_data, is_data_variable, has_class}

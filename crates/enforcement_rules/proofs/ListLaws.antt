@@ -1,8 +1,11 @@
 -- What stands in lists.
-use Rattle.std.proofs.Common.{◌≡◌, ◌<◌, ◌⊎◌, ◌||◌, ◌&&◌, ℕ, zero, suc, List, [], ◌∷◌, Bool, true, false, refl, sym, ap, ◌∙◌, subst, inl, inr, ⊎_elim, arith, length, map, Some, true≢false}
-use Rattle.std.specs.Prelude.{Contains, not, slice_get}
+use Rattle.std.proofs.Common.{Result, Ok, Err, ◌≡◌, ◌≢◌, ◌<◌, ◌⊎◌, ◌||◌, ◌&&◌, ◌+◌, ℕ, zero, suc, List, [], ◌∷◌, Bool, true, false, refl, sym, ap, ◌∙◌, subst, inl, inr, ⊎_elim, arith, length, map, get_or, drop, replicate, add-one, Some, true≢false}
+use Rattle.std.specs.Prelude.{Contains, IfOk, not, slice_get}
 use Rattle.std.specs.List.{list_any, list_all}
+use Rattle.std.proofs.Math.Seq.{drop-cons}
+use Rattle.std.proofs.lemmas.Bool.{cases_order}
 use Rattle.std.proofs.lemmas.Option.{slice_get-get_or, slice_get_within, get_or_from_slice_get}
+use Rattle.std.proofs.lemmas.List.{get_or-replicate, length-replicate, get_or_past}
 use Rattle.std.proofs.lemmas.List.Elements.{Contains-append_left, Contains-append_right, Contains-append_cases, Contains-push, Contains-push_cases}
 
 pub first_in : {X : Type 0} (x y : X) (xs : List X) → x ≡ y → Contains (x ∷ xs) y
@@ -99,6 +102,9 @@ all_fails p (y ∷ ys) h = elim (and_cases (p y) (list_all p ys) h) [
 
 -- ---- places
 
+pub same_or_not : (m n : ℕ) → (m ≡ n) ⊎ (m ≢ n)
+same_or_not m n = ⊎_elim (λ e. inl e) (λ h. inr (λ e. ⊎_elim (λ l. omega arith) (λ l. omega arith) h)) (cases_order m n)
+
 pub within_some : {X : Type 0} (xs : List X) (k : ℕ) → k < length xs → (x : X) × (slice_get xs k ≡ Some x)
 within_some [] k below = absurd (omega (arith, below))
 within_some (x ∷ xs) zero below = (x, refl)
@@ -109,6 +115,31 @@ among_some xs x (k, below, at) = (k, slice_get-get_or xs k x below ∙ ap Some a
 
 pub some_among : {X : Type 0} (xs : List X) (k : ℕ) (x : X) → slice_get xs k ≡ Some x → Contains xs x
 some_among xs k x found = (k, slice_get_within xs k x found, get_or_from_slice_get xs k x x found)
+
+pub place_found : {X : Type 0} (xs ys : List X) (k : ℕ) (x : X) → xs ≡ ys → k < length xs → x ≡ get_or xs k x → slice_get ys k ≡ Some x
+place_found xs ys k x same below is = subst (λ zs. slice_get zs k ≡ Some x) same (slice_get-get_or xs k x below ∙ ap Some (sym is))
+
+pub at_place : {X : Type 0} (xs : List X) (k : ℕ) (d : X) → k < length xs → Contains xs (get_or xs k d)
+at_place xs k d below = some_among xs k (get_or xs k d) (slice_get-get_or xs k d below)
+
+-- the items from a place on
+pub drop_here : {X : Type 0} (xs : List X) (k : ℕ) (x : X) → k < length xs → x ≡ get_or xs k x → drop k xs ≡ x ∷ drop (k + 1) xs
+drop_here xs k x below is = drop-cons xs k x below ∙ ap (λ y. y ∷ drop (suc k) xs) (sym is) ∙ ap (λ (n : ℕ). x ∷ drop n xs) (sym (add-one k))
+
+-- a loop over a list stops where a test fails, and goes on where it doesn't
+pub all_stops : {X : Type 0} (p : X → Bool) (xs : List X) (k : ℕ) (d : X) → k < length xs → p (get_or xs k d) ≡ false → list_all p (drop k xs) ≡ list_all p xs → false ≡ list_all p xs
+all_stops p xs k d below h kept = sym (ap (list_all p) (drop-cons xs k d below) ∙ ap (λ (b : Bool). b && list_all p (drop (suc k) xs)) h) ∙ kept
+
+pub all_goes_on : {X : Type 0} (p : X → Bool) (xs : List X) (k : ℕ) (d : X) → k < length xs → p (get_or xs k d) ≡ true → list_all p (drop k xs) ≡ list_all p xs
+    → list_all p (drop (k + 1) xs) ≡ list_all p xs
+all_goes_on p xs k d below h kept = ap (λ (n : ℕ). list_all p (drop n xs)) (add-one k) ∙ sym (ap (list_all p) (drop-cons xs k d below) ∙ ap (λ (b : Bool). b && list_all p (drop (suc k) xs)) h) ∙ kept
+
+-- what is everywhere in a list is so past its end too
+pub everywhere : {X : Type 0} (count n : ℕ) (d : X) → get_or (replicate count d) n d ≡ d
+everywhere count n d = ⊎_elim
+    (λ same. get_or_past (replicate count d) n d (omega (arith, length-replicate count d)))
+    (λ apart. ⊎_elim (λ less. get_or-replicate count n d d less) (λ more. get_or_past (replicate count d) n d (omega (arith, length-replicate count d))) apart)
+    (cases_order n count)
 
 -- ---- what a function makes of a list
 
@@ -125,3 +156,9 @@ mapped_from f (x ∷ xs) y among = elim (in_either (f x) y (map f xs) among) [
   | inl same ↦ (x, first_in x x xs refl, same)
   | inr there ↦ (let r = mapped_from f xs y there in (r.0, later_in x r.0 xs r.1, r.2))
 ]
+
+-- ---- what a call gives
+
+pub if_ok : {X E : Type 0} (r : Result X E) (P Q : X → Type 0) → ((x : X) → P x → Q x) → IfOk r P → IfOk r Q
+if_ok (Ok x) P Q on h = on x h
+if_ok (Err e) P Q on h = tt

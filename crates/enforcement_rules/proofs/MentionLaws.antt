@@ -1,5 +1,5 @@
 -- What the walk over an expression collects is what stands within it.
-use Rattle.std.proofs.Common.{◌≡◌, ◌<◌, ℕ, List, [], ◌∷◌, ◌++◌, map, refl, sym, ap, ◌∙◌, subst, ◌⊎◌, ⊎_elim, inl, inr, arith}
+use Rattle.std.proofs.Common.{◌≡◌, List, [], ◌∷◌, ◌++◌, map, refl, sym, ap, ◌∙◌, subst, ◌⊎◌, ⊎_elim, inl, inr}
 use Rattle.std.specs.Prelude.{Contains}
 use Rattle.std.specs.List.{flat_map}
 use Rattle.std.proofs.lemmas.List.Elements.{Contains-append_left, Contains-append_right, Contains-append_cases}
@@ -8,8 +8,8 @@ use Rattle.qv_syntax.specs.declared.typed.Typed.{Typed, roll-Typed, map-Typed, i
 use Rattle.qv_syntax.specs.declared.typed.Node.{Node, roll-Node, map-Node, out-Node, fold-roll-Node, out-roll-Node, roll-out-Node}
 use Rattle.qv_syntax.specs.declared.typed.Call.{Call, roll-Call, map-Call, out-Call, fold-roll-Call, out-roll-Call, roll-out-Call}
 use Rattle.qv_syntax.specs.declared.typed.Call.TheOpen as of
-use Rattle.qv_syntax.specs.declared.typed.TypedInfix.{TypedInfix, roll-TypedInfix, map-TypedInfix, fold-roll-TypedInfix}
-use Rattle.qv_syntax.specs.declared.typed.TypedPostfix.{TypedPostfix, roll-TypedPostfix, map-TypedPostfix, fold-roll-TypedPostfix}
+use Rattle.qv_syntax.specs.declared.typed.TypedInfix.{TypedInfix, roll-TypedInfix, map-TypedInfix}
+use Rattle.qv_syntax.specs.declared.typed.TypedPostfix.{TypedPostfix, roll-TypedPostfix, map-TypedPostfix}
 use Rattle.qv_syntax.specs.Parts.{IsWithin, node_parts, call_parts, parts_of_call}
 use Rattle.enforcement_rules.specs.declared.mention.Mention.{Mention}
 use Rattle.enforcement_rules.specs.declared.mention.Mention.TheVariants as mentions

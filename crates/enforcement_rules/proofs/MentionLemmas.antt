@@ -8,7 +8,6 @@ use Rattle.qv_syntax.specs.declared.typed.Call.TheOpen as of
 use Rattle.qv_syntax.specs.declared.typed.Typed.{Typed}
 use Rattle.qv_syntax.specs.declared.typed.TypedPostfix.{TypedPostfix, fold-roll-TypedPostfix}
 use Rattle.qv_syntax.specs.declared.typed.TypedInfix.{TypedInfix, fold-roll-TypedInfix}
-use Rattle.enforcement_rules.specs.declared.mention.Mention.{Mention}
 use Rattle.enforcement_rules.specs.declared.mention.Mention.TheVariants as mentions
 use Rattle.enforcement_rules.specs.Mentions.{L, joined, call_step, node_step, typed_step, infix_step, postfix_step, mentions_in, mentions_of_node, mentions_of_call, mentions_behind, mentions_with}
 

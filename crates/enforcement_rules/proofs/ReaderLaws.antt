@@ -1,7 +1,6 @@
 -- The rules by which queries read the target give those that do.
-use Rattle.std.proofs.Common.{Result, Ok, Err, Vec, Global, take, get_or, append_assoc, ◌≡◌, ◌<◌, ◌+◌, ◌⊎◌, ℕ, zero, suc, List, [], ◌∷◌, ◌++◌, Bool, true, false, Option, None, Some, refl, sym, ap, ◌∙◌, subst, length, inl, inr, ⊎_elim, arith, if◌then◌else◌}
-use Rattle.std.specs.Prelude.{Contains, ◌↔◌, IfOk, slice_get, nat_eq, nat_lt}
-use Rattle.std.specs.List.{flat_map}
+use Rattle.std.proofs.Common.{Result, Ok, Err, Vec, Global, take, get_or, append_assoc, ◌≡◌, ◌<◌, ◌+◌, ℕ, zero, suc, List, [], ◌∷◌, ◌++◌, Bool, true, false, Option, None, Some, refl, sym, ap, ◌∙◌, subst, length, ⊎_elim, arith, if◌then◌else◌}
+use Rattle.std.specs.Prelude.{Contains, ◌↔◌, IfOk, slice_get, nat_lt}
 use Rattle.std.proofs.lemmas.Bool.{eqb-true, eq-eqb, ltb-true, lt-ltb}
 use Rattle.std.proofs.lemmas.Option.{slice_get_within}
 use Rattle.std.proofs.lemmas.List.{take_more, append-nil, length-take}

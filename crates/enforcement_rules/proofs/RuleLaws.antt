@@ -1,11 +1,11 @@
 -- What the answer says is one, and nothing else is broken before it.
-use Rattle.std.proofs.Common.{◌≡◌, ◌<◌, ◌⊎◌, ℕ, List, true, refl, sym, subst, arith, ⊎_elim, inl, inr}
+use Rattle.std.proofs.Common.{◌≡◌, ◌<◌, ◌⊎◌, ℕ, List, true, sym, subst, ⊎_elim}
 use Rattle.std.specs.Prelude.{Some, slice_get}
 use Rattle.std.proofs.lemmas.Bool.{cases_order}
 use Rattle.mof_metamodel.specs.declared.desc.MetaDesc.{MetaDesc}
 use Rattle.qv_syntax.specs.declared.program.Program.{Program}
 use Rattle.qv_syntax.specs.declared.program.Rel.{Rel}
-use Rattle.enforcement_rules.specs.Rules.{Breaks, BreaksAt, Broken, IsEnforceable}
+use Rattle.enforcement_rules.specs.Rules.{Breaks, Broken, IsEnforceable}
 
 module _ (metas : List MetaDesc) (program : Program) where
   one_number : (number rule other least : ℕ) → Broken metas program number rule → Broken metas program other least → number ≡ other

@@ -1,20 +1,18 @@
 -- E3: the tests tell whether each conjunct of where and each item of a target template is settled.
-use Rattle.std.proofs.Common.{◌≡◌, ◌≢◌, ◌<◌, ◌⊎◌, ◌&&◌, ℕ, List, [], ◌∷◌, Bool, true, false, Option, None, Some, refl, sym, ap, ◌∙◌, subst, inl, inr, ⊎_elim, true≢false, length, if◌then◌else◌}
+use Rattle.std.proofs.Common.{◌≡◌, ◌&&◌, ℕ, List, [], Bool, true, false, Option, None, Some, refl, sym, ap, ◌∙◌, subst, inl, inr, ⊎_elim, true≢false, length, if◌then◌else◌}
 use Rattle.std.specs.Prelude.{Contains, ◌↔◌, IsTrue, not}
-use Rattle.std.specs.List.{list_any, list_all}
+use Rattle.std.specs.List.{list_all}
 use Rattle.mof_metamodel.specs.declared.desc.MetaDesc.{MetaDesc}
-use Rattle.mof_metamodel.specs.declared.desc.ClassId.{ClassId}
-use Rattle.mof_metamodel.specs.declared.desc.PropId.{PropId}
 use Rattle.qv_syntax.specs.declared.ty.Ty.{Ty}
 use Rattle.qv_syntax.specs.declared.ty.Ty.TheVariants as types
 use Rattle.qv_syntax.specs.declared.typed.Typed.{Typed}
-use Rattle.qv_syntax.specs.declared.typed.Node.{Node, out-Node}
+use Rattle.qv_syntax.specs.declared.typed.Node.{out-Node}
 use Rattle.qv_syntax.specs.declared.typed.Node.TheVariants as nodes
 use Rattle.qv_syntax.specs.declared.program.Program.{Program}
 use Rattle.qv_syntax.specs.declared.program.Rel.{Rel}
 use Rattle.qv_syntax.specs.declared.program.Tmpl.{Tmpl, out-Tmpl}
 use Rattle.qv_syntax.specs.declared.program.Item.{Item}
-use Rattle.qv_syntax.specs.declared.program.ItemValue.{ItemValue, roll-ItemValue, out-ItemValue, roll-out-ItemValue, out-roll-ItemValue}
+use Rattle.qv_syntax.specs.declared.program.ItemValue.{ItemValue, out-ItemValue}
 use Rattle.qv_syntax.specs.declared.program.ItemValue.TheVariants as items
 use Rattle.qv_syntax.specs.declared.program.ItemValue.TheOpen as layers
 use Rattle.qv_syntax.specs.declared.program.Conj.{Conj}
@@ -25,16 +23,16 @@ use Rattle.ocl_environments.specs.Environments.{AreWell}
 use Rattle.enforcement_rules.specs.declared.standing.Place.{Place}
 use Rattle.enforcement_rules.specs.ExpressionTests.{variable_alone}
 use Rattle.enforcement_rules.specs.KnownTests.{IsKnownTable, is_marked, is_over_known}
-use Rattle.enforcement_rules.specs.KnownVariables.{NamesOf, IsKnown}
 use Rattle.enforcement_rules.specs.Mentions.{variables_of}
-use Rattle.enforcement_rules.specs.Patterns.{IsOverKnown, IsSettledConjunct, FitsProperty, IsSettledItem, HasUnsettledPart}
+use Rattle.enforcement_rules.specs.Patterns.{IsOverKnown, IsSettledConjunct, IsSettledItem, HasUnsettledPart}
 use Rattle.enforcement_rules.specs.PatternTests.{is_settled_conjunct, fits_property, is_variable_settled, is_object_settled, is_settled_expression, is_settled_value, is_settled_item, is_settled_template}
-use Rattle.enforcement_rules.specs.Standings.{Shown, Adds, IsOfDomain, IsOfTarget, IsOfDomains}
-use Rattle.enforcement_rules.specs.TargetParts.{target_meta, IsTargetVariable, IsTargetTemplate}
-use Rattle.enforcement_rules.specs.TargetTests.{has_class, is_target_variable, is_of_target}
+use Rattle.enforcement_rules.specs.Standings.{Shown, Adds, IsOfTarget, IsOfDomains}
+use Rattle.enforcement_rules.specs.TargetParts.{target_meta, IsTargetTemplate}
+use Rattle.enforcement_rules.specs.TargetTests.{has_class, is_target_variable}
 use Rattle.enforcement_rules.proofs.ClassLaws.{class_there, there_class, no_class}
 use Rattle.enforcement_rules.proofs.ExpressionLaws.{target_model, model_target, target_there, there_target, alone_is, is_alone}
 use Rattle.enforcement_rules.proofs.FitLaws.{property_told, told_property}
+use Rattle.enforcement_rules.proofs.ItemLaws.{nested_is, is_nested, expression_is, is_expression}
 use Rattle.enforcement_rules.proofs.ListLaws.{nothing_in, and_first, and_second, and_both, and_cases, not_true, not_false, false_unless, all_each, all_from, all_fails, among_some}
 use Rattle.enforcement_rules.proofs.VariableLaws.{names_listed, listed_names}
 
@@ -80,18 +78,6 @@ module _ (metas : List MetaDesc) (well : AreWell metas) (program : Program) (num
   told_conjunct (conjuncts.Call r args) h = refl
 
   -- items
-
-  nested_is : (value : ItemValue) (part : Tmpl) → out-ItemValue value ≡ layers.Nested part → value ≡ items.Nested part
-  nested_is value part is = sym (roll-out-ItemValue value) ∙ ap roll-ItemValue is ∙ items.rolls-Nested part
-
-  is_nested : (value : ItemValue) (part : Tmpl) → value ≡ items.Nested part → out-ItemValue value ≡ layers.Nested part
-  is_nested value part is = ap out-ItemValue (is ∙ sym (items.rolls-Nested part)) ∙ out-roll-ItemValue (layers.Nested part)
-
-  expression_is : (value : ItemValue) (e : Typed) → out-ItemValue value ≡ layers.Expr e → value ≡ items.Expr e
-  expression_is value e is = sym (roll-out-ItemValue value) ∙ ap roll-ItemValue is ∙ items.rolls-Expr e
-
-  is_expression : (value : ItemValue) (e : Typed) → value ≡ items.Expr e → out-ItemValue value ≡ layers.Expr e
-  is_expression value e is = ap out-ItemValue (is ∙ sym (items.rolls-Expr e)) ∙ out-roll-ItemValue (layers.Expr e)
 
   object_told : (item : Item) (e : Typed) → item.value ≡ items.Expr e → has_class e.ty ≡ true → is_object_settled metas program rel meta item.prop e ≡ true → IsSettledItem metas program rel item
   object_told item e is classy h = by (variable_alone (out-Node e.node)) refl h

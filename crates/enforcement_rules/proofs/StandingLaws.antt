@@ -1,11 +1,9 @@
 -- How lists of templates with their places grow, and that those of the target's domains are the target templates.
-use Rattle.std.proofs.Common.{◌≡◌, ◌⊎◌, ◌<◌, ◌+◌, ℕ, List, [], ◌∷◌, ◌++◌, Bool, true, false, Option, None, Some, Result, Ok, Err, refl, sym, ap, ◌∙◌, subst, inl, inr, ⊎_elim, length, map, take, get_or, arith, true≢false}
-use Rattle.std.specs.Prelude.{Contains, OnOk, nat_eq}
-use Rattle.std.proofs.lemmas.List.{take_more, map-append, take_all}
+use Rattle.std.proofs.Common.{◌≡◌, ◌⊎◌, ◌<◌, ◌+◌, ℕ, List, [], ◌∷◌, ◌++◌, Bool, true, false, Option, None, Some, Result, Ok, Err, refl, sym, ap, ◌∙◌, subst, inl, inr, ⊎_elim, length, map, take, get_or, true≢false}
+use Rattle.std.specs.Prelude.{Contains, OnOk}
+use Rattle.std.proofs.lemmas.List.{take_more, map-append}
 use Rattle.std.proofs.lemmas.List.Elements.{Contains-append_left, Contains-append_right, Contains-append_cases}
-use Rattle.mof_metamodel.specs.declared.desc.PropId.{PropId}
 use Rattle.qv_syntax.specs.declared.program.Program.{Program}
-use Rattle.qv_syntax.specs.declared.program.Rel.{Rel}
 use Rattle.qv_syntax.specs.declared.program.Dom.{Dom}
 use Rattle.qv_syntax.specs.declared.program.Tmpl.{Tmpl, out-Tmpl}
 use Rattle.qv_syntax.specs.declared.program.Item.{Item}
@@ -17,7 +15,7 @@ use Rattle.enforcement_rules.specs.declared.standing.Standing.{Standing}
 use Rattle.enforcement_rules.specs.TargetParts.{Stands}
 use Rattle.enforcement_rules.specs.TargetTests.{is_of_target}
 use Rattle.enforcement_rules.specs.Standings.{Shown, shown_standing, Adds, IsOf, IsOfItems, IsOfValue, IsOfDomain, IsOfTarget, IsOfDomains}
-use Rattle.enforcement_rules.proofs.ListLaws.{first_in, later_in, nothing_in, in_either, only_in}
+use Rattle.enforcement_rules.proofs.ListLaws.{first_in, nothing_in, only_in}
 
 -- ---- lists
 

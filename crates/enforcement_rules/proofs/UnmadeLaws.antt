@@ -1,7 +1,7 @@
 -- E4: the tests tell whether an existential variable is for objects that nothing makes.
-use Rattle.std.proofs.Common.{Result, Ok, Err, ◌≡◌, ◌<◌, ◌&&◌, ℕ, List, [], ◌∷◌, Bool, true, false, Option, None, Some, refl, sym, ap, ◌∙◌, subst, true≢false, length, if◌then◌else◌}
+use Rattle.std.proofs.Common.{Result, Ok, Err, ◌≡◌, ◌&&◌, ℕ, List, [], ◌∷◌, Bool, true, false, Option, None, Some, refl, sym, ap, ◌∙◌, subst, true≢false, if◌then◌else◌}
 use Rattle.std.specs.Prelude.{Contains, ◌↔◌, IsTrue, IfOk, not, nat_eq, slice_get}
-use Rattle.std.specs.List.{list_any, flat_map}
+use Rattle.std.specs.List.{flat_map}
 use Rattle.std.proofs.lemmas.Bool.{eqb-true, eq-eqb}
 use Rattle.std.proofs.lemmas.Option.{slice_get_within}
 use Rattle.mof_metamodel.specs.declared.desc.MetaDesc.{MetaDesc}
@@ -14,12 +14,11 @@ use Rattle.qv_syntax.specs.declared.program.Dom.{Dom}
 use Rattle.qv_syntax.specs.declared.program.Tmpl.{Tmpl, out-Tmpl}
 use Rattle.qv_syntax.specs.Directions.{IsMeant}
 use Rattle.qv_syntax.specs.ProgramNumbers.{AreVariablesInRange}
-use Rattle.ocl_environments.specs.Environments.{meta_at}
 use Rattle.enforcement_rules.specs.NumberSets.{is_among}
 use Rattle.enforcement_rules.specs.Patterns.{IsHandedOn, HasConcreteTemplate, HasUnmadeObject}
 use Rattle.enforcement_rules.specs.PatternTests.{concrete_variable, concrete_variables, target_root, handed_roots, is_unmade, has_unmade}
 use Rattle.enforcement_rules.specs.Standings.{Shown, Adds, IsOfTarget, IsOfDomains}
-use Rattle.enforcement_rules.specs.TargetParts.{target_meta, target_desc, IsObjectVariable, IsTargetVariable, IsTargetTemplate}
+use Rattle.enforcement_rules.specs.TargetParts.{target_meta, target_desc, IsObjectVariable}
 use Rattle.enforcement_rules.specs.TargetTests.{is_of_target, is_object, is_object_variable, is_target_variable}
 use Rattle.enforcement_rules.proofs.ClassLaws.{class_there, there_class}
 use Rattle.enforcement_rules.proofs.ExpressionLaws.{target_model, model_target, target_there, there_target}

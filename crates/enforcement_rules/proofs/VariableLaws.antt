@@ -1,5 +1,5 @@
 -- The variables of a relation that an expression names are those among what it names.
-use Rattle.std.proofs.Common.{◌≡◌, ◌<◌, ℕ, List, [], ◌∷◌, Bool, true, false, refl, sym, ap, ◌∙◌, subst, length, if◌then◌else◌, true≢false}
+use Rattle.std.proofs.Common.{◌≡◌, ◌<◌, ℕ, List, [], ◌∷◌, Bool, true, false, refl, sym, ap, ◌∙◌, subst, length, if◌then◌else◌}
 use Rattle.std.specs.Prelude.{Contains, nat_lt}
 use Rattle.std.proofs.lemmas.Bool.{ltb-true, lt-ltb}
 use Rattle.mof_metamodel.proofs.PropLemmas.{to_flat_map, from_flat_map}
@@ -19,7 +19,7 @@ use Rattle.enforcement_rules.specs.declared.mention.Mention.TheVariants as menti
 use Rattle.enforcement_rules.specs.KnownVariables.{NamesOf}
 use Rattle.enforcement_rules.specs.Mentions.{mentions_in, own_variable, variables_of}
 use Rattle.enforcement_rules.proofs.ListLaws.{first_in, nothing_in, only_in}
-use Rattle.enforcement_rules.proofs.MentionLaws.{own, Mentioned, mentions_listed, mentions_stand}
+use Rattle.enforcement_rules.proofs.MentionLaws.{own, mentions_listed, mentions_stand}
 
 -- ---- an outer layer that is a variable
 

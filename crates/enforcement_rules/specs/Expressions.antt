@@ -1,6 +1,6 @@
 -- What the expressions of a relation may not say of the target, which isn't there yet when they have their values (QVT 1.3, sections
 -- 7.10.2 and 7.11.1.4).
-use Rattle.std.specs.Prelude.{◌≡◌, ℕ, List, Some, slice_get, Contains}
+use Rattle.std.specs.Prelude.{◌≡◌, ℕ, Some, slice_get, Contains}
 use Rattle.mof_metamodel.specs.declared.desc.ClassId.{ClassId}
 use Rattle.qv_syntax.specs.declared.ty.Ty.{Ty}
 use Rattle.qv_syntax.specs.declared.typed.Typed.{Typed}

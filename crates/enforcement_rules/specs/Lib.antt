@@ -14,5 +14,12 @@ pub mod KnownTests
 pub mod ReaderTests
 pub mod ExpressionTests
 pub mod PatternTests
+pub mod KeyTests
+pub mod KeyTables
+pub mod KeyCycles
+pub mod Edges
+pub mod TwoKeys
 pub mod Tasks
+pub mod LeastRules
+pub mod RuleAnswers
 pub mod CallTests

@@ -1,6 +1,6 @@
 -- What an expression names, in the order in which it is written (OCL 2.4, section 8.3): variables, queries that are called, and the models
 -- of extents.
-use Rattle.std.specs.Prelude.{ℕ, List, [], ◌∷◌, ◌++◌, ◌<◌, nat_lt, if◌then◌else◌}
+use Rattle.std.specs.Prelude.{ℕ, List, [], ◌∷◌, ◌++◌, nat_lt, if◌then◌else◌}
 use Rattle.std.specs.List.{flat_map}
 use Rattle.qv_syntax.specs.declared.typed.Call.{Call, fold-Call}
 use Rattle.qv_syntax.specs.declared.typed.Node.{Node, fold-Node}

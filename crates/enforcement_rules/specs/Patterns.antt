@@ -12,7 +12,6 @@ use Rattle.qv_syntax.specs.declared.typed.Typed.{Typed}
 use Rattle.qv_syntax.specs.declared.typed.Node.TheVariants as nodes
 use Rattle.qv_syntax.specs.declared.program.Program.{Program}
 use Rattle.qv_syntax.specs.declared.program.Rel.{Rel}
-use Rattle.qv_syntax.specs.declared.program.Var.{Var}
 use Rattle.qv_syntax.specs.declared.program.Dom.{Dom}
 use Rattle.qv_syntax.specs.declared.program.Marker.TheVariants as markers
 use Rattle.qv_syntax.specs.declared.program.Tmpl.{Tmpl, out-Tmpl}

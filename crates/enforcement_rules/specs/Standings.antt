@@ -3,7 +3,7 @@ use Rattle.std.specs.Prelude.{◌≡◌, ◌⊎◌, ℕ, true, List, [], Option,
 use Rattle.qv_syntax.specs.declared.program.Program.{Program}
 use Rattle.qv_syntax.specs.declared.program.Rel.{Rel}
 use Rattle.qv_syntax.specs.declared.program.Dom.{Dom}
-use Rattle.qv_syntax.specs.declared.program.Tmpl.{Tmpl, out-Tmpl}
+use Rattle.qv_syntax.specs.declared.program.Tmpl.{Tmpl}
 use Rattle.qv_syntax.specs.declared.program.Item.{Item}
 use Rattle.qv_syntax.specs.declared.program.ItemValue.{ItemValue}
 use Rattle.qv_syntax.specs.declared.program.ItemValue.TheVariants as items

@@ -1,7 +1,6 @@
 -- What of a program belongs to its target, as tests.
-use Rattle.std.specs.Prelude.{ℕ, Bool, true, false, not, Option, None, Some, nat_eq, slice_get}
-use Rattle.qv_syntax.specs.declared.ty.Ty.{Ty, fold-Ty}
-use Rattle.qv_syntax.specs.declared.ty.Ty.TheOpen as of
+use Rattle.std.specs.Prelude.{ℕ, Bool, false, not, Option, None, Some, nat_eq, slice_get}
+use Rattle.qv_syntax.specs.declared.ty.Ty.{Ty}
 use Rattle.qv_syntax.specs.declared.program.Program.{Program}
 use Rattle.qv_syntax.specs.declared.program.Rel.{Rel}
 use Rattle.qv_syntax.specs.declared.program.Var.{Var}

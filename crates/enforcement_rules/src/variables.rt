@@ -34,7 +34,7 @@ fn push_variables(count: usize, found: &[Mention], out: &mut Seq<u32>) -> Result
 }
 
 /// The variables that the expression names, of a relation that has so many.
-pub(crate) fn variables_of(alloc: Global, count: usize, e: &Typed) -> Result<Seq<u32>, NoMemory>
+pub fn variables_of(alloc: Global, count: usize, e: &Typed) -> Result<Seq<u32>, NoMemory>
     ensures { IfOk result (λ out. out ≡ variables_of count e.now) }
 {
     let found = mentions(alloc, e)?;

@@ -22,7 +22,8 @@ use Rattle.qvtr_types.specs.PlacedFaults.{AreRoots, IsClauseOf, AreAloneRelated}
 use Rattle.qvtr_types.specs.LoneArguments.{CallsRelated, IsUnrelatedFault}
 use Rattle.qvtr_types.specs.ScriptScopes.{reach_before}
 use Rattle.script_variables.proofs.BindingLaws.{number_at, number_had}
-use Rattle.script_scopes.proofs.CallRowLaws.{named_by, number_by, some_among, among_some}
+use Rattle.script_scopes.proofs.CallRowLaws.{named_by, number_by, among_some}
+use Rattle.mof_metamodel.proofs.Facts.{contains_at}
 use Rattle.script_scopes.proofs.OnceLemmas.{new_names-distinct}
 use Rattle.qvtr_types.proofs.RootLaws.{one_place}
 use Rattle.qvtr_types.proofs.ZipLemmas.{zip_left, zip_right}
@@ -46,7 +47,7 @@ module _ (s : Setting) (r : RelationTree) (vars : List Var) (roots : List (List 
         conjunct = h.conjunct;
         among = h.among;
         is = subst (λ (n : List ℕ). call_of h.conjunct ≡ Some (n, calls.args)) (sym named) calls.is_call;
-        relation = some_among (relations_of s.script) call.number called found;
+        relation = contains_at (relations_of s.script) call.number called found;
       })
       one.given asked var.alone (number_at (variables_of r) var.v var.named.place var.named.named) var.named.found root one.unrelated.unrelated)
 
@@ -62,7 +63,7 @@ module _ (s : Setting) (r : RelationTree) (vars : List Var) (roots : List (List 
         let (k, there) = among_some (relations_of s.script) called call.relation in
         let (its, has, are) = zip_right (AreRoots s) (relations_of s.script) roots k called all there in
         let (x, at, own) = zip_right (λ d y. IsRoot s called d (typing_of y)) called.domains its place domain are asked in
-        let among = some_among (variables_of r) number v named in
+        let among = contains_at (variables_of r) number v named in
         let first = number_had (variables_of r) v among in
         let same : position_or_len (same_name v) (variables_of r) ≡ number =
         one_place (variables_of r) (position_or_len (same_name v) (variables_of r)) number v (new_names-distinct [] (occurrences r)) (number_at (variables_of r) v (position_or_len (same_name v) (variables_of r)) first) named in

@@ -35,7 +35,8 @@ use Rattle.qvtr_types.specs.Equations.{has_equation, equation_test, equation_beh
 use Rattle.script_variables.specs.SettledRelations.{HaveOneType}
 use Rattle.qvtr_types.specs.ResolvedConjuncts.{ClauseReach, reach_of, called_number, HasRootTypes, IsResolved, StandsInConjunct, AreResolved, StandsInOne}
 use Rattle.qvtr_types.specs.ClauseSettings.{vars_of, roots_of, IsClauseScopeOf}
-use Rattle.script_scopes.proofs.CallRowLaws.{named_by, number_by, within_some, some_among, among_some}
+use Rattle.script_scopes.proofs.CallRowLaws.{named_by, number_by, within_some, among_some}
+use Rattle.mof_metamodel.proofs.Facts.{contains_at}
 use Rattle.qvtr_types.proofs.ZipLemmas.{zip_left, zip_right, zip_length}
 use Rattle.qvtr_types.proofs.DataNameLaws.{when_passes, when_passed, where_passes, where_passed}
 use Rattle.qvtr_types.proofs.ResolvedConjunctLaws.{reach_in, calls_number, calls_none, resolved_count, resolved_at, are_conjuncts}
@@ -75,7 +76,7 @@ module _ (s : Setting) (r : RelationTree) (vars : List Var) (roots : List (List 
           conjunct = c;
           among = among;
           is = subst (λ (n : List ℕ). call_of c ≡ Some (n, args)) (sym h.named) is;
-          relation = some_among (relations_of s.script) number h.called h.found;
+          relation = contains_at (relations_of s.script) number h.called h.found;
         })
         h.are
         (subst (λ (n : List ℕ). StandsInArguments env n h.its args f) (sym h.named) (subst (λ (rs : List Var). StandsInArguments env name rs args f) same stands))
@@ -114,7 +115,7 @@ module _ (s : Setting) (r : RelationTree) (vars : List Var) (roots : List (List 
       no_condition : (e : Expr) (o : Option (List ℕ × Expr)) (c : Conj) (f : TypeFault) → IsResolved reach o e c → ((name : List ℕ) (args : List Expr) → call_of e ≡ Some (name, args) → IsRelationName s.script name → ⊥)
           → StandsInCondition env e f → ⊥
       no_condition e o _ f (IsResolved.call name args number asked trees is called at fit) none stands =
-          let h = is_called e name args number is called in none name args is (h.called, some_among (relations_of s.script) number h.called h.found, h.named)
+          let h = is_called e name args number is called in none name args is (h.called, contains_at (relations_of s.script) number h.called h.found, h.named)
       no_condition e o _ f (IsResolved.equation v value t whole uncalled one has boolean) none stands = conditions e whole boolean f stands
       no_condition e o _ f (IsResolved.condition t uncalled is boolean) none stands = conditions e t boolean f stands
 

@@ -36,7 +36,7 @@ use Rattle.script_scopes.specs.Resolutions.{domain_reach, model_number, marker_o
 use Rattle.qvtr_types.specs.ResolvedDomains.{RelationReach, shown_scope, domain_in, HasKnownModel, IsDomainIn, AreDomainsFrom, IsMeantIn, IsLocatedFault}
 use Rattle.qvtr_types.specs.RelationSettings.{IsReachOf}
 use Rattle.script_scopes.proofs.MemberLemmas.{to_filter_map}
-use Rattle.script_scopes.proofs.CallRowLaws.{some_among}
+use Rattle.mof_metamodel.proofs.Facts.{contains_at}
 use Rattle.script_variables.proofs.FirstEntryLemmas.{first_value}
 use Rattle.script_variables.proofs.LocatedLaws.{located_piece, piece_located}
 use Rattle.script_scopes.proofs.DivisionLaws.{first, past}
@@ -126,7 +126,7 @@ module _ (s : Setting) (r : RelationTree) (vars : List Var) (scope : RelationSco
       (subst (λ (d : DomainReach). StandsAtPiece d fault.piece.1 f) (reach_is fault.piece.0 known) fault.stands)
     where
       domain_among : (domain : DomainTree) (piece : Piece) → HasPiece r domain piece → Contains r.domains domain
-      domain_among domain piece has = some_among r.domains has.place domain has.found
+      domain_among domain piece has = contains_at r.domains has.place domain has.found
 
   pub none_in_items : ((e : Expr) (p q : TypedPart) → HasType scope.env.now e p → HasType scope.env.now e q → p ≡ q)
       → ((e : Expr) (t : Typed) → HasTree scope.env.now e t → typed scope.env.now e ≡ Ok t)
@@ -138,7 +138,7 @@ module _ (s : Setting) (r : RelationTree) (vars : List Var) (scope : RelationSco
       (subst (λ (env : Environment). (e : Expr) (t : Typed) → HasTree env e t → typed env e ≡ Ok t) (sym h.reach) only)
       (subst (λ (env : Environment). (e : Expr) (f : TypeFault) → Stands env e f → (g : TypeFault) × (typed env e ≡ Err g)) (sym h.reach) fails)
       (λ domain model piece has of_model.
-      let known : Contains (model_names s.script.models) model = model_known s h.order r h.among domain model (some_among r.domains has.place domain has.found) of_model in
+      let known : Contains (model_names s.script.models) model = model_known s h.order r h.among domain model (contains_at r.domains has.place domain has.found) of_model in
       subst (λ (d : DomainReach). IsMeant d piece) (reach_is model known)
       (All-contains (IsMeantIn reach) (located r) (model, piece) all (piece_located model piece r domain has of_model)))
       f stands

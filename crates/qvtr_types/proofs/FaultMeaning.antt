@@ -27,7 +27,7 @@ use Rattle.script_scopes.specs.Faults.{IsExpression, IsExpressionOf, IsRoot, Sta
 use Rattle.qvtr_types.specs.Expressions.{HasTyping, StandsInCondition, StandsInGiven, StandsInArguments}
 use Rattle.qvtr_types.specs.PlacedFaults.{AreRoots, IsClauseOf, CallsNone, AreAloneRelated, StandsInClauses, StandsInItems}
 use Rattle.qvtr_types.specs.VariableLists.{HaveOneList}
-use Rattle.script_scopes.proofs.CallRowLaws.{some_among}
+use Rattle.mof_metamodel.proofs.Facts.{contains_at}
 use Rattle.qvtr_types.proofs.InRelationLaws.{typing_expression, expression_typing}
 use Rattle.qvtr_types.proofs.RootLaws.{some_roots, one_root}
 use Rattle.qvtr_types.proofs.ZipLemmas.{zip_left, zip_right, zip_length}
@@ -66,8 +66,8 @@ module _ (s : Setting) (r : RelationTree) (vars : List Var) where
           → IsClauseOf r clause → CallsWith s.script clause called args → slice_get args place ≡ Some e → slice_get called.domains place ≡ Some domain → IsRoot s called domain (typing_of root)
           → StandsInGiven (in_relation s r vars) (typing_of root) called.name.text e f → StandsInExpressions s r vars f
       given_stands clause called args place e domain root f of call at_arg at_domain is_root (StandsInGiven.typing stands) =
-          StandsInExpressions.typing e f (IsExpressionOf.argument clause called args of call (some_among args place e at_arg))
-          (argument_placed clause called args e of call (some_among args place e at_arg)) stands
+          StandsInExpressions.typing e f (IsExpressionOf.argument clause called args of call (contains_at args place e at_arg))
+          (argument_placed clause called args e of call (contains_at args place e at_arg)) stands
       given_stands clause called args place e domain root f of call at_arg at_domain is_root (StandsInGiven.type tree t has apart same) =
           subst (StandsInExpressions s r vars) (sym same)
           (StandsInExpressions.argument clause called args place e domain t (typing_of root) (wrong_type s.metas root.ty t.ty) of call at_arg at_domain (told e tree t has) is_root (StandsInPlace.type apart))

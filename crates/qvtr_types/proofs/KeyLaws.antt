@@ -16,7 +16,8 @@ use Rattle.ocl_environments.specs.declared.fault.TypeFault.{TypeFault}
 use Rattle.ocl_environments.specs.Environments.{Environment, no_meta}
 use Rattle.ocl_environments.specs.Classifiers.{named_class}
 use Rattle.ocl_types.proofs.ClassifierLaws.{class_there}
-use Rattle.ocl_environments.proofs.TypeLaws.{both_true, and_true}
+use Rattle.std.proofs.lemmas.Bool.{and_from}
+use Rattle.std.proofs.lemmas.Bool.{and_parts}
 use Rattle.script_scopes.specs.Declarations.{key_class}
 use Rattle.script_scopes.specs.Keys.{IsKey, StandsInKey, IsSecondKey, AreKeys, StandsInKeys}
 use Rattle.qvtr_types.specs.ClassPlaces.{IsClassAt}
@@ -77,10 +78,10 @@ one_key_stands env trees f h = StandsInKeys.key h.tree f h.among h.stands
 -- ---- classes that were met
 
 same_class : (a b : ℕ × ℕ) → one_class a b ≡ true → (a.0 ≡ b.0) × (a.1 ≡ b.1)
-same_class a b is = let two = both_true (nat_eq a.0 b.0) (nat_eq a.1 b.1) is in (eqb-true a.0 b.0 two.0, eqb-true a.1 b.1 two.1)
+same_class a b is = let two = and_parts (nat_eq a.0 b.0) (nat_eq a.1 b.1) is in (eqb-true a.0 b.0 two.0, eqb-true a.1 b.1 two.1)
 
 is_same_class : (a b : ℕ × ℕ) → a.0 ≡ b.0 → a.1 ≡ b.1 → one_class a b ≡ true
-is_same_class a b one other = and_true (nat_eq a.0 b.0) (nat_eq a.1 b.1) (eq-eqb a.0 b.0 one) (eq-eqb a.1 b.1 other)
+is_same_class a b one other = and_from (nat_eq a.0 b.0) (nat_eq a.1 b.1) (eq-eqb a.0 b.0 one) (eq-eqb a.1 b.1 other)
 
 either_way : (a b : Bool) → (a || b) ≡ (b || (a || false))
 either_way true true = refl

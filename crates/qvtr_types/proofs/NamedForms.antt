@@ -40,8 +40,8 @@ use Rattle.script_scopes.specs.declared.usage.Usage.{Usage}
 use Rattle.script_scopes.specs.declared.usage.Usage.TheVariants as usages_of
 use Rattle.script_scopes.specs.Usages.{is_of, without, variable_in}
 use Rattle.qvtr_types.specs.TypedUsages.{HasNumber}
-use Rattle.ocl_types.proofs.ConformanceLaws.{nothing_in}
-use Rattle.script_variables.proofs.DerivationLaws.{only_in}
+use Rattle.mof_metamodel.proofs.Facts.{nothing_in}
+use Rattle.mof_metamodel.proofs.Facts.{only_one}
 use Rattle.qvtr_types.proofs.NamedVariables.{AreSame, alone, out_variable, variable_number}
 
 -- ---- a variable
@@ -60,11 +60,11 @@ leaf_number ty m number x is w = by (record { ty = ty; node = nodes.Variable m }
 pub variable_named : (env : Environment) (name : List ℕ) (p : TypedPart) → (variable_judged env name).has p → AreSame env (usages_of.Variable name ∷ []) (tree_of p ∷ [])
 variable_named env name p is = subst (λ (q : TypedPart). AreSame env (usages_of.Variable name ∷ []) (tree_of q ∷ [])) (sym is.2) (record {
   listed = λ other c.
-      let same : name ≡ other = same_Some name other (ap variable_in (only_in (usages_of.Variable name) (usages_of.Variable other) c)) in
+      let same : name ≡ other = same_Some name other (ap variable_in (only_one (usages_of.Variable name) (usages_of.Variable other) c)) in
       (is.0.0, subst (λ n. HasNumber env n is.0.0) same (is.0.1, is.1), (e, alone e, (is.0.1.ty, IsWithin.whole e)));
   named = λ number within h.
       let x : Typed = record { ty = h.2.0; node = nodes.Variable number } in
-      let w : IsWithin e x = subst (λ (t : Typed). IsWithin t x) (sym (only_in e h.0 h.1)) h.2.1 in
+      let w : IsWithin e x = subst (λ (t : Typed). IsWithin t x) (sym (only_one e h.0 h.1)) h.2.1 in
       let same : is.0.0 ≡ number = leaf_number is.0.1.ty is.0.0 number x refl w in
       (name, subst (HasNumber env name) same (is.0.1, is.1), alone (usages_of.Variable name));
 })

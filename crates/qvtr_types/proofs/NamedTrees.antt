@@ -37,7 +37,7 @@ use Rattle.ocl_types.specs.TypeRules.{linked_judged, names_judged, literal_judge
 use Rattle.ocl_types.specs.HasType.{Judgment, LinkJudgment, CallJudgment, ArgsJudgment, each, linked, called, called_part_judged, first_judged, calls_judged, query_args, dot_args, arrow_args, expr_rule, link_rule_of, call_rule, args_rule, judgment, link_judgment, call_judgment, args_judgment, HasType, HasTree}
 use Rattle.ocl_types.proofs.JudgmentLaws.{expr_unrolled, link_unrolled, call_unrolled, args_unrolled}
 use Rattle.ocl_types.proofs.TypedParts.{finds_has}
-use Rattle.ocl_environments.proofs.TypeLaws.{both_true}
+use Rattle.std.proofs.lemmas.Bool.{and_parts}
 use Rattle.script_scopes.specs.declared.usage.Usage.{Usage}
 use Rattle.script_scopes.specs.declared.usage.Usage.TheVariants as usages_of
 use Rattle.script_scopes.specs.Usages.{ExprUsages, CallUsages, ArgsUsages, without, variable_in, named_usages, is_extent, calls_usages, expr_step, infix_step, postfix_step, args_step, expr_usages, infix_usages, postfix_usages, args_usages, usages, variables_in}
@@ -46,7 +46,7 @@ use Rattle.qvtr_types.specs.TypedUsages.{NamesThose}
 use Rattle.script_scopes.proofs.UsageLemmas.{all_instances_alike}
 use Rattle.script_scopes.proofs.MemberLemmas.{from_filter_map, to_filter_map}
 use Rattle.ocl_types.proofs.ConformanceLaws.{in_either, later_in}
-use Rattle.script_variables.proofs.DerivationLaws.{only_in}
+use Rattle.mof_metamodel.proofs.Facts.{only_one}
 use Rattle.qvtr_types.proofs.NamedVariables.{AreSame, is_variable, alone, no_names, beside, by_parts}
 use Rattle.qvtr_types.proofs.NamedForms.{variable_named, outside_named, called_parts, CallsMore, property_calls, operation_calls, class_operation_calls, collection_operation_calls, iterator_calls}
 
@@ -378,7 +378,7 @@ call_layer (of.Property n) = call_held (of.Property n) (record {
 call_layer (of.Dot n a span) = call_held (of.Dot n a.0 span) (record {
   after = λ env c d before same h. dot_named env n.text (args_judgment a.0) (args_usages a.0) a.1 (args_judgment a.0).class refl c d before same h;
   alike = ap (λ b. is_all_instances n.text && b) a.1.alike ∙ ap (λ b. b && (args_usages a.0).is_empty) (all_instances_alike n.text);
-  bare = λ is. a.1.bare (both_true (usage.is_all_instances n.text) (args_usages a.0).is_empty is).1;
+  bare = λ is. a.1.bare (and_parts (usage.is_all_instances n.text) (args_usages a.0).is_empty is).1;
 })
 call_layer (of.Arrow n a span) = call_held (of.Arrow n a.0 span) (record {
   after = λ env c d before same h. arrow_named env n.text (args_judgment a.0) (args_usages a.0) a.1 (args_judgment a.0).class c d before same h;
@@ -511,7 +511,7 @@ variables_told env e t (p, has, is) = subst (NamesThose env (variables_in e)) (s
   listed = λ name c.
       let u = from_filter_map variable_in (usages e) name c in
       let h = same.listed name (subst (Contains (usages e)) (variable_is u.0 name u.2) u.1) in
-      (h.0, h.1, subst (λ x. Names x h.0) (sym (only_in (tree_of p) h.2.0 h.2.1)) h.2.2);
+      (h.0, h.1, subst (λ x. Names x h.0) (sym (only_one (tree_of p) h.2.0 h.2.1)) h.2.2);
   named = λ number within names.
       let n = same.named number within (tree_of p, alone (tree_of p), names) in
       (n.0, n.1, to_filter_map variable_in (usages e) (usages_of.Variable n.0) n.0 n.2 refl);

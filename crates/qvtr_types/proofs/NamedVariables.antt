@@ -13,10 +13,10 @@ use Rattle.qv_syntax.specs.declared.typed.TypedInfix.{TypedInfix}
 use Rattle.qv_syntax.specs.declared.typed.TypedPostfix.{TypedPostfix}
 use Rattle.qv_syntax.specs.Parts.{IsWithin, Names, parts_of, node_parts}
 use Rattle.ocl_environments.specs.Environments.{Environment}
-use Rattle.ocl_types.proofs.ConformanceLaws.{nothing_in}
+use Rattle.mof_metamodel.proofs.Facts.{nothing_in}
 use Rattle.script_scopes.specs.declared.usage.Usage.{Usage}
 use Rattle.script_scopes.specs.declared.usage.Usage.TheVariants as usages_of
-use Rattle.script_variables.proofs.DerivationLaws.{only_in}
+use Rattle.mof_metamodel.proofs.Facts.{only_one}
 use Rattle.qvtr_types.specs.TypedUsages.{HasNumber}
 
 -- ---- lists
@@ -83,7 +83,7 @@ by_parts env us ty node d is other same = record {
       (h.0, h.1, (e, alone e, names));
   named = λ number within h.
       let x : Typed = record { ty = h.2.0; node = nodes.Variable number } in
-      let w : IsWithin e x = subst (λ (t : Typed). IsWithin t x) (sym (only_in e h.0 h.1)) h.2.1 in
+      let w : IsWithin e x = subst (λ (t : Typed). IsWithin t x) (sym (only_one e h.0 h.1)) h.2.1 in
       let p = within_parts e x number apart refl w in
       same.named number within (p.0, subst (λ (x : Layer). Contains (node_parts x) p.0) is p.1, (h.2.0, p.2));
 }

@@ -25,7 +25,8 @@ use Rattle.script_scopes.specs.Declarations.{relation_names, IsRepeated}
 use Rattle.script_scopes.specs.Directions.{CallsIn, IsPath}
 use Rattle.script_scopes.specs.Environments.{Setting}
 use Rattle.script_scopes.specs.Resolutions.{IsData, IsConjunct, AreConjuncts, IsRelation}
-use Rattle.script_scopes.proofs.CallRowLaws.{within_some, some_among, among_some, named_by, number_by}
+use Rattle.script_scopes.proofs.CallRowLaws.{within_some, among_some, named_by, number_by}
+use Rattle.mof_metamodel.proofs.Facts.{contains_at}
 use Rattle.qvtr_types.proofs.ZipLemmas.{zip_left, zip_right}
 
 -- ---- conjuncts
@@ -56,9 +57,9 @@ module _ (s : Setting) (once : (name : List ℕ) → IsRepeated (relation_names 
               given,
               record {
                 conjunct = e;
-                among = some_among (clause_conjuncts clause) k e there;
+                among = contains_at (clause_conjuncts clause) k e there;
                 is = is ∙ ap (λ (m : List ℕ). Some (m, given)) (sym found.2);
-                relation = some_among (relations_of s.script) number found.0 found.1;
+                relation = contains_at (relations_of s.script) number found.0 found.1;
               },
             ),
           )
@@ -78,7 +79,7 @@ module _ (s : Setting) (once : (name : List ℕ) → IsRepeated (relation_names 
       by k e there is _ (IsConjunct.call name given n trees says at zip) stands =
           let name_is : name ≡ called.name.text = ap (λ p. p.0) (same_Some (name, given) (called.name.text, args) (sym says ∙ is)) in
           let number_is : n ≡ number = same_Some n number (sym at ∙ ap (λ (m : List ℕ). position (same_name m) (relation_names s.script)) name_is ∙ number_by s.script once number called found) in
-          (trees, subst (λ m. Contains cs (conjs.Call m trees)) number_is (some_among cs k (conjs.Call n trees) stands))
+          (trees, subst (λ m. Contains cs (conjs.Call m trees)) number_is (contains_at cs k (conjs.Call n trees) stands))
       by k e there is _ (IsConjunct.equation v f t given tree) stands =
           let says = gives k v f given in
           let same : says.0 ≡ e = same_Some says.0 e (sym says.1 ∙ there) in
@@ -86,7 +87,7 @@ module _ (s : Setting) (once : (name : List ℕ) → IsRepeated (relation_names 
       by k e there is _ (IsConjunct.condition t none other tree) stands = absurd (none called.name.text args is (called, call_relation, refl))
         where
           call_relation : Contains (relations_of s.script) called
-          call_relation = some_among (relations_of s.script) number called found
+          call_relation = contains_at (relations_of s.script) number called found
 
 -- ---- paths and strata
 
@@ -104,19 +105,19 @@ module _ (s : Setting) (once : (name : List ℕ) → IsRepeated (relation_names 
   where_to r rel is = call_to s once r rel.vars (IsWhereEquation (IsData s r) s.target r) r.wheres rel.wheres is.wheres (λ place v e q. (q.given.conjunct, q.given.found, q.given.is))
 
   path_from : (number count : ℕ) → programs.IsCallPath program number count → (r : RelationTree) → slice_get (relations_of s.script) number ≡ Some r → (last : RelationTree) × IsPath s.script r last count
-  path_from _ _ (programs.IsCallPath.end number) r found = (r, IsPath.end r (some_among (relations_of s.script) number r found))
+  path_from _ _ (programs.IsCallPath.end number) r found = (r, IsPath.end r (contains_at (relations_of s.script) number r found))
   path_from _ _ (programs.IsCallPath.by_when number rel called count at calls path) r found =
       let there = zip_right (IsRelation s) (relations_of s.script) program.rels number r are found in
       let same : there.0 ≡ rel = same_Some there.0 rel (sym there.1 ∙ at) in
       let call = when_from r rel (subst (IsRelation s r) same there.2) called calls in
       let rest = path_from called count path call.0 call.1 in
-      (rest.0, IsPath.by_when r call.0 rest.0 count (some_among (relations_of s.script) number r found) call.2 rest.1)
+      (rest.0, IsPath.by_when r call.0 rest.0 count (contains_at (relations_of s.script) number r found) call.2 rest.1)
   path_from _ _ (programs.IsCallPath.by_where number rel called count at calls path) r found =
       let there = zip_right (IsRelation s) (relations_of s.script) program.rels number r are found in
       let same : there.0 ≡ rel = same_Some there.0 rel (sym there.1 ∙ at) in
       let call = where_from r rel (subst (IsRelation s r) same there.2) called calls in
       let rest = path_from called count path call.0 call.1 in
-      (rest.0, IsPath.by_where r call.0 rest.0 count (some_among (relations_of s.script) number r found) call.2 rest.1)
+      (rest.0, IsPath.by_where r call.0 rest.0 count (contains_at (relations_of s.script) number r found) call.2 rest.1)
 
   path_to : (r last : RelationTree) (count : ℕ) → IsPath s.script r last count → (number : ℕ) → slice_get (relations_of s.script) number ≡ Some r → programs.IsCallPath program number count
   path_to _ _ _ (IsPath.end r among) number found = programs.IsCallPath.end number

@@ -12,7 +12,7 @@ use Rattle.std.proofs.lemmas.List.Elements.{All-contains}
 use Rattle.mof_metamodel.specs.declared.desc.MetaDesc.{MetaDesc}
 use Rattle.mof_metamodel.specs.declared.desc.ClassId.{ClassId}
 use Rattle.mof_metamodel.specs.Metamodels.{class_count}
-use Rattle.mof_metamodel.proofs.SearchLemmas.{and_left}
+use Rattle.mof_metamodel.proofs.Facts.{first_true}
 use Rattle.mof_metamodel.specs.Characters.{same_name}
 use Rattle.qv_syntax.specs.declared.name.Path.{Path}
 use Rattle.qv_syntax.specs.declared.type_tree.Kind.{Kind}
@@ -35,7 +35,7 @@ use Rattle.ocl_types.specs.TypingScopes.{flat, flat_by}
 use Rattle.ocl_environments.specs.Written.{written}
 use Rattle.ocl_types.proofs.DeclaredLemmas.{declared_is_type}
 use Rattle.ocl_types.proofs.LayerLaws.{class_of_class, is_class}
-use Rattle.ocl_environments.proofs.TypeLaws.{and_true}
+use Rattle.std.proofs.lemmas.Bool.{and_from}
 use Rattle.script_scopes.specs.ScriptNames.{model_names}
 use Rattle.script_scopes.specs.Conjuncts.{clause_conjuncts}
 use Rattle.script_scopes.specs.Occurrences.{WrittenProperty, relations_of, occurrences, variables_of, root_of, template_body}
@@ -54,7 +54,8 @@ use Rattle.qvtr_types.specs.LoneArguments.{CallsRelated}
 use Rattle.qvtr_types.specs.ScriptScopes.{IsDeclared, IsSettledWith, reach_before, HasRelatedArguments}
 use Rattle.script_variables.specs.SettledRelations.{HasOneType}
 use Rattle.script_variables.proofs.BindingLaws.{number_at, number_had}
-use Rattle.script_scopes.proofs.CallRowLaws.{number_by, some_among, among_some}
+use Rattle.script_scopes.proofs.CallRowLaws.{number_by, among_some}
+use Rattle.mof_metamodel.proofs.Facts.{contains_at}
 use Rattle.qvtr_types.proofs.DomainLaws.{model_known}
 use Rattle.qvtr_types.proofs.DataNameLaws.{zip_here}
 use Rattle.script_variables.proofs.NameOrderLaws.{relations_once as names_once}
@@ -85,9 +86,9 @@ related_meta metas m n c d (inr other) = sym (conforms_meta metas n m d c other)
 -- a class of a metamodel is a type of a variable
 class_type : (metas : List MetaDesc) (m : ℕ) (c : ClassId) → m < length metas → c.0 < class_count (meta_at metas m) → IsTrue (is_type metas (types.Class m c))
 class_type metas m c in_metas in_meta =
-    and_true (is_over metas (types.Class m c)) (is_flat (types.Class m c))
+    and_from (is_over metas (types.Class m c)) (is_flat (types.Class m c))
     (ap (is_over metas) (sym (types.rolls-Class m c)) ∙ fold-roll-Ty Bool (is_over_step metas) (of.Class m c)
-    ∙ and_true (nat_lt m (length metas)) (nat_lt c.0 (class_count (meta_at metas m))) (lt-ltb m (length metas) in_metas) (lt-ltb c.0 (class_count (meta_at metas m)) in_meta))
+    ∙ and_from (nat_lt m (length metas)) (nat_lt c.0 (class_count (meta_at metas m))) (lt-ltb m (length metas) in_metas) (lt-ltb c.0 (class_count (meta_at metas m)) in_meta))
     (flat_class m c)
   where
     flat_class : (m : ℕ) (c : ClassId) → is_flat (types.Class m c) ≡ true
@@ -158,7 +159,7 @@ pub own_types : (s : Setting) → AreInOrder s.script s.target → (r : Relation
 own_types s order r vars own i d l =
     let var = get_or vars i d in
     let (v, named, is) = zip_left (IsVariable s r) (variables_of r) vars i var own.are (slice_get-get_or vars i d l) in
-    and_left (is_over s.metas var.ty) (is_flat var.ty) (type_within s order r own.among own.faultless v var.ty is.typed)
+    first_true (is_over s.metas var.ty) (is_flat var.ty) (type_within s order r own.among own.faultless v var.ty is.typed)
 
 -- and so have the roots
 pub settled_types : (s : Setting) → AreInOrder s.script s.target → (roots : List (List Var)) → AllZip (IsSettledWith s) (relations_of s.script) roots → All (HaveTypes s.metas) roots
@@ -167,7 +168,7 @@ settled_types s order roots all i d l j e m =
     let root = get_or its j e in
     let (called, found, settled) = zip_left (IsSettledWith s) (relations_of s.script) roots i its all (slice_get-get_or roots i d l) in
     let (domain, asked, named) = zip_left (λ d root. IsNamed (variables_of called) settled.vars (root_of d) root) called.domains its j root settled.has (slice_get-get_or its j e m) in
-    All-contains (λ v. IsTrue (is_over s.metas v.ty)) settled.vars root (own_types s order called settled.vars settled.declared) (some_among settled.vars named.place root named.found)
+    All-contains (λ v. IsTrue (is_over s.metas v.ty)) settled.vars root (own_types s order called settled.vars settled.declared) (contains_at settled.vars named.place root named.found)
 
 -- ---- its variables, where the roots of all relations are known
 
@@ -212,7 +213,7 @@ module _ (s : Setting) (order : AreInOrder s.script s.target) (roots : List (Lis
     argument_known clause v domain model arg of =
         let (number, found) = among_some (relations_of s.script) arg.called arg.call.relation in
         let (its, at, settled) = zip_right (IsSettledWith s) (relations_of s.script) roots number arg.called all found in
-        model_known s order arg.called arg.call.relation domain model (some_among arg.called.domains arg.place domain arg.asked) of
+        model_known s order arg.called arg.call.relation domain model (contains_at arg.called.domains arg.place domain arg.asked) of
 
     model_there : (v model : List ℕ) → HasModel s.script r v model → Contains (model_names s.script.models) model
     model_there v model (HasModel.template domain at path piece of) = model_known s order r own.among domain model (domain_among r domain (begins at v path) piece) of
@@ -239,8 +240,8 @@ module _ (s : Setting) (order : AreInOrder s.script s.target) (roots : List (Lis
             let names = length-map s.script.models (λ m. m.name.text) in
             let inside : model_number s model < length (slots_of s.script) = omega (arith, below, place, slots, names) in
             subst (λ (k : ℕ). IsTrue (is_object_type (in_script s) var.ty k)) (sym n_is)
-            (and_true (nat_lt (model_number s model) (length (slots_of s.script)) && option_map_or (λ d. d.0 == (slot_at (slots_of s.script) (model_number s model)).meta) (class_of var.ty) false) (is_type s.metas var.ty)
-            (and_true (nat_lt (model_number s model) (length (slots_of s.script))) (option_map_or (λ d. d.0 == (slot_at (slots_of s.script) (model_number s model)).meta) (class_of var.ty) false)
+            (and_from (nat_lt (model_number s model) (length (slots_of s.script)) && option_map_or (λ d. d.0 == (slot_at (slots_of s.script) (model_number s model)).meta) (class_of var.ty) false) (is_type s.metas var.ty)
+            (and_from (nat_lt (model_number s model) (length (slots_of s.script))) (option_map_or (λ d. d.0 == (slot_at (slots_of s.script) (model_number s model)).meta) (class_of var.ty) false)
             (lt-ltb (model_number s model) (length (slots_of s.script)) inside)
             (ap (λ (o : Option (ℕ × ClassId)). option_map_or (λ d. d.0 == (slot_at (slots_of s.script) (model_number s model)).meta) o false) is
             ∙ eq-eqb c.0 (meta_of s.script model) (model_meta v var p c.0 c.1 same model has.has)))
@@ -256,7 +257,7 @@ module _ (s : Setting) (order : AreInOrder s.script s.target) (roots : List (Lis
         let var = get_or vars i d in
         let found : slice_get vars i ≡ Some var = slice_get-get_or vars i d l in
         let (v, named, is) = zip_left (IsVariable s r) (variables_of r) vars i var own.are found in
-        let there = some_among (variables_of r) i v named in
+        let there = contains_at (variables_of r) i v named in
         let at = number_had (variables_of r) v there in
         let place : position_or_len (same_name v) (variables_of r) ≡ i =
         one_place (variables_of r) (position_or_len (same_name v) (variables_of r)) i v (new_names-distinct [] (occurrences r)) (number_at (variables_of r) v (position_or_len (same_name v) (variables_of r)) at) named in

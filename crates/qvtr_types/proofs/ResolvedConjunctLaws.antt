@@ -29,7 +29,8 @@ use Rattle.qvtr_types.specs.Equations.{with_given, given_by, given_after, equati
 use Rattle.qvtr_types.specs.Expressions.{HaveTypes, AreArguments, HasTyping, IsCondition}
 use Rattle.qvtr_types.specs.declared.resolved_conjuncts.ClauseScope.{ClauseScope}
 use Rattle.qvtr_types.specs.ResolvedConjuncts.{ClauseReach, reach_of, HasRootTypes, called_number, IsResolved, AreResolved}
-use Rattle.script_scopes.proofs.CallRowLaws.{within_some, some_among}
+use Rattle.script_scopes.proofs.CallRowLaws.{within_some}
+use Rattle.mof_metamodel.proofs.Facts.{contains_at}
 use Rattle.script_scopes.proofs.CallLaws.{relation_named}
 use Rattle.script_variables.proofs.BindingLaws.{number_had}
 use Rattle.qvtr_types.proofs.GivenLaws.{equation_from, equation_to}
@@ -47,7 +48,7 @@ module _ (scope : ClauseScope) (place : ℕ) (its : List (Bor Var)) (within : pl
       slice_get-map (map (λ (r : Bor Var). r.now)) scope.roots.now place ∙ ap (option_map (map (λ (r : Bor Var). r.now))) (slice_get-get_or scope.roots.now place its below ∙ ap Some (sym is))
 
   pub roots_typed : HaveTypes scope.env.now.metas (map (λ r. r.now) its)
-  roots_typed = All-contains (HaveTypes scope.env.now.metas) (reach_of scope).roots (map (λ r. r.now) its) h.types (some_among (reach_of scope).roots place (map (λ r. r.now) its) roots_at)
+  roots_typed = All-contains (HaveTypes scope.env.now.metas) (reach_of scope).roots (map (λ r. r.now) its) h.types (contains_at (reach_of scope).roots place (map (λ r. r.now) its) roots_at)
 
 -- ---- one after another
 

@@ -20,8 +20,9 @@ use Rattle.ocl_environments.specs.Naming.{names_of}
 use Rattle.ocl_types.specs.TypeRules.{HasPropertyNamed}
 use Rattle.ocl_types.specs.TypingSteps.{described}
 use Rattle.ocl_types.proofs.NumberLaws.{class_property_is}
-use Rattle.ocl_types.proofs.RangeLaws.{true_lt, property_over, over_class}
-use Rattle.ocl_environments.proofs.TypeLaws.{and_true}
+use Rattle.ocl_types.proofs.RangeLaws.{property_over, over_class}
+use Rattle.std.proofs.lemmas.Bool.{lt-ltb}
+use Rattle.std.proofs.lemmas.Bool.{and_from}
 use Rattle.script_scopes.specs.Occurrences.{WrittenProperty}
 use Rattle.script_scopes.specs.Declarations.{template_class}
 use Rattle.qvtr_types.specs.ClassPlaces.{IsClassAt}
@@ -75,7 +76,7 @@ module _ (reach : DomainReach) (at : WrittenProperty) (class : ClassId) (named :
         let found : HasPropertyNamed metas (types.Class reach.meta class) at.name (prop, gives, of) =
         class_property_is metas reach.meta class at.name (prop, gives, of)
         (ap (λ b. if b then option_and_then (described reach.meta meta) (prop_number meta class.0 at.name) else None)
-        (and_true (nat_lt reach.meta (length metas)) (nat_lt class.0 (class_count meta)) (true_lt reach.meta (length metas) class_at.0) (true_lt class.0 (class_count meta) class_at.1))
+        (and_from (nat_lt reach.meta (length metas)) (nat_lt class.0 (class_count meta)) (lt-ltb reach.meta (length metas) class_at.0) (lt-ltb class.0 (class_count meta) class_at.1))
         ∙ ap (option_and_then (described reach.meta meta)) number
         ∙ by (type_of meta prop.0) typed) in
         record { is_class = named; number = number; gives = gives; has = found.property }

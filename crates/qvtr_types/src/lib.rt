@@ -4,6 +4,8 @@
 //! program that is, and which faults stand, is defined in `specs/Resolutions` and `specs/Faults` of the crate `script_scopes`, by names and
 //! as sets. A script resolves to one program at most (`programs_are_one`), which is well formed (`resolutions_are_well_formed`).
 //!
+//! `enforceable` says whether a program can be enforced towards its target, and else which relation breaks which rule.
+//!
 //! Its parts are `resolve_queries`, `resolve_keys` and, for each relation whose declarations are in order, `resolve_domains`, which gives
 //! the domains with their templates, and the resolution of both clauses.
 //!
@@ -33,6 +35,7 @@ mod templates;
 mod well_formed_laws;
 
 pub use domains::{RelationScope, resolve_domains};
+pub use enforcement_rules::{NotEnforceable, RuleError, enforceable};
 pub use expressions::{WantedValue, type_arguments, type_condition, type_equation, type_given};
 pub use keys::resolve_keys;
 pub use laws::{expression_faults_are_told, one_name_fault, places_are_told, variables_are_told};

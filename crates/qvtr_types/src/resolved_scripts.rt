@@ -168,6 +168,7 @@ fn resolve_parts(
     ensures distinct { OnOk result ((name : List ℕ) → ¬ IsRepeated (global_names script.now) name) }
     ensures none { OnOk result ((f : Fault) → ¬ IsFaultOf env.old.metas script.now (chars target.now) f) }
     ensures fault { IfFault result (IsFaultOf env.old.metas script.now (chars target.now)) }
+    ensures few { IfOk result (λ p. length p.queries ≤ most) }
 {
     query_typing_is_told(env);
     refuse_names(alloc, script, target)?;
@@ -242,6 +243,7 @@ pub fn resolve(
     ensures none { OnOk result ((f : Fault) → ¬ IsFaultOf metas.now script.now (chars target.now) f) }
     ensures fault { IfFault result (IsFaultOf metas.now script.now (chars target.now)) }
     ensures few { IfOk result (λ program. length program.rels ≤ most) }
+    ensures few_queries { IfOk result (λ program. length program.queries ≤ most) }
 {
     let mut env = script_reach(alloc, script, metas)?;
     let parts = resolve_parts(alloc, &mut env, script, target);

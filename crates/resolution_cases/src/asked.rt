@@ -17,6 +17,8 @@ pub enum Asked {
     Clauses,
     /// Whether names are those of the script.
     Names,
+    /// Whether it can be enforced.
+    Rules,
 }
 
 impl Asked {
@@ -53,6 +55,7 @@ fn asked_by(word: &str) -> Option<Asked> {
         "domains" => Some(Asked::Domains),
         "clauses" => Some(Asked::Clauses),
         "names" => Some(Asked::Names),
+        "enforceable" => Some(Asked::Rules),
         _ => None,
     }
 }

@@ -1,4 +1,7 @@
 //! What scripts resolve to.
+ghost use Rattle.std.specs.Prelude.{◌<◌, ◌^◌, length};
+ghost use Rattle.qv_syntax.specs.WellFormed.{IsWellFormed};
+
 use crate::asked::{Asked, Case};
 use crate::lines::put_line;
 use crate::programs::put_program;
@@ -7,7 +10,7 @@ use expression_settings::metamodels_named;
 use mof_metamodel::NoMemory;
 use ocl_environments::{Metas, TypeError};
 use qv_syntax::{Program, Script};
-use qvtr_types::resolve;
+use qvtr_types::{NotEnforceable, RuleError, enforceable, resolve};
 use script_files::type_fault_text;
 use script_scopes::metamodel_names;
 use std::alloc::Global;
@@ -57,9 +60,14 @@ fn put_over(
     Ok(())
 }
 
-fn put_asked(alloc: Global, pen: &mut Pen, metas: &Metas, asked: Asked, program: &Program) {
+fn put_asked(alloc: Global, pen: &mut Pen, metas: &Metas, asked: Asked, program: &Program)
+    requires formed { IsWellFormed metas.now program.now }
+    requires relations { length program.now.rels < 2 ^ 32 }
+    requires queries { length program.now.queries < 2 ^ 32 }
+{
     match asked {
         Asked::Verdict => pen.put(" resolved"),
+        Asked::Rules => put_rules(alloc, pen, metas, program),
         _ => put_program(alloc, pen, metas, asked, program),
     }
 }
@@ -68,5 +76,26 @@ fn put_fault(alloc: Global, pen: &mut Pen, error: &TypeError) {
     match error {
         TypeError::Fault(fault) => put_line(pen, &type_fault_text(alloc, "s.qvtr", fault)),
         TypeError::NoMemory => pen.put(" no memory"),
+    }
+}
+
+/// Whether the program can be enforced, and else the rule that is broken and the relation that breaks it.
+fn put_rules(alloc: Global, pen: &mut Pen, metas: &Metas, program: &Program)
+    requires formed { IsWellFormed metas.now program.now }
+    requires relations { length program.now.rels < 2 ^ 32 }
+    requires queries { length program.now.queries < 2 ^ 32 }
+{
+    match enforceable(alloc, program, metas) {
+        Ok(()) => pen.put(" ok"),
+        Err(RuleError::Broken(broken)) => put_broken(alloc, pen, program, broken),
+        Err(RuleError::NoMemory) => pen.put(" no memory"),
+    }
+}
+
+fn put_broken(alloc: Global, pen: &mut Pen, program: &Program, broken: NotEnforceable) {
+    let rule = broken.rule;
+    pen.put_string(format!(in alloc; " E{rule} "));
+    if let Some(rel) = program.rels.as_slice().get(broken.relation as usize) {
+        pen.put(rel.name.as_str());
     }
 }

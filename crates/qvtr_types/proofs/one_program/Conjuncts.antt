@@ -19,7 +19,8 @@ use Rattle.script_scopes.specs.Declarations.{relation_names}
 use Rattle.script_scopes.specs.Environments.{Setting, in_relation, place_of}
 use Rattle.script_scopes.specs.Resolutions.{IsConjunct, AreConjuncts}
 use Rattle.script_scopes.proofs.CallLaws.{named_relation}
-use Rattle.script_scopes.proofs.CallRowLaws.{within_some, some_among}
+use Rattle.script_scopes.proofs.CallRowLaws.{within_some}
+use Rattle.mof_metamodel.proofs.Facts.{contains_at}
 use Rattle.script_variables.proofs.BindingLaws.{number_at}
 use Rattle.script_variables.proofs.VariableLaws.{zip_one}
 use Rattle.qvtr_types.proofs.ProgramCallLaws.{apart}
@@ -34,7 +35,7 @@ module _ (s : Setting) (r : RelationTree) (vars : List Var) (same_tree : (e : Ex
 
   -- a name with a number is one of a relation
   numbered : (name : List ℕ) (number : ℕ) → position (same_name name) (relation_names s.script) ≡ Some number → IsRelationName s.script name
-  numbered name number at = named_relation s.script name (some_among (relation_names s.script) number name (number_at (relation_names s.script) name number at))
+  numbered name number at = named_relation s.script name (contains_at (relation_names s.script) number name (number_at (relation_names s.script) name number at))
 
   module _ (place : ℕ) (c : Expr) (at : slice_get exprs place ≡ Some c) where
     one_call : (name other : List ℕ) (args more : List Expr) (m n : ℕ) (ts us : List Typed) → call_of c ≡ Some (name, args) → call_of c ≡ Some (other, more)

@@ -1,7 +1,8 @@
 -- Lists with the same items are one: ascending numbers by what is among them, others place by place.
 use Rattle.std.proofs.Common.{◌≡◌, ◌<◌, ℕ, suc, List, [], ◌∷◌, refl, sym, arith, length, get_or, ⊎_elim}
 use Rattle.std.specs.Prelude.{Some, Contains, AllPairs, slice_get}
-use Rattle.ocl_types.proofs.ConformanceLaws.{in_either, later_in, nothing_in}
+use Rattle.ocl_types.proofs.ConformanceLaws.{in_either, later_in}
+use Rattle.mof_metamodel.proofs.Facts.{nothing_in}
 
 -- ---- place by place
 

@@ -6,7 +6,7 @@ use Rattle.std.proofs.lemmas.Option.{same_Some}
 use Rattle.mof_metamodel.specs.declared.desc.ClassId.{ClassId}
 use Rattle.mof_metamodel.specs.declared.desc.MetaDesc.{MetaDesc}
 use Rattle.mof_metamodel.specs.declared.desc.PropId.{PropId}
-use Rattle.mof_metamodel.proofs.SearchLemmas.{and_left}
+use Rattle.mof_metamodel.proofs.Facts.{first_true}
 use Rattle.qv_syntax.specs.declared.name.Name.{Name}
 use Rattle.qv_syntax.specs.declared.program.Key.{Key}
 use Rattle.qv_syntax.specs.declared.program.Program.{Program}
@@ -26,7 +26,7 @@ use Rattle.script_scopes.specs.Environments.{Setting, in_script}
 use Rattle.script_scopes.specs.Keys.{IsKey}
 use Rattle.script_scopes.specs.Resolutions.{IsVariable, IsRelation, IsProgramOf, IsResolution}
 use Rattle.script_scopes.specs.Faults.{HasQueries, StandsInScript}
-use Rattle.script_scopes.proofs.CallRowLaws.{some_among}
+use Rattle.mof_metamodel.proofs.Facts.{contains_at}
 use Rattle.script_variables.proofs.VariableLaws.{zip_one}
 use Rattle.qvtr_types.specs.ResolvedScripts.{setting_of, IsFaultOf}
 use Rattle.qvtr_types.proofs.DataNameLaws.{zip_here}
@@ -53,7 +53,7 @@ one_key env tree a b one other =
 module _ (s : Setting) (ready : IsReady (in_script s)) (none : (f : TypeFault) → StandsInScript s f → ⊥) where
   over : (r : RelationTree) → Contains (relations_of s.script) r → (name : List ℕ) (var : Var) → IsVariable s r name var → IsTrue (is_over s.metas var.ty)
   over r among name var is =
-      and_left (is_over s.metas var.ty) (is_flat var.ty) (type_within s (script_in_order s none) r among (none_declared s none r among) name var.ty is.typed)
+      first_true (is_over s.metas var.ty) (is_flat var.ty) (type_within s (script_in_order s none) r among (none_declared s none r among) name var.ty is.typed)
 
   one_rel : (r : RelationTree) → Contains (relations_of s.script) r → (a b : Rel) → IsRelation s r a → IsRelation s r b → a ≡ b
   one_rel r among a b one other =
@@ -63,7 +63,7 @@ module _ (s : Setting) (ready : IsReady (in_script s)) (none : (f : TypeFault) �
   rels_one xs ys one other =
       by_place xs ys (sym (zip_length (IsRelation s) (relations_of s.script) xs one) ∙ zip_length (IsRelation s) (relations_of s.script) ys other) (λ i a b at there.
       let (r, found, is) = zip_left (IsRelation s) (relations_of s.script) xs i a one at in
-      one_rel r (some_among (relations_of s.script) i r found) a b is (zip_here (IsRelation s) (relations_of s.script) ys i r b other found there))
+      one_rel r (contains_at (relations_of s.script) i r found) a b is (zip_here (IsRelation s) (relations_of s.script) ys i r b other found there))
 
   one_program : (p q : Program) → IsProgramOf s p → IsProgramOf s q → p ≡ q
   one_program p q one other =

@@ -27,7 +27,8 @@ use Rattle.script_scopes.specs.Occurrences.{clause_variables, variables_of}
 use Rattle.script_scopes.specs.Environments.{Setting, in_relation, place_of}
 use Rattle.script_scopes.specs.Resolutions.{IsConjunct, AreConjuncts}
 use Rattle.script_scopes.proofs.ConjunctLemmas.{by_layer, conjuncts_behind}
-use Rattle.script_scopes.proofs.CallRowLaws.{within_some, some_among, among_some}
+use Rattle.script_scopes.proofs.CallRowLaws.{within_some, among_some}
+use Rattle.mof_metamodel.proofs.Facts.{contains_at}
 use Rattle.qvtr_types.proofs.ZipLemmas.{zip_left, zip_right}
 use Rattle.qvtr_types.proofs.well_formed.Numbers.{place_at, name_at, variables_apart}
 use Rattle.qvtr_types.proofs.well_formed.Equations.{uses_of, in_uses, uses_in, equation_subject, equation_part, equation_names, call_part, call_names}
@@ -158,13 +159,13 @@ module _ (s : Setting) (r : RelationTree) (vars : List Var) (IsEquation : ℕ �
   tree_among es ts all t c =
       let at = among_some ts t c in
       let e = zip_left (HasTree (in_relation s r vars)) es ts at.0 t all at.1 in
-      (e.0, some_among es at.0 e.0 e.1, e.2)
+      (e.0, contains_at es at.0 e.0 e.1, e.2)
 
   pub among_trees : (es : List Expr) (ts : List Typed) → AllZip (HasTree (in_relation s r vars)) es ts → (e : Expr) → Contains es e → (t : Typed) × Contains ts t × HasTree (in_relation s r vars) e t
   among_trees es ts all e c =
       let at = among_some es e c in
       let t = zip_right (HasTree (in_relation s r vars)) es ts at.0 e all at.1 in
-      (t.0, some_among ts at.0 t.0 t.1, t.2)
+      (t.0, contains_at ts at.0 t.0 t.1, t.2)
 
   module _ (v : ℕ) (name : List ℕ) (at : slice_get (variables_of r) v ≡ Some name) (var : Var) (at_var : slice_get vars v ≡ Some var)
       (known : (w : List ℕ) → Contains (clause_variables clause) w → Contains (variables_of r) w) where
@@ -181,7 +182,7 @@ module _ (s : Setting) (r : RelationTree) (vars : List Var) (IsEquation : ℕ �
     subject_from place x _ found (IsConjunct.call n args number trees is position all) subject = absurd subject
     subject_from place x _ found (IsConjunct.equation w y t is tree) subject =
         let has : Contains (variables_in x) w = equation_subject x w y (equation_at place x w y found is) in
-        let there : Contains (variables_of r) w = known w (named_in_clause clause x w (some_among (clause_conjuncts clause) place x found) has) in
+        let there : Contains (variables_of r) w = known w (named_in_clause clause x w (contains_at (clause_conjuncts clause) place x found) has) in
         subst (Contains (variables_in x)) (name_at (variables_of r) v w name there subject at) has
     subject_from place x _ found (IsConjunct.condition t none other tree) subject = absurd subject
 
@@ -189,27 +190,27 @@ module _ (s : Setting) (r : RelationTree) (vars : List Var) (IsEquation : ℕ �
     clause_from (OccursInClause.subject c among subject) =
         let k = among_some cs c among in
         let x = conjunct_from k.0 c k.1 in
-        named_in_clause clause x.e name (some_among (clause_conjuncts clause) k.0 x.e x.found) (subject_from k.0 x.e c x.found x.is subject)
+        named_in_clause clause x.e name (contains_at (clause_conjuncts clause) k.0 x.e x.found) (subject_from k.0 x.e c x.found x.is subject)
     clause_from (OccursInClause.expression c e among has names) =
         let k = among_some cs c among in
         let x = conjunct_from k.0 c k.1 in
-        named_in_clause clause x.e name (some_among (clause_conjuncts clause) k.0 x.e x.found) (named_from k.0 x.e c x.found x.is e has names)
+        named_in_clause clause x.e name (contains_at (clause_conjuncts clause) k.0 x.e x.found) (named_from k.0 x.e c x.found x.is e has names)
 
     conjunct_occurs : (place : ℕ) (x : Expr) (c : Conj) → slice_get (clause_conjuncts clause) place ≡ Some x → slice_get cs place ≡ Some c → IsConjunct s r vars IsEquation place x c
         → Contains (variables_in x) name → OccursInClause cs v
     conjunct_occurs place x _ found there (IsConjunct.call n args number trees is position all) has =
         let a = call_names x n args is name has in
         let t = among_trees args trees all a.0 a.1 in
-        OccursInClause.expression (conjs.Call number trees) t.0 (some_among cs place (conjs.Call number trees) there) t.1 (names_tree s r vars v name at var at_var a.0 t.0 t.2 a.2)
+        OccursInClause.expression (conjs.Call number trees) t.0 (contains_at cs place (conjs.Call number trees) there) t.1 (names_tree s r vars v name at var at_var a.0 t.0 t.2 a.2)
     conjunct_occurs place x _ found there (IsConjunct.equation w y t is tree) has =
         elim (equation_names x w y (equation_at place x w y found is) name has) [
-          | inl same ↦ OccursInClause.subject (conjs.Equation (place_of w (variables_of r)) t) (some_among cs place (conjs.Equation (place_of w (variables_of r)) t) there)
+          | inl same ↦ OccursInClause.subject (conjs.Equation (place_of w (variables_of r)) t) (contains_at cs place (conjs.Equation (place_of w (variables_of r)) t) there)
               (ap (λ (n : List ℕ). place_of n (variables_of r)) same ∙ place_at (variables_of r) (variables_apart s r vars) v name at)
-          | inr more ↦ OccursInClause.expression (conjs.Equation (place_of w (variables_of r)) t) t (some_among cs place (conjs.Equation (place_of w (variables_of r)) t) there) refl
+          | inr more ↦ OccursInClause.expression (conjs.Equation (place_of w (variables_of r)) t) t (contains_at cs place (conjs.Equation (place_of w (variables_of r)) t) there) refl
               (names_tree s r vars v name at var at_var y t tree more)
         ]
     conjunct_occurs place x _ found there (IsConjunct.condition t none other tree) has =
-        OccursInClause.expression (conjs.Cond t) t (some_among cs place (conjs.Cond t) there) refl (names_tree s r vars v name at var at_var x t tree has)
+        OccursInClause.expression (conjs.Cond t) t (contains_at cs place (conjs.Cond t) there) refl (names_tree s r vars v name at var at_var x t tree has)
 
     pub clause_to : Contains (clause_variables clause) name → OccursInClause cs v
     clause_to has =

@@ -33,8 +33,9 @@ use Rattle.script_scopes.specs.ResolvedTemplates.{DomainReach, IsTemplate}
 use Rattle.script_scopes.specs.Resolutions.{model_number, domain_reach, IsDomain, AreDomains}
 use Rattle.script_scopes.proofs.CallRowLaws.{within_some, among_some}
 use Rattle.qvtr_types.proofs.OccurrenceLaws.{domain_variable}
-use Rattle.ocl_types.proofs.ConformanceLaws.{in_either, nothing_in}
-use Rattle.script_variables.proofs.DerivationLaws.{only_in}
+use Rattle.ocl_types.proofs.ConformanceLaws.{in_either}
+use Rattle.mof_metamodel.proofs.Facts.{nothing_in}
+use Rattle.mof_metamodel.proofs.Facts.{only_one}
 use Rattle.qvtr_types.proofs.NamedTrees.{variables_told}
 use Rattle.qvtr_types.proofs.well_formed.Numbers.{place_at, name_at, at_named, variables_apart, number_at, number_is}
 use Rattle.qvtr_types.proofs.well_formed.Templates.{whole_of, IsTold, IsItemTold, IsShown, template_told, template_shown, null_no_expr, nested_no_expr, same_expr}
@@ -198,7 +199,7 @@ module _ (s : Setting) (r : RelationTree) (vars : List Var) (v : ℕ) (name : Li
     shown_occurs : (root : Tmpl) → dom.template ≡ Some root → (model : List ℕ) (p : Piece) → IsShown (domain_reach s r vars model) root p → Contains (piece_variables p) name → OccursInTemplates dom v
     shown_occurs root has model _ (IsShown.begun u at_prop w path nested number) c =
         OccursInTemplates.template u (record { root = root; has = has; nested = nested })
-        (number ∙ ap (λ (x : List ℕ). place_of x (variables_of r)) (only_in w name c) ∙ here_named)
+        (number ∙ ap (λ (x : List ℕ). place_of x (variables_of r)) (only_one w name c) ∙ here_named)
     shown_occurs root has model _ (IsShown.asked at_prop e gives) c =
         let a = asked_variables e name c in
         let g = gives a.0 in

@@ -24,7 +24,8 @@ use Rattle.script_scopes.specs.Faults.{domain_models, StandsInScript, StandsInDe
 use Rattle.script_scopes.specs.UniversalNames.{has_domain_of}
 use Rattle.script_variables.specs.SettledRelations.{IsSettled}
 use Rattle.script_scopes.proofs.DivisionLaws.{in_direction}
-use Rattle.script_scopes.proofs.CallRowLaws.{some_among, among_some}
+use Rattle.script_scopes.proofs.CallRowLaws.{among_some}
+use Rattle.mof_metamodel.proofs.Facts.{contains_at}
 use Rattle.qvtr_types.proofs.ProgramCallLaws.{when_from, where_from, program_stratum}
 use Rattle.qvtr_types.proofs.ZipLemmas.{zip_left, zip_right}
 use Rattle.qvtr_types.proofs.OccurrenceLaws.{when_variable, where_variable}
@@ -73,7 +74,7 @@ module _ (s : Setting) (program : Program) (none : (f : TypeFault) → StandsInS
     bound : (v : ℕ) → programs.IsDataVariable rel v → programs.IsBound program rel v
     bound v d =
         let name = data_from s program aimed models_apart r rel is v d in
-        bound_to s program aimed models_apart r rel is name.0 (settled.bound name.0 (some_among (variables_of r) v name.0 name.1) name.2) v name.1
+        bound_to s program aimed models_apart r rel is name.0 (settled.bound name.0 (contains_at (variables_of r) v name.0 name.1) name.2) v name.1
 
     has_variables : HasVariables program rel
     has_variables = record {
@@ -94,13 +95,13 @@ module _ (s : Setting) (program : Program) (none : (f : TypeFault) → StandsInS
         to (domain, c, of) =
             let place = among_some r.domains domain c in
             let dom = comes_to s r rel is.domains place.0 domain place.1 in
-            (dom.0, record { is = some_among rel.domains place.0 dom.0 dom.1; target = target_to s program aimed models_apart r rel.vars (first_template r place.0) domain dom.0 dom.2 of })
+            (dom.0, record { is = contains_at rel.domains place.0 dom.0 dom.1; target = target_to s program aimed models_apart r rel.vars (first_template r place.0) domain dom.0 dom.2 of })
 
         from : ((dom : Dom) × programs.IsTargetDomain program rel dom) → IsInDirection s.target r
         from (dom, target) =
             let domain = comes_from s r rel is.domains dom target.is in (
               domain.domain,
-              some_among r.domains domain.place domain.domain domain.found,
+              contains_at r.domains domain.place domain.domain domain.found,
               target_from s program aimed models_apart r rel.vars (first_template r domain.place) domain.domain dom domain.is target.target,
             )
 
@@ -161,4 +162,4 @@ module _ (s : Setting) (program : Program) (none : (f : TypeFault) → StandsInS
       let there = zip_left (IsRelation s) (relations_of s.script) program.rels number rel rels at in
       let own = zip_left (λ r (x : Rel). IsSettled s r x.vars) (relations_of s.script) program.rels number rel settled at in
       let same : own.0 ≡ there.0 = same_Some own.0 there.0 (sym own.1 ∙ there.1) in
-      is_meant there.0 rel (some_among (relations_of s.script) number there.0 there.1) there.2 (subst (λ (r : RelationTree). IsSettled s r rel.vars) same own.2) number at
+      is_meant there.0 rel (contains_at (relations_of s.script) number there.0 there.1) there.2 (subst (λ (r : RelationTree). IsSettled s r rel.vars) same own.2) number at

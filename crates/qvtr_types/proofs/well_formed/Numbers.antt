@@ -17,7 +17,7 @@ use Rattle.script_scopes.specs.Environments.{Setting, in_relation}
 use Rattle.script_scopes.proofs.NameLemmas.{is_same}
 use Rattle.script_scopes.proofs.OnceLemmas.{new_names-distinct}
 use Rattle.script_variables.proofs.PlaceLaws.{at_place}
-use Rattle.script_scopes.proofs.CallRowLaws.{some_among}
+use Rattle.mof_metamodel.proofs.Facts.{contains_at}
 
 -- no name stands twice
 abbrev pub AreApart : List (List ℕ) → Type 0
@@ -43,7 +43,7 @@ module _ (names : List (List ℕ)) (apart : AreApart names) where
 
   -- a name stands at its place alone
   pub place_at : (i : ℕ) (name : List ℕ) → slice_get names i ≡ Some name → place_of name names ≡ i
-  place_at i name found = one_place (place_of name names) i name (at_place name names (some_among names i name found)) found
+  place_at i name found = one_place (place_of name names) i name (at_place name names (contains_at names i name found)) found
 
 -- the name that stands at the place of a name
 pub name_at : (names : List (List ℕ)) (i : ℕ) (a name : List ℕ) → Contains names a → place_of a names ≡ i → slice_get names i ≡ Some name → a ≡ name

@@ -38,7 +38,7 @@ use Rattle.script_scopes.specs.Resolutions.{IsVariable, IsRelation, model_number
 use Rattle.script_scopes.specs.Faults.{StandsInScript, StandsInDeclarations}
 use Rattle.script_variables.specs.SettledRelations.{IsSettled}
 use Rattle.ocl_types.proofs.LayerLaws.{class_of_class, class_of_collection}
-use Rattle.ocl_environments.proofs.TypeLaws.{both_true}
+use Rattle.std.proofs.lemmas.Bool.{and_parts}
 use Rattle.mof_metamodel.proofs.MetaLaws.{prop_named}
 use Rattle.script_scopes.proofs.CallRowLaws.{among_some}
 use Rattle.qvtr_types.proofs.ProgramCallLaws.{when_from, where_from}
@@ -55,12 +55,12 @@ use Rattle.qvtr_types.proofs.well_formed.Typing.{fitting, class_in}
 
 enum_over : (metas : List MetaDesc) (m : ℕ) (e : EnumId) → is_over metas (types.Enum m e) ≡ true → IsEnumIn metas m e
 enum_over metas m e over =
-    let both = both_true (nat_lt m (length metas)) (nat_lt e.0 (enum_count (meta_at metas m))) (sym (fold-roll-Ty Bool (is_over_step metas) (of.Enum m e)) ∙ ap (is_over metas) (types.rolls-Enum m e) ∙ over) in
+    let both = and_parts (nat_lt m (length metas)) (nat_lt e.0 (enum_count (meta_at metas m))) (sym (fold-roll-Ty Bool (is_over_step metas) (of.Enum m e)) ∙ ap (is_over metas) (types.rolls-Enum m e) ∙ over) in
     record { meta = meta_at metas m; found = slice_get-get_or metas m no_meta (ltb-true _ _ both.0); within = ltb-true _ _ both.1 }
 
 class_there : (metas : List MetaDesc) (m : ℕ) (c : ClassId) → is_over metas (types.Class m c) ≡ true → IsClassIn metas m c
 class_there metas m c over =
-    let both = both_true (nat_lt m (length metas)) (nat_lt c.0 (class_count (meta_at metas m))) (sym (fold-roll-Ty Bool (is_over_step metas) (of.Class m c)) ∙ ap (is_over metas) (types.rolls-Class m c) ∙ over) in
+    let both = and_parts (nat_lt m (length metas)) (nat_lt c.0 (class_count (meta_at metas m))) (sym (fold-roll-Ty Bool (is_over_step metas) (of.Class m c)) ∙ ap (is_over metas) (types.rolls-Class m c) ∙ over) in
     record { meta = meta_at metas m; found = slice_get-get_or metas m no_meta (ltb-true _ _ both.0); within = ltb-true _ _ both.1 }
 
 single_layer : (metas : List MetaDesc) (l : of.Ty-F Ty) → is_over metas (roll-Ty l) ≡ true → is_flat_layer l ≡ true → ((kind : Kind) (inner : Ty) → roll-Ty l ≢ types.Coll kind inner) → IsSingleType metas (roll-Ty l)

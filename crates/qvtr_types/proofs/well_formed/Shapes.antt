@@ -40,11 +40,12 @@ use Rattle.script_scopes.specs.Resolutions.{IsVariable, model_number, domain_rea
 use Rattle.script_scopes.specs.Faults.{domain_models}
 use Rattle.script_variables.specs.SettledRelations.{HasOneType, HaveOneType}
 use Rattle.script_scopes.proofs.MemberLemmas.{once_has}
-use Rattle.script_scopes.proofs.CallRowLaws.{within_some, some_among}
+use Rattle.script_scopes.proofs.CallRowLaws.{within_some}
+use Rattle.mof_metamodel.proofs.Facts.{contains_at}
 use Rattle.script_variables.proofs.PlaceLaws.{at_place}
 use Rattle.qvtr_types.proofs.ZipLemmas.{zip_right}
 use Rattle.script_scopes.proofs.DivisionLaws.{first, past}
-use Rattle.ocl_types.proofs.ConformanceLaws.{nothing_in}
+use Rattle.mof_metamodel.proofs.Facts.{nothing_in}
 use Rattle.qvtr_types.proofs.OccurrenceLaws.{domain_variable}
 use Rattle.qvtr_types.proofs.well_formed.Numbers.{AreApart, one_name}
 use Rattle.qvtr_types.proofs.well_formed.Templates.{template_listed}
@@ -88,7 +89,7 @@ numbers_apart names xs apart known i j d less within same =
     let b = within_some xs j below in
     let at_a : get_or (map (λ (v : List ℕ). place_of v names) xs) i d ≡ place_of a.0 names = mapped i a.0 a.1 in
     let at_b : get_or (map (λ (v : List ℕ). place_of v names) xs) j d ≡ place_of b.0 names = mapped j b.0 b.1 in
-    let is : a.0 ≡ b.0 = one_name names a.0 b.0 (known a.0 (some_among xs i a.0 a.1)) (known b.0 (some_among xs j b.0 b.1)) (sym at_a ∙ same ∙ at_b) in
+    let is : a.0 ≡ b.0 = one_name names a.0 b.0 (known a.0 (contains_at xs i a.0 a.1)) (known b.0 (contains_at xs j b.0 b.1)) (sym at_a ∙ same ∙ at_b) in
     apart a.0 (record { first = i; second = j; order = less; one = a.1; other = b.1 ∙ ap Some (sym is) })
   where
     mapped : (k : ℕ) (x : List ℕ) → slice_get xs k ≡ Some x → get_or (map (λ (v : List ℕ). place_of v names) xs) k d ≡ place_of x names

@@ -29,7 +29,7 @@ use Rattle.script_scopes.specs.Environments.{Setting, in_relation, place_of}
 use Rattle.script_scopes.specs.Resolutions.{IsData, IsConjunct, AreConjuncts, IsRelation}
 use Rattle.script_variables.specs.SettledRelations.{HasOneType, HaveOneType}
 use Rattle.script_scopes.proofs.NameLemmas.{same_is, is_same, has_name, lacks_name}
-use Rattle.script_scopes.proofs.CallRowLaws.{some_among}
+use Rattle.mof_metamodel.proofs.Facts.{contains_at}
 use Rattle.script_variables.proofs.PlaceLaws.{at_place}
 use Rattle.qvtr_types.proofs.ZipLemmas.{zip_right}
 use Rattle.qvtr_types.proofs.well_formed.Numbers.{AreApart, name_at, number_at}
@@ -73,7 +73,7 @@ module _ (s : Setting) (program : Program) (aimed : slice_get (model_names s.scr
     gives place v e q = (q.given.conjunct, q.given.found, q.given.is)
 
     known_in : (place : ℕ) (x : Expr) (w : List ℕ) (y : Expr) → slice_get (clause_conjuncts clause) place ≡ Some x → equation_of x ≡ Some (w, y) → Contains (variables_of r) w
-    known_in place x w y found eq = known w (named_in_clause clause x w (some_among (clause_conjuncts clause) place x found) (equation_subject x w y eq))
+    known_in place x w y found eq = known w (named_in_clause clause x w (contains_at (clause_conjuncts clause) place x found) (equation_subject x w y eq))
 
     -- ---- what gives a variable
 
@@ -104,7 +104,7 @@ module _ (s : Setting) (program : Program) (aimed : slice_get (model_names s.scr
           by (inl same) = absurd cc
           by (inr (ty, own, link, same)) =
               let is_t : t ≡ record { ty = ty; node = nodes.Chain (record { ty = own; node = nodes.Variable v }) (equals e link) } = cc in
-              let from = equation_from (in_relation s r rel.vars) x (clause_closed clause x (some_among (clause_conjuncts clause) k x found)) t tree v ty own link e is_t in
+              let from = equation_from (in_relation s r rel.vars) x (clause_closed clause x (contains_at (clause_conjuncts clause) k x found)) t tree v ty own link e is_t in
               let is_name : from.v ≡ name = same_Some from.v name (sym (number_at s r rel.vars from.v v from.named) ∙ at) in
               (from.right, from.is ∙ ap (λ (n : List ℕ). Some (n, from.right)) is_name, from.has)
 

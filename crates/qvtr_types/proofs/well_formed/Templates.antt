@@ -33,8 +33,9 @@ use Rattle.script_scopes.specs.Occurrences.Piece.{begins, asks}
 use Rattle.script_scopes.specs.Environments.{place_of}
 use Rattle.script_scopes.specs.ResolvedTemplates.{DomainReach, class_named, IsTemplate, AreItems, IsItem}
 use Rattle.qvtr_types.proofs.PieceForms.{body_is, item_is, expr_is, nested_is}
-use Rattle.ocl_types.proofs.ConformanceLaws.{in_either, nothing_in}
-use Rattle.script_variables.proofs.DerivationLaws.{only_in}
+use Rattle.ocl_types.proofs.ConformanceLaws.{in_either}
+use Rattle.mof_metamodel.proofs.Facts.{nothing_in}
+use Rattle.mof_metamodel.proofs.Facts.{only_one}
 
 -- ---- pieces of items
 
@@ -300,10 +301,10 @@ module _ (reach : DomainReach) where
         → Contains ((item_pieces tree).from k path) p → IsShown t p
     item_shown _ _ _ _ _ (IsItem.empty class k tree item e named value null is) path t has p c =
         let here = subst (λ (v : ItemPieces). Contains (v.from k path) p) (item_with tree (values.Expr e) _ value (expr_is e)) c in
-        subst (IsShown t) (only_in (asks (Some (record { class = path; name = tree.prop.text })) e) p here) (IsShown.asked _ e (λ other. absurd (true≢false (sym null ∙ other))))
+        subst (IsShown t) (only_one (asks (Some (record { class = path; name = tree.prop.text })) e) p here) (IsShown.asked _ e (λ other. absurd (true≢false (sym null ∙ other))))
     item_shown _ _ _ _ _ (IsItem.expression class k tree item e typed named value null tree_of is) path t has p c =
         let here = subst (λ (v : ItemPieces). Contains (v.from k path) p) (item_with tree (values.Expr e) _ value (expr_is e)) c in
-        subst (IsShown t) (only_in (asks (Some (record { class = path; name = tree.prop.text })) e) p here)
+        subst (IsShown t) (only_one (asks (Some (record { class = path; name = tree.prop.text })) e) p here)
         (IsShown.asked _ e (λ other. (t, item, typed, IsNested.whole t, has, is, tree_of)))
     item_shown _ _ _ _ _ (IsItem.nested class k next tree item variable inner part named value its is) path t has p c =
         let here = subst (λ (v : ItemPieces). Contains (v.from k path) p) (item_with tree (values.Nested variable inner) _ value (nested_is variable inner)) c in

@@ -45,8 +45,8 @@ use Rattle.ocl_environments.specs.declared.variable.Variable.{Variable}
 use Rattle.ocl_types.specs.TypeRules.{IsFirstNamed}
 use Rattle.qvtr_types.specs.TypedUsages.{HasNumber}
 use Rattle.script_scopes.proofs.ConjunctLemmas.{by_layer, conjuncts_behind}
-use Rattle.ocl_types.proofs.ConformanceLaws.{nothing_in}
-use Rattle.script_variables.proofs.DerivationLaws.{only_in}
+use Rattle.mof_metamodel.proofs.Facts.{nothing_in}
+use Rattle.mof_metamodel.proofs.Facts.{only_one}
 use Rattle.qvtr_types.proofs.NamedVariables.{out_variable, variable_number}
 use Rattle.qvtr_types.proofs.NamedTrees.{arguments_rest}
 use Rattle.qvtr_types.proofs.well_formed.Equations.{alone_of, IsVariablePart, equals}
@@ -240,7 +240,7 @@ shut y = map-Expr HeldArgs ClosedExpr HeldCall ClosedLink Args Expr Postfix Infi
 
 own_closed : (d : Form) (c : Expr) → is_through d ≡ false → conjuncts (roll-Expr d) ≡ roll-Expr d ∷ [] → Contains (conjuncts (roll-Expr d)) c → is_through (out-Expr c) ≡ false
 own_closed d c closed is among =
-    let same : roll-Expr d ≡ c = only_in (roll-Expr d) c (subst (λ (es : List Expr). Contains es c) is among) in
+    let same : roll-Expr d ≡ c = only_one (roll-Expr d) c (subst (λ (es : List Expr). Contains es c) is among) in
     ap (λ (x : Expr). is_through (out-Expr x)) (sym same) ∙ ap is_through (out-roll-Expr d) ∙ closed
 
 in_links_of : (ls : List ClosedLink) (c : Expr) → Contains (flat_map (λ (l : Infix). (behind l).conjuncts) (map (λ l. l.0) ls)) c → is_through (out-Expr c) ≡ false

@@ -57,7 +57,8 @@ use Rattle.script_scopes.specs.ResolvedTemplates.{class_named}
 use Rattle.script_scopes.specs.Resolutions.{IsVariable, IsData, IsConjunct, AreConjuncts, IsRelation, model_number, domain_reach}
 use Rattle.script_scopes.specs.Faults.{StandsInScript, StandsInExpressions, StandsInPlace, StandsAt, IsProperty, IsExpression, IsExpressionOf, HasQueries}
 use Rattle.script_variables.specs.SettledRelations.{IsSettled}
-use Rattle.script_scopes.proofs.CallRowLaws.{within_some, some_among, among_some, named_by}
+use Rattle.script_scopes.proofs.CallRowLaws.{within_some, among_some, named_by}
+use Rattle.mof_metamodel.proofs.Facts.{contains_at}
 use Rattle.script_variables.proofs.PlaceLaws.{at_place}
 use Rattle.qvtr_types.proofs.ProgramCallLaws.{apart}
 use Rattle.qvtr_types.proofs.ZipLemmas.{zip_left, zip_right}
@@ -212,7 +213,7 @@ module _ (s : Setting) (program : Program) (none : (f : TypeFault) → StandsInS
             conjunct = x;
             among = c;
             is = calls ∙ ap (λ (n : List ℕ). Some (n, args)) (sym found.2 ∙ ap (λ (q : RelationTree). q.name.text) (same_Some found.0 from.r (sym found.1 ∙ from.found)));
-            relation = some_among (relations_of s.script) number from.r from.found;
+            relation = contains_at (relations_of s.script) number from.r from.found;
           } in
           let many : length args ≡ length from.r.domains = count_or from.r with_args (cases_order (length args) (length from.r.domains)) in
           let trees_long : length trees ≡ length args = AllZip-long (HasTree env) args trees all in
@@ -252,10 +253,10 @@ module _ (s : Setting) (program : Program) (none : (f : TypeFault) → StandsInS
               )
 
       conjunct : (place : ℕ) (x : Expr) (c : Conj) → slice_get (clause_conjuncts clause) place ≡ Some x → IsConjunct s r rel.vars IsEquation place x c → IsConjunctTyped s.metas program rel c
-      conjunct place x _ found (IsConjunct.call name args number trees calls position all) = call x (some_among (clause_conjuncts clause) place x found) name args number trees calls position all
+      conjunct place x _ found (IsConjunct.call name args number trees calls position all) = call x (contains_at (clause_conjuncts clause) place x found) name args number trees calls position all
       conjunct place x _ found (IsConjunct.equation w y t eq tree) =
-          equation x (some_among (clause_conjuncts clause) place x found) w y (equation_at s r rel.vars IsEquation clause cs are gives place x w y found eq) t tree
-      conjunct place x _ found (IsConjunct.condition t no_call other tree) = condition x (some_among (clause_conjuncts clause) place x found) no_call t tree
+          equation x (contains_at (clause_conjuncts clause) place x found) w y (equation_at s r rel.vars IsEquation clause cs are gives place x w y found eq) t tree
+      conjunct place x _ found (IsConjunct.condition t no_call other tree) = condition x (contains_at (clause_conjuncts clause) place x found) no_call t tree
 
       pub conjuncts_typed : (c : Conj) → Contains cs c → IsConjunctTyped s.metas program rel c
       conjuncts_typed c has =

@@ -37,11 +37,12 @@ use Rattle.ocl_types.specs.QueryTyping.{signed}
 use Rattle.ocl_types.specs.TypedContext as context
 use Rattle.ocl_types.proofs.LayerLaws.{class_of_class}
 use Rattle.ocl_types.proofs.DemandLaws.{conforming_is}
-use Rattle.ocl_environments.proofs.TypeLaws.{both_true, same_is_one}
+use Rattle.ocl_environments.proofs.TypeLaws.{same_is_one}
+use Rattle.std.proofs.lemmas.Bool.{and_parts}
 use Rattle.ocl_types.proofs.TypedTrees.{tree_typed, type_within}
 use Rattle.script_scopes.specs.Occurrences.{variables_of}
 use Rattle.script_scopes.specs.Environments.{Setting, in_script, in_relation, named_variables, slots_of}
-use Rattle.script_scopes.proofs.CallRowLaws.{some_among}
+use Rattle.mof_metamodel.proofs.Facts.{contains_at}
 use Rattle.qvtr_types.proofs.well_formed.Numbers.{at_named}
 
 -- ---- what is told
@@ -74,7 +75,7 @@ module _ (metas : List MetaDesc) (well : AreWell metas) where
 
   pub class_over : (m : ℕ) (c : ClassId) → is_over metas (types.Class m c) ≡ true → (m < length metas) × (c.0 < class_count (meta_at metas m))
   class_over m c over =
-      let both = both_true (nat_lt m (length metas)) (nat_lt c.0 (class_count (meta_at metas m))) (sym (fold-roll-Ty Bool (is_over_step metas) (of.Class m c)) ∙ ap (is_over metas) (types.rolls-Class m c) ∙ over) in
+      let both = and_parts (nat_lt m (length metas)) (nat_lt c.0 (class_count (meta_at metas m))) (sym (fold-roll-Ty Bool (is_over_step metas) (of.Class m c)) ∙ ap (is_over metas) (types.rolls-Class m c) ∙ over) in
       (ltb-true _ _ both.0, ltb-true _ _ both.1)
 
   pub class_in : (m : ℕ) (c : ClassId) → is_over metas (types.Class m c) ≡ true → IsClassIn metas m c
@@ -138,7 +139,7 @@ module _ (s : Setting) (r : RelationTree) (vars : List Var) (order : IsInOrder (
       → is_variable env (name, record { ty = var.ty; model = var.model }) ≡ true
   variable_fits v name var at at_var =
       passes_each (is_variable env) env.variables order.typed (name, record { ty = var.ty; model = var.model })
-      (some_among env.variables v (name, record { ty = var.ty; model = var.model }) (at_named (variables_of r) vars v name var at at_var))
+      (contains_at env.variables v (name, record { ty = var.ty; model = var.model }) (at_named (variables_of r) vars v name var at at_var))
 
   -- the type of a variable, and the model of its objects
   pub record IsFitting (var : Var) : Type 0 where
@@ -150,15 +151,15 @@ module _ (s : Setting) (r : RelationTree) (vars : List Var) (order : IsInOrder (
   fitting v name var at at_var = by var.model refl (variable_fits v name var at at_var)
     where
       of_type : is_type s.metas var.ty ≡ true → (is_over s.metas var.ty ≡ true) × (is_flat var.ty ≡ true)
-      of_type is = both_true (is_over s.metas var.ty) (is_flat var.ty) is
+      of_type is = and_parts (is_over s.metas var.ty) (is_flat var.ty) is
 
       by : (o : Option ℕ) → var.model ≡ o → option_map_or (is_object_type env var.ty) o (is_type s.metas var.ty) ≡ true → IsFitting var
       by None none is = record { over = (of_type is).0; flat = (of_type is).1; object = λ m has. absurd (none-some m (sym none ∙ has)) }
       by (Some n) some is =
           let within : Bool = nat_lt n (length (slots_of s.script)) in
           let of_meta : Bool = option_map_or (λ (c : ℕ × ClassId). c.0 == (slot_at (slots_of s.script) n).meta) (class_of var.ty) false in
-          let told = both_true (within && of_meta) (is_type s.metas var.ty) is in
-          let object = both_true within of_meta told.0 in
+          let told = and_parts (within && of_meta) (is_type s.metas var.ty) is in
+          let object = and_parts within of_meta told.0 in
           record {
             over = (of_type told.1).0;
             flat = (of_type told.1).1;

@@ -32,7 +32,8 @@ use Rattle.script_scopes.specs.Occurrences.Piece.{asks}
 use Rattle.script_scopes.specs.Divisions.{model_of, first_template, IsItemAlone, IsUniversal, IsBound, IsWhenEquation, IsWhereEquation}
 use Rattle.script_scopes.specs.Environments.{Setting, in_relation, place_of}
 use Rattle.script_scopes.specs.Resolutions.{IsVariable, IsData, IsDomain, IsConjunct, AreConjuncts, IsRelation, domain_reach}
-use Rattle.script_scopes.proofs.CallRowLaws.{some_among, among_some}
+use Rattle.script_scopes.proofs.CallRowLaws.{among_some}
+use Rattle.mof_metamodel.proofs.Facts.{contains_at}
 use Rattle.qvtr_types.proofs.ProgramCallLaws.{apart}
 use Rattle.qvtr_types.proofs.ZipLemmas.{zip_left, zip_right}
 use Rattle.qvtr_types.proofs.OccurrenceLaws.{when_variable}
@@ -78,7 +79,7 @@ module _ (s : Setting) (program : Program) (aimed : slice_get (model_names s.scr
       pub universal_to : IsUniversal s.target r name → programs.IsUniversal program rel v
       universal_to (IsUniversal.domain domain other occurs) =
           let to = comes_to s r rel is.domains occurs.place domain occurs.found in
-          programs.IsUniversal.domain to.0 (record { is = some_among rel.domains occurs.place to.0 to.1; source = λ e. other (target_from r rel.vars (first_template r occurs.place) domain to.0 to.2 e) })
+          programs.IsUniversal.domain to.0 (record { is = contains_at rel.domains occurs.place to.0 to.1; source = λ e. other (target_from r rel.vars (first_template r occurs.place) domain to.0 to.2 e) })
           (occurs_to s r rel.vars v name at var at_var occurs.place domain to.0 occurs.found to.2 occurs.occurs)
       universal_to (IsUniversal.when among) =
           programs.IsUniversal.when (clause_to s r rel.vars (IsWhenEquation (IsData s r) s.target r) r.when rel.whens is.whens (λ place v e q. (q.given.conjunct, q.given.found, q.given.is)) v name at var at_var (when_variable r) among)
@@ -153,7 +154,7 @@ module _ (s : Setting) (program : Program) (aimed : slice_get (model_names s.scr
         let shown = shown_in s r rel.vars (first_template r place) domain to.0 to.2 (asks h.at h.value) h.item.has in
         let tree = by shown.root shown.model (asks h.at h.value) shown.shown h.at h.value refl h.alone in (
           to.0,
-          some_among rel.domains place to.0 to.1,
+          contains_at rel.domains place to.0 to.1,
           record {
             ty = tree.3;
             is = record { item = tree.1; of = record { template = tree.0; of = record { root = shown.root; has = shown.has; nested = tree.2 }; has = tree.4 }; is = tree.5 };
@@ -184,13 +185,13 @@ module _ (s : Setting) (program : Program) (aimed : slice_get (model_names s.scr
         let var = variable_at v name at in
         let place = among_some (clause_conjuncts r.when) says.conjunct says.among in
         let c = said_at (IsWhenEquation (IsData s r) s.target r) r.when rel.whens is.whens (λ place v e q. (q.given.conjunct, q.given.found, q.given.is)) place.0 says.conjunct place.1 v name e at says.is in
-        programs.IsBound.when v c.c c.tree (universal_to v name at var.0 var.1 u) (some_among rel.whens place.0 c.c c.found) c.says
+        programs.IsBound.when v c.c c.tree (universal_to v name at var.0 var.1 u) (contains_at rel.whens place.0 c.c c.found) c.says
         (asked_bound e c.tree c.has (λ n w at_w has d. bound_to n (all n has d) w at_w))
     bound_to _ (IsBound.primitive name domain top among none root) v at =
         let place = among_some r.domains domain among in
         let to = comes_to s r rel is.domains place.0 domain place.1 in
         let d = primitive_to place.0 domain to.0 to.2 none in
-        programs.IsBound.primitive v to.0 (is.top ∙ top) (some_among rel.domains place.0 to.0 to.1) d.0
+        programs.IsBound.primitive v to.0 (is.top ∙ top) (contains_at rel.domains place.0 to.0 to.1) d.0
         (d.1 ∙ ap (λ (n : List ℕ). place_of n (variables_of r)) root ∙ place_at (variables_of r) (variables_apart s r rel.vars) v name at)
     bound_to _ (IsBound.target_item name domain u target alone) v at =
         let var = variable_at v name at in
@@ -200,5 +201,5 @@ module _ (s : Setting) (program : Program) (aimed : slice_get (model_names s.scr
         let var = variable_at v name at in
         let place = among_some (clause_conjuncts r.wheres) says.conjunct says.among in
         let c = said_at (IsWhereEquation (IsData s r) s.target r) r.wheres rel.wheres is.wheres (λ place v e q. (q.given.conjunct, q.given.found, q.given.is)) place.0 says.conjunct place.1 v name e at says.is in
-        programs.IsBound.where_clause v c.c c.tree (λ x. u (universal_from v name at var.0 var.1 x)) (some_among rel.wheres place.0 c.c c.found) c.says
+        programs.IsBound.where_clause v c.c c.tree (λ x. u (universal_from v name at var.0 var.1 x)) (contains_at rel.wheres place.0 c.c c.found) c.says
         (asked_bound e c.tree c.has (λ n w at_w has d. bound_to n (all n has d) w at_w))

@@ -27,7 +27,8 @@ use Rattle.script_scopes.specs.ScriptQueries.{StandsInQueries}
 use Rattle.script_scopes.specs.Resolutions.{IsProgramOf}
 use Rattle.script_scopes.specs.Faults.{StandsInScript}
 use Rattle.script_variables.specs.SettledRelations.{IsSettled}
-use Rattle.script_scopes.proofs.CallRowLaws.{among_some, some_among}
+use Rattle.script_scopes.proofs.CallRowLaws.{among_some}
+use Rattle.mof_metamodel.proofs.Facts.{contains_at}
 use Rattle.qvtr_types.proofs.ZipLemmas.{zip_left}
 use Rattle.qvtr_types.proofs.KeyMeaning.{keys_are_meant}
 use Rattle.qvtr_types.proofs.well_formed.Apart.{models_apart, relations_apart}
@@ -107,12 +108,12 @@ module _ (s : Setting) (program : Program) (order : IsInOrder (in_script s)) (no
   in_range : (rel : Rel) → Contains program.rels rel → IsRelationInRange s.metas program rel
   in_range rel has =
       let f = from rel has in
-      relation_in_range s program none made.models made.aimed made.rels (models_apart s none) (relations_apart s none) f.1.r rel (some_among (relations_of s.script) f.0 f.1.r f.1.found) f.1.is f.1.settled
+      relation_in_range s program none made.models made.aimed made.rels (models_apart s none) (relations_apart s none) f.1.r rel (contains_at (relations_of s.script) f.0 f.1.r f.1.found) f.1.is f.1.settled
 
   typed : (rel : Rel) → Contains program.rels rel → IsRelationTyped s.metas program rel
   typed rel has =
       let f = from rel has in
-      relation_typed s program none made.typed_queries made.models made.queries made.aimed made.rels settled (models_apart s none) (relations_apart s none) f.1.r rel (some_among (relations_of s.script) f.0 f.1.r f.1.found) f.1.is f.1.settled
+      relation_typed s program none made.typed_queries made.models made.queries made.aimed made.rels settled (models_apart s none) (relations_apart s none) f.1.r rel (contains_at (relations_of s.script) f.0 f.1.r f.1.found) f.1.is f.1.settled
 
   pub well_formed : IsWellFormed s.metas program
   well_formed = record {

@@ -1,6 +1,6 @@
-use Rattle.std.proofs.Common.{◌≡◌, ◌∙◌, ◌∷◌, ◌+◌, ◌-◌, suc, ℕ, List, drop, map, length, ap, sym, arith}
+use Rattle.std.proofs.Common.{◌≡◌, ◌∙◌, ◌∷◌, ◌+◌, ◌-◌, suc, ℕ, drop, map, length, ap, sym, arith}
 use Rattle.enforcement_rules.specs.NumberSets.{has}
-use Rattle.enforcement_rules.specs.CallTests.{Pair, shown_pair}
+use Rattle.enforcement_rules.specs.CallTests.{shown_pair}
 use Rattle.enforcement_rules.proofs.GivenLaws.{rest_of, given_more}
 use Rattle.enforcement_rules.proofs.calls.given_pairs.Goals as goal
 

@@ -1,6 +1,3 @@
-use Rattle.std.proofs.Common.{List, subst}
-use Rattle.std.proofs.lemmas.Result.{IfOk-weaker}
-use Rattle.enforcement_rules.specs.Derivations.{NumberRule, IsRuleBelow, IsDerivedNumber}
 use Rattle.enforcement_rules.proofs.KnownLaws.{known_below, known_told}
 use Rattle.enforcement_rules.proofs.known.known.Goals as goal
 

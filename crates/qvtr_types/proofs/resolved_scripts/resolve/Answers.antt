@@ -1,10 +1,10 @@
-use Rattle.std.proofs.Common.{ℕ, List, [], sym, ap, subst, ◌∙◌}
+use Rattle.std.proofs.Common.{◌≤◌, ℕ, List, [], length, sym, ap, subst, ◌∙◌}
 use Rattle.std.specs.Prelude.{chars}
 use Rattle.std.proofs.lemmas.Result.{err_from_is_err_and}
 use Rattle.mof_metamodel.specs.declared.desc.MetaDesc.{MetaDesc}
 use Rattle.qv_syntax.specs.declared.program.Program.{Program}
 use Rattle.ocl_environments.specs.declared.fault.TypeError.TheVariants as errors
-use Rattle.ocl_environments.specs.Environments.{Environment}
+use Rattle.ocl_environments.specs.Environments.{Environment, most}
 use Rattle.ocl_types.proofs.QueryLemmas.{err_told}
 use Rattle.script_scopes.specs.Environments.{in_script}
 use Rattle.script_scopes.specs.Resolutions.{IsResolution}
@@ -43,3 +43,6 @@ returns-clause-distinct c = c.in_ok-parts.ensures.distinct
 pub returns-clause-none : goal.returns-clause-none
 returns-clause-none c = λ f stands.
     c.in_ok-parts.ensures.none f (subst (λ (ms : List MetaDesc). IsFaultOf ms c.args.script.now (chars c.args.target.now) f) (sym (ap (λ (e : Environment). e.metas) c.in_ok-env.ensures)) stands)
+
+pub returns-clause-few_queries : goal.returns-clause-few_queries
+returns-clause-few_queries c = subst (λ (p : Program). length p.queries ≤ most) (sym c.in_ok-program.ensures.is) c.in_ok-parts.ensures.few

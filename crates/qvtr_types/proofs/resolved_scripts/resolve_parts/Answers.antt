@@ -1,13 +1,15 @@
-use Rattle.std.proofs.Common.{◌≡◌, ℕ, List, sym, ap, subst, ◌∙◌, refl}
+use Rattle.std.proofs.Common.{◌≡◌, ◌≤◌, ℕ, List, length, sym, ap, subst, ◌∙◌, refl}
 use Rattle.std.specs.Prelude.{chars}
 use Rattle.std.specs.List.{AllZip}
+use Rattle.std.proofs.lemmas.List.{length-map}
 use Rattle.std.proofs.lemmas.Result.{err_from_is_err_and}
 use Rattle.mof_metamodel.specs.declared.desc.MetaDesc.{MetaDesc}
 use Rattle.qv_syntax.specs.declared.query.Query.{Query}
 use Rattle.qv_syntax.specs.declared.program.Rel.{Rel}
 use Rattle.qv_syntax.specs.declared.script.Script.{Script}
 use Rattle.ocl_environments.specs.declared.fault.TypeFault.{TypeFault}
-use Rattle.ocl_environments.specs.Environments.{Environment, IsInOrder}
+use Rattle.ocl_environments.specs.Environments.{Environment, IsInOrder, most}
+use Rattle.ocl_types.specs.QueryTyping.{signed}
 use Rattle.ocl_types.proofs.QueryLemmas.{err_told}
 use Rattle.script_scopes.specs.Occurrences.{relations_of}
 use Rattle.script_scopes.specs.Environments.{Setting, in_script}
@@ -143,3 +145,7 @@ returns-clause-ok c =
       well_formed = c.resolutions_are_well_formed.ensures s (program_of script target c.in_ok-keys.keys c.in_ok-rels.rels queries) (subst IsInOrder (c.in_ok-rels.ensures.kept ∙ reach) c.in_order.ensures) none made
           (zip_weaker (IsResolvedTo s) (λ r (rel : Rel). IsSettled s r rel.vars) (λ r rel own. own.settled) (relations_of script) c.in_ok-rels.rels resolved);
     }
+
+pub returns-clause-few : goal.returns-clause-few
+returns-clause-few c =
+    subst (λ (n : ℕ). n ≤ most) (ap length (ap (λ (e : Environment). e.queries) c.in_ok-rels.ensures.kept ∙ c.in_ok-queries.ensures.in_reach) ∙ length-map c.in_ok-queries.queries signed) c.in_order.ensures.few_queries
