@@ -1,0 +1,13 @@
+pub mod ResultLaws
+pub mod PassLaws
+pub mod OrderLaws
+pub mod RangeLaws
+pub mod ScopeLaws
+pub mod EquationLaws
+pub mod TableLaws
+pub mod KeyedLaws
+pub mod DecodedLaws
+pub mod KnownLaws
+pub mod UnmetLaws
+pub mod DemandLaws
+pub mod CallLaws

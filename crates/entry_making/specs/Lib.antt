@@ -1,0 +1,12 @@
+pub mod Passes
+pub mod Orders
+pub mod Givers
+pub mod Items
+pub mod Equations
+pub mod KeyedVariables
+pub mod Numbered
+pub mod Orderable
+pub mod Recipes
+pub mod UnmetNumbers
+pub mod DemandNumbers
+pub mod CallNumbers

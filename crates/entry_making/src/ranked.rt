@@ -1,0 +1,6 @@
+/// A node of a graph with its stratum.
+#[derive(Clone, Copy)]
+pub(crate) struct Ranked {
+    pub(crate) stratum: usize,
+    pub(crate) node: usize,
+}
