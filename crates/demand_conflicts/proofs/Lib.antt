@@ -1,0 +1,6 @@
+pub mod SaidLaws
+pub mod OneDemandLaws
+pub mod SpotOrderLaws
+pub mod TableLaws
+pub mod HeardLaws
+pub mod LiftLaws

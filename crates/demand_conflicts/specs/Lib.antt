@@ -1,0 +1,4 @@
+pub mod NumberedClaims
+pub mod Heard
+pub mod NumberedDemands
+pub mod NumberedConflicts
