@@ -1,0 +1,11 @@
+pub mod ArgumentLaws
+pub mod ListLaws
+pub mod MatchLaws
+pub mod ValueLaws
+pub mod Partials
+pub mod Sounds
+pub mod Completes
+pub mod StartLaws
+pub mod PairLaws
+pub mod DistinctLaws
+pub mod WholeLaws

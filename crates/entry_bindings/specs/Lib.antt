@@ -1,0 +1,5 @@
+pub mod Matches
+pub mod Starts
+pub mod Arguments
+pub mod Joins
+pub mod Asked
