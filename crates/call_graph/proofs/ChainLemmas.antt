@@ -4,9 +4,7 @@ use Rattle.std.specs.Prelude.{Contains}
 use Rattle.std.proofs.lemmas.List.Elements.{Contains-append_cases, Contains-push_cases}
 use Rattle.call_graph.specs.Graphs.{Graph, Leads, IsPath, IsOnCycle}
 use Rattle.call_graph.specs.Searches.{Sure, sure, IsChain}
-
-no_item : {X : Type 0} (x : X) → Contains [] x → ⊥
-no_item x among = let below : among.0 < 0 = among.1 in absurd (omega arith)
+use Rattle.mof_metamodel.proofs.Facts.{nothing_in}
 
 module _ (g : Graph) where
   pub chain_front : (path : List ℕ) (u : ℕ) → IsChain g (path ++ u ∷ []) → IsChain g path
@@ -31,12 +29,12 @@ module _ (g : Graph) where
   -- the last node of a path leads to a node of it, which so lies on a cycle
   pub closed : (before : List ℕ) (u v : ℕ) → IsChain g (before ++ u ∷ []) → Contains (before ++ u ∷ []) v → Leads g u v → IsOnCycle g v
   closed [] u v is among leads = ⊎_elim
-      (λ (none : Contains [] v). absurd (no_item v none))
+      (λ (none : Contains [] v). absurd (nothing_in v none))
       (λ (same : u ≡ v). ([], subst (λ w. Leads g w v) same leads))
       (Contains-push_cases [] u v among)
   closed (a ∷ before) u v is among leads = ⊎_elim
       (λ (here : Contains (a ∷ []) v). ⊎_elim
-      (λ (none : Contains [] v). absurd (no_item v none))
+      (λ (none : Contains [] v). absurd (nothing_in v none))
       (λ (same : a ≡ v). (before ++ u ∷ [], subst (λ w. IsPath g w (before ++ u ∷ []) v) same (back a before u v is leads)))
       (Contains-push_cases [] a v here))
       (λ (later : Contains (before ++ u ∷ []) v). closed before u v (chain_rest a before u is) later leads)

@@ -19,8 +19,10 @@ use Rattle.qv_syntax.specs.Relations.{IsItemExpression}
 use Rattle.qvtr_semantics.specs.Bindings.{is_target_domain}
 use Rattle.repair_semantics.specs.TargetItems.{Content, TargetItem, ContentPart, TemplatePart, ItemPart, content_part, item_part, template_part, parts, target_domain, target_items}
 use Rattle.repair_semantics.proofs.ItemLaws.{content_of, item_of}
-use Rattle.template_match.proofs.ListLaws.{contains_first, contains_later, find_some}
+use Rattle.template_match.proofs.ListLaws.{contains_later, find_some}
+use Rattle.mof_metamodel.proofs.Facts.{contains_first}
 use Rattle.source_laws.specs.TargetRule.{IsExpressionOf}
+use Rattle.mof_metamodel.proofs.Facts.{nothing_in}
 
 -- the expression of an item stands in the template, at any depth
 record Stands (root : Tmpl) (e : Typed) : Type 0 where
@@ -67,9 +69,6 @@ template_expression v e h = cc
 
 one_expression : (x e : Typed) → ◌≡◌ {A = Content} (Content.expression x) (Content.expression e) → x ≡ e
 one_expression x e h = cc
-
-nothing_in : {X : Type 0} (x : X) → Contains [] x → ⊥
-nothing_in x (k, below, is) = omega (arith, below)
 
 value_layer : (y : layers.ItemValue-F V I T) → ValueHolds (roll-ItemValue (map-ItemValue V I T ItemValue Item Tmpl (λ x. x.0) (λ x. x.0) (λ x. x.0) y))
 unfolding ValueHolds TmplHolds AllStand

@@ -25,7 +25,8 @@ use Rattle.repair_semantics.specs.EntryValues.{TermValues, Known, value_of, data
 use Rattle.repair_semantics.specs.TargetItems.{Content, TargetItem, target_items, target_metamodel, key_of, class_of_variable}
 use Rattle.repair_semantics.specs.Making.{variables, equation_of, by_equation, with_equations, scope_within, entry_scope, content_value, first_item, item_around, is_item_at, is_option_of, parent_value, key_value_by, key_value, keyed, term_by, made_term, value_or_datum, with_terms, values_within, known_by, entry_known, others_in, made_values}
 use Rattle.repair_semantics.specs.Unmet.{is_lacking, is_content_lacking, item_places, is_conjunct_unmet, conjunct_places, first_place, unmet_places, is_unmet}
-use Rattle.template_match.proofs.ListLaws.{contains_first, contains_later, find_some}
+use Rattle.template_match.proofs.ListLaws.{contains_later, find_some}
+use Rattle.mof_metamodel.proofs.Facts.{contains_first}
 use Rattle.source_laws.specs.Agreement.{AgreeBut}
 use Rattle.source_laws.specs.SourceValues.{HasNoTarget}
 use Rattle.source_laws.specs.TargetRule.{IsExpressionOf, HandsTargetOn}

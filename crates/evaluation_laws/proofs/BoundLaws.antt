@@ -48,9 +48,10 @@ use Rattle.evaluation_laws.specs.TypedValues.{AreModels, IsDatumIn, IsDatumOfTyp
 use Rattle.evaluation_laws.specs.Literals.{HasStorableLiterals, IsExpressionOf, HasStorableTexts}
 use Rattle.evaluation_laws.specs.Sources.{MeetsSource}
 use Rattle.evaluation_laws.specs.Scopes.{AreRootsGiven, IsValued, AreValued, of_its_model}
-use Rattle.evaluation_laws.proofs.CollectionLaws.{first_in, later_in}
+use Rattle.evaluation_laws.proofs.CollectionLaws.{later_in}
+use Rattle.mof_metamodel.proofs.Facts.{contains_first}
 use Rattle.evaluation_laws.proofs.TypeLaws.{within_through}
-use Rattle.evaluation_laws.proofs.ProgramLaws.{contained}
+use Rattle.mof_metamodel.proofs.Facts.{contains_at}
 use Rattle.evaluation_laws.proofs.NavigationLaws.{held_is}
 use Rattle.evaluation_laws.proofs.SlotLaws.{IsNoClass, data_anywhere, one_type, compared_is, bound_types, datum_kept, variable_value, expression_of, at_null, at_expression, at_nested}
 use Rattle.evaluation_laws.proofs.FormLaws.{variable_typed, chain_typed, link_typed}
@@ -119,7 +120,7 @@ right_within ty own link v e =
     let l : TypedInfix = record { operator = operators.Equal; right = e; ty = link } in
     let same : node_parts (out-Node (nodes.Chain first (l ∷ []))) ≡ first ∷ e ∷ [] =
     ap (λ (n : Node). node_parts (out-Node n)) (sym (nodes.rolls-Chain first (l ∷ []))) ∙ ap node_parts (out-roll-Node (of.Chain first (l ∷ []))) in
-    IsWithin.inside (equation ty own link v e) e e (subst (λ (ps : List Typed). Contains ps e) (sym same) (later_in first e (e ∷ []) (first_in e []))) (IsWithin.whole e)
+    IsWithin.inside (equation ty own link v e) e e (subst (λ (ps : List Typed). Contains ps e) (sym same) (later_in first e (e ∷ []) (contains_first e []))) (IsWithin.whole e)
 
 module _ (metas : List MetaDesc) (program : Program) (contents : List ModelData) (models : AreModels metas (setting program contents))
     (well : IsWellFormed metas program) (literals : HasStorableTexts program)
@@ -133,7 +134,7 @@ module _ (metas : List MetaDesc) (program : Program) (contents : List ModelData)
   Valued v = (var : Var) (d : Datum) → slice_get rel.vars v ≡ Some var → value_at b v ≡ Some d → IsNoClass var.ty → IsDatumOfTyping metas s (typing_of var) d
 
   among : Contains program.rels rel
-  among = contained program.rels number rel at
+  among = contains_at program.rels number rel at
 
   abbrev meant : IsMeant program number rel
   meant = well.relations number rel at
@@ -149,7 +150,7 @@ module _ (metas : List MetaDesc) (program : Program) (contents : List ModelData)
   object : (v : ℕ) → IsUniversal program rel v → Asked v → (var : Var) (d : Datum) → slice_get rel.vars v ≡ Some var → value_at b v ≡ Some d → (m : ℕ) (class : ClassId) → var.ty ≡ types.Class m class
       → IsDatumOfTyping metas s (typing_of var) d
   object v universal asked var d found has m class same =
-      object_valued metas program contents models var (meant.variables.models var (contained rel.vars v var found)) m class same d (may_have v universal asked var d found has)
+      object_valued metas program contents models var (meant.variables.models var (contains_at rel.vars v var found)) m class same d (may_have v universal asked var d found has)
 
   -- ---- the variables of an expression
 
@@ -170,7 +171,7 @@ module _ (metas : List MetaDesc) (program : Program) (contents : List ModelData)
   typed_datum : (v : ℕ) (e : Typed) (t : Typing) (var : Var) → slice_get rel.vars v ≡ Some var → IsNoClass var.ty → IsTyped (context_of metas program) (variables_of rel) e t → AreComparable metas var.ty t.ty
       → HasStorableLiterals e → AreValued metas s rel e b → (d : Datum) → datum_of (value_for program contents e b) ≡ Some d → IsDatumOfTyping metas s (typing_of var) d
   typed_datum v e t var found none typed compared kept valued d has =
-      let single = (well.numbers.relations rel among).vars.types var (contained rel.vars v var found) in
+      let single = (well.numbers.relations rel among).vars.types var (contains_at rel.vars v var found) in
       data_anywhere metas s anywhere (of_its_model var.model) var.ty none d
       (compared_is metas program contents models well literals var.ty t.ty single none compared d (datum_kept metas program contents models well literals rel e t (scope_of b) kept (bound_types metas s rel e b valued) typed d has))
 

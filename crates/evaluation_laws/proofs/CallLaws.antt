@@ -27,8 +27,9 @@ use Rattle.qvtr_semantics.specs.Calls.{RelationCall, free, with_roots, call_with
 use Rattle.evaluation_laws.specs.TypedValues.{AreModels, IsDatumOf, IsDatumOfTyping, anywhere}
 use Rattle.evaluation_laws.specs.Literals.{HasStorableLiterals, IsExpressionOf, HasStorableTexts}
 use Rattle.evaluation_laws.specs.Scopes.{AreValued, HasValueOfType, AreRootsGiven, of_its_model, HasValuesOfTypes}
-use Rattle.evaluation_laws.proofs.CollectionLaws.{first_in, later_in}
-use Rattle.evaluation_laws.proofs.ProgramLaws.{contained}
+use Rattle.evaluation_laws.proofs.CollectionLaws.{later_in}
+use Rattle.mof_metamodel.proofs.Facts.{contains_first}
+use Rattle.mof_metamodel.proofs.Facts.{contains_at}
 use Rattle.evaluation_laws.proofs.SlotLaws.{IsNoClass, data_anywhere, one_type, bound_types, datum_kept}
 
 -- ---- lists
@@ -97,7 +98,7 @@ module _ (metas : List MetaDesc) (s : Setting) (called : Rel) where
 
   first_root : (values : Values) (dom : Dom) (doms : List Dom) → AreWithin values (dom ∷ doms) → dom.root < length values
   unfolding AreWithin
-  first_root values dom doms within = within dom (first_in dom doms)
+  first_root values dom doms within = within dom (contains_first dom doms)
 
   now_good : (values : Values) (dom : Dom) (doms : List Dom) (d : Datum) (v : ℕ) → ((var : Var) → slice_get called.vars dom.root ≡ Some var → IsNoClass var.ty → IsDatumOfTyping metas s (typing_of var) d)
       → AreWithin values (dom ∷ doms) → IsDataVariable called v → Good values v → Good (slice_set values dom.root (Some d)) v
@@ -175,7 +176,7 @@ module _ (metas : List MetaDesc) (program : Program) (contents : List ModelData)
       → (d : Datum) → datum_of (value program contents e scope) ≡ Some d → IsDatumOfTyping metas s (typing_of var) d
   when_argument among number args c called found place dom e one other is_data =
       argument_at number args ((well.typed.relations rel among).whens (conjuncts.Call number args) c) called found place dom e one other is_data
-      (literals.relations rel e among (IsExpressionOf.of_when (conjuncts.Call number args) c (contained args place e other)))
+      (literals.relations rel e among (IsExpressionOf.of_when (conjuncts.Call number args) c (contains_at args place e other)))
 
   pub where_argument : Contains program.rels rel → (number : ℕ) (args : List Typed) → Contains rel.wheres (conjuncts.Call number args) → (called : Rel) → slice_get program.rels number ≡ Some called
       → (place : ℕ) (dom : Dom) (e : Typed) → slice_get called.domains place ≡ Some dom → slice_get args place ≡ Some e → IsDataVariable called dom.root
@@ -183,7 +184,7 @@ module _ (metas : List MetaDesc) (program : Program) (contents : List ModelData)
       → (d : Datum) → datum_of (value program contents e scope) ≡ Some d → IsDatumOfTyping metas s (typing_of var) d
   where_argument among number args c called found place dom e one other is_data =
       argument_at number args ((well.typed.relations rel among).wheres (conjuncts.Call number args) c) called found place dom e one other is_data
-      (literals.relations rel e among (IsExpressionOf.of_where (conjuncts.Call number args) c (contained args place e other)))
+      (literals.relations rel e among (IsExpressionOf.of_where (conjuncts.Call number args) c (contains_at args place e other)))
 
   -- the arguments of a call may be evaluated
   record IsArgument (e : Typed) : Type 0 where
@@ -198,7 +199,7 @@ module _ (metas : List MetaDesc) (program : Program) (contents : List ModelData)
   arguments_fit called (dom ∷ doms) (e ∷ es) ds given each is =
       let g = given_by (datum_of (value_for program contents e b)) (map (λ x. datum_of (value_for program contents x b)) es)
       (all_given (map (λ x. datum_of (value_for program contents x b)) es)) ds refl is in
-      let own = each e (first_in e es) in
+      let own = each e (contains_first e es) in
       subst (AreRootsOf metas s called (dom ∷ doms)) g.all (
         (λ var found none. argument_fits e var (subst (λ (x : Var). IsGiven metas program rel (typing_of x) e) (same_Some given.0.0 var (sym given.0.1 ∙ found)) given.0.2) own.stored (scope_of b) (bound_types metas s rel e b own.valued) none g.first g.is),
         arguments_fit called doms es g.more given.1 (λ x c. each x (later_in e x es c)) g.are,
@@ -222,7 +223,7 @@ module _ (metas : List MetaDesc) (program : Program) (contents : List ModelData)
       by (Some ds) at is =
           let are = arguments_fit called called.domains args ds given (λ e c. record { stored = (each e c).0; valued = (each e c).1 }) at in
           subst (λ (r : RelationCall). AreRootsGiven metas s called r.roots) (same_Some (record { rel = number; roots = with_roots (free called) called.domains ds }) call is)
-          (λ dom c is_data. roots_good metas s called (free called) called.domains ds are (roots_within called (contained program.rels number called found)) dom c is_data)
+          (λ dom c is_data. roots_good metas s called (free called) called.domains ds are (roots_within called (contains_at program.rels number called found)) dom c is_data)
 
   pub when_call : Contains program.rels rel → (number : ℕ) (args : List Typed) → Contains rel.whens (conjuncts.Call number args) → ((e : Typed) → Contains args e → AreValued metas s rel e b)
       → (called : Rel) → slice_get program.rels number ≡ Some called → (call : RelationCall) → call_of program contents b number args ≡ Some call → AreRootsGiven metas s called call.roots

@@ -31,18 +31,14 @@ use Rattle.qvtr_semantics.specs.Expressions.{argument, with_datum, with_collecti
 use Rattle.evaluation_laws.specs.TypedValues.{AreModels, IsDatumIn, IsValueIn}
 use Rattle.evaluation_laws.proofs.ListLaws.{either_way, all_where, all_at, all_last, all_element_at}
 use Rattle.evaluation_laws.proofs.ValueLaws.{of_given, same_element, AreOf, first_argument, HasElements, elements_in, datum_in, datum_elsewhere, datum_conforms, is_boolean, is_truth, is_integer_value, is_bounded, is_collected}
-
--- ---- lists of one more
-
-pub first_in : {X : Type 0} (x : X) (xs : List X) → Contains (x ∷ xs) x
-first_in x xs = (0, omega arith, refl)
+use Rattle.mof_metamodel.proofs.Facts.{contains_first}
 
 pub later_in : {X : Type 0} (x y : X) (xs : List X) → Contains xs y → Contains (x ∷ xs) y
 later_in x y xs c = let (k, within, is) = c in (suc k, omega arith, is)
 
 model_in : (parts : List Typing) (p : Typing) → Contains parts p → Contains (models_of parts) p.model
 model_in [] p (k, within, is) = absurd (omega (arith, within))
-model_in (q ∷ parts) p (zero, within, is) = subst (λ (t : Typing). Contains (models_of (q ∷ parts)) t.model) is (first_in q.model (models_of parts))
+model_in (q ∷ parts) p (zero, within, is) = subst (λ (t : Typing). Contains (models_of (q ∷ parts)) t.model) is (contains_first q.model (models_of parts))
 model_in (q ∷ parts) p (suc k, within, is) = later_in q.model p.model (models_of parts) (model_in parts p (k, omega (arith, within), is))
 
 module _ (metas : List MetaDesc) (s : Setting) (models : AreModels metas s) (In : Option ℕ → ℕ → Type 0)
@@ -65,7 +61,7 @@ module _ (metas : List MetaDesc) (s : Setting) (models : AreModels metas s) (In 
     Elements kind of c = HasElements metas s (In model) kind of c
 
     own : (ty : Ty) (ds : List Datum) → AllOf model ty ds → AllOf joined ty ds
-    own ty ds all = all_joined (model ∷ models_of parts) model joined ty ty one (first_in model (models_of parts)) (inl refl) ds all
+    own ty ds all = all_joined (model ∷ models_of parts) model joined ty ty one (contains_first model (models_of parts)) (inl refl) ds all
 
     -- ---- results of a fixed type
 
@@ -109,9 +105,9 @@ module _ (metas : List MetaDesc) (s : Setting) (models : AreModels metas s) (In 
     one_element kind of t j =
         let first = first_argument metas s In parts j.element [] xs are j.is in
         record {
-          below = j.joined.above of (first_in of (j.element ∷ []));
+          below = j.joined.above of (contains_first of (j.element ∷ []));
           is = λ d has.
-              datum_conforms metas s (In joined) models j.element j.top (j.joined.above j.element (later_in of j.element (j.element ∷ []) (first_in j.element []))) d
+              datum_conforms metas s (In joined) models j.element j.top (j.joined.above j.element (later_in of j.element (j.element ∷ []) (contains_first j.element []))) d
               (datum_elsewhere metas s (In first.part.model) (In joined)
               (λ k here. joins (model ∷ models_of parts) first.part.model joined k one (later_in model first.part.model (models_of parts) (model_in parts first.part first.among)) here) j.element d
               (datum_in metas s (In first.part.model) j.element (argument xs 0) first.is d has));
@@ -121,16 +117,16 @@ module _ (metas : List MetaDesc) (s : Setting) (models : AreModels metas s) (In 
     other_elements kind of t j =
         let first = first_argument metas s In parts (types.Coll kind j.element) [] xs are j.is in
         record {
-          below = j.joined.above of (first_in of (j.element ∷ []));
+          below = j.joined.above of (contains_first of (j.element ∷ []));
           all = λ c has.
               all_joined (model ∷ models_of parts) first.part.model joined j.element j.top one
               (later_in model first.part.model (models_of parts) (model_in parts first.part first.among))
-              (j.joined.above j.element (later_in of j.element (j.element ∷ []) (first_in j.element []))) c.elements
+              (j.joined.above j.element (later_in of j.element (j.element ∷ []) (contains_first j.element []))) c.elements
               (elements_in metas s (In first.part.model) kind j.element (argument xs 0) first.is c has).all;
         }
 
     raised : (of top : Ty) → ConformsTo metas of top → (ds : List Datum) → AllOf model of ds → AllOf joined top ds
-    raised of top below ds all = all_joined (model ∷ models_of parts) model joined of top one (first_in model (models_of parts)) below ds all
+    raised of top below ds all = all_joined (model ∷ models_of parts) model joined of top one (contains_first model (models_of parts)) below ds all
 
     appended_is : (ty : Ty) (k : Kind) (ds : List Datum) (d : Datum) → AllOf joined ty ds → IsDatumIn metas s (In joined) ty d → IsOf joined (types.Coll k ty) (collections.appended k ds d)
     appended_is ty kinds.Sequence ds d all is = is_bounded metas s (In joined) kinds.Sequence ty (ds ++ d ∷ []) (All-push (IsDatumIn metas s (In joined) ty) ds d all is)

@@ -23,9 +23,7 @@ use Rattle.evaluation_laws.specs.Literals.{HasStorableLiterals, HasStorableTexts
 use Rattle.evaluation_laws.specs.Scopes.{HasValuesOfTypes, HasValuesOfTypings, of_any_model, of_its_model}
 use Rattle.evaluation_laws.proofs.ValueLaws.{value_conforms, value_of_data}
 use Rattle.evaluation_laws.proofs.TypeLaws.{typed_kept}
-
-pub contained : {X : Type 0} (xs : List X) (k : ℕ) (x : X) → slice_get xs k ≡ Some x → Contains xs x
-contained xs k x at = (k, slice_get_within xs k x at, get_or_from_slice_get xs k x x at)
+use Rattle.mof_metamodel.proofs.Facts.{contains_at}
 
 -- the model is that of each part that has one
 its_joined : (parts : List (Option ℕ)) (part joined : Option ℕ) (k : ℕ) → IsOneModel parts joined → Contains parts part → of_its_model part k → of_its_model joined k
@@ -72,7 +70,7 @@ module _ (metas : List MetaDesc) (program : Program) (contents : List ModelData)
       answered q kept number type_is xs None found at are = tt
       answered q kept number type_is xs (Some query) found at are =
           let same : query_type query ≡ type_is = same_Some (query_type query) type_is at in
-          let among : Contains program.queries query = contained program.queries number query found in
+          let among : Contains program.queries query = contains_at program.queries number query found in
           let is = typed query among in
           let of_params : AreArguments metas s query.params xs = subst (λ (t : QueryType). AreArguments metas s t.params xs) (sym same) are in
           let scope : HasValuesOfTypes metas s query.body (map without_model query.params) xs = record {

@@ -46,7 +46,8 @@ use Rattle.evaluation_laws.specs.Literals.{HasStorableLiterals, IsExpressionOf, 
 use Rattle.evaluation_laws.specs.Scopes.{HasValuesIn, AreValued, of_its_model, HasValuesOfTypes, HasValuesOfTypings}
 use Rattle.evaluation_laws.specs.Held.{IsHeld, IsAllowed}
 use Rattle.evaluation_laws.proofs.ValueLaws.{datum_in, datum_elsewhere}
-use Rattle.evaluation_laws.proofs.ProgramLaws.{contained, types_kept}
+use Rattle.evaluation_laws.proofs.ProgramLaws.{types_kept}
+use Rattle.mof_metamodel.proofs.Facts.{contains_at}
 
 -- ---- bindings as scopes
 
@@ -246,7 +247,7 @@ module _ (metas : List MetaDesc) (program : Program) (contents : List ModelData)
       let one : typed.var ≡ var = same_Some typed.var var (sym typed.found ∙ found) in
       let other : is_data.var ≡ var = same_Some is_data.var var (sym is_data.found ∙ found) in
       let none : IsNoClass var.ty = λ m class same. is_data.data_type m class (ap (λ (x : Var). x.ty) other ∙ same) in
-      let single : IsSingleType metas var.ty = (well.numbers.relations rel (contained program.rels number rel at)).vars.types var (contained rel.vars v var found) in
+      let single : IsSingleType metas var.ty = (well.numbers.relations rel (contains_at program.rels number rel at)).vars.types var (contains_at rel.vars v var found) in
       let compared : AreComparable metas var.ty typed.typing.ty = subst (λ (x : Var). AreComparable metas x.ty typed.typing.ty) one typed.compared in
       let is = compared_is var.ty typed.typing.ty single none compared d (datum_kept rel e typed.typing scope stored valued typed.typed d has) in
       record { allowed = allowed var.ty var.name var.model none d is; typed = data_anywhere metas s anywhere (of_its_model var.model) var.ty none d is }
@@ -257,13 +258,13 @@ module _ (metas : List MetaDesc) (program : Program) (contents : List ModelData)
       → IsAllowed metas s var d
   when_value number rel at place v e there scope valued var found d has =
       equation_by number rel at v e ((well.relations number rel at).whens.are place v e there).0
-      ((well.typed.relations rel (contained program.rels number rel at)).whens (conjuncts.Equation v e) (contained rel.whens place (conjuncts.Equation v e) there))
-      (literals.relations rel e (contained program.rels number rel at) (IsExpressionOf.of_when (conjuncts.Equation v e) (contained rel.whens place (conjuncts.Equation v e) there) refl)) scope valued var found d has
+      ((well.typed.relations rel (contains_at program.rels number rel at)).whens (conjuncts.Equation v e) (contains_at rel.whens place (conjuncts.Equation v e) there))
+      (literals.relations rel e (contains_at program.rels number rel at) (IsExpressionOf.of_when (conjuncts.Equation v e) (contains_at rel.whens place (conjuncts.Equation v e) there) refl)) scope valued var found d has
 
   pub where_value : (number : ℕ) (rel : Rel) → slice_get program.rels number ≡ Some rel → (place v : ℕ) (e : Typed) → slice_get rel.wheres place ≡ Some (conjuncts.Equation v e)
       → (scope : Scope) → HasValuesOfTypes metas s e (variables_of rel) scope → (var : Var) → slice_get rel.vars v ≡ Some var → (d : Datum) → datum_of (value program contents e scope) ≡ Some d
       → IsAllowed metas s var d
   where_value number rel at place v e there scope valued var found d has =
       equation_by number rel at v e ((well.relations number rel at).wheres.are place v e there).0
-      ((well.typed.relations rel (contained program.rels number rel at)).wheres (conjuncts.Equation v e) (contained rel.wheres place (conjuncts.Equation v e) there))
-      (literals.relations rel e (contained program.rels number rel at) (IsExpressionOf.of_where (conjuncts.Equation v e) (contained rel.wheres place (conjuncts.Equation v e) there) refl)) scope valued var found d has
+      ((well.typed.relations rel (contains_at program.rels number rel at)).wheres (conjuncts.Equation v e) (contains_at rel.wheres place (conjuncts.Equation v e) there))
+      (literals.relations rel e (contains_at program.rels number rel at) (IsExpressionOf.of_where (conjuncts.Equation v e) (contains_at rel.wheres place (conjuncts.Equation v e) there) refl)) scope valued var found d has

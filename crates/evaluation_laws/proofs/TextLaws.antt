@@ -2,14 +2,10 @@
 use Rattle.std.proofs.Common.{◌≡◌, ◌≤◌, ◌<◌, ◌+◌, ◌/◌, ◌%◌, ℕ, zero, suc, ℤ, pos, negsuc, Bool, true, false, ◌&&◌, List, [], ◌∷◌, ◌++◌, take, drop, refl, arith}
 use Rattle.std.specs.Prelude.{◌==◌, nat_lt}
 use Rattle.std.specs.Fmt.{digit_glyph, digits_onto, digits, decimal, signed_decimal}
-use Rattle.std.proofs.lemmas.Bool.{and_parts}
+use Rattle.std.proofs.lemmas.Bool.{and_parts, and_from}
 use Rattle.std.proofs.lemmas.Bool.Decides.{nat_tests}
 use Rattle.mof_metamodel.specs.Characters.{is_storable_character, is_storable_text}
 use Rattle.evaluation_laws.proofs.ListLaws.{either_way}
-
-both : (a b : Bool) → a ≡ true → b ≡ true → (a && b) ≡ true
-both true b one other = other
-both false b one other = one
 
 -- ---- parts
 
@@ -17,14 +13,14 @@ pub storable_append : (s t : List ℕ) → is_storable_text s ≡ true → is_st
 storable_append [] t one other = other
 storable_append (c ∷ s) t one other =
     let parts = and_parts (is_storable_character c) (is_storable_text s) one in
-    both (is_storable_character c) (is_storable_text (s ++ t)) parts.0 (storable_append s t parts.1 other)
+    and_from (is_storable_character c) (is_storable_text (s ++ t)) parts.0 (storable_append s t parts.1 other)
 
 pub storable_take : (n : ℕ) (s : List ℕ) → is_storable_text s ≡ true → is_storable_text (take n s) ≡ true
 storable_take zero s is = refl
 storable_take (suc n) [] is = refl
 storable_take (suc n) (c ∷ s) is =
     let parts = and_parts (is_storable_character c) (is_storable_text s) is in
-    both (is_storable_character c) (is_storable_text (take n s)) parts.0 (storable_take n s parts.1)
+    and_from (is_storable_character c) (is_storable_text (take n s)) parts.0 (storable_take n s parts.1)
 
 pub storable_drop : (n : ℕ) (s : List ℕ) → is_storable_text s ≡ true → is_storable_text (drop n s) ≡ true
 storable_drop zero s is = is
@@ -46,7 +42,7 @@ storable_digits : (k n : ℕ) (acc : List ℕ) → is_storable_text acc ≡ true
 storable_digits zero n acc is = is
 storable_digits (suc k) n acc is =
     let more : is_storable_text (digit_glyph false (n % 10) ∷ acc) ≡ true =
-    both (is_storable_character (digit_glyph false (n % 10))) (is_storable_text acc) (storable_glyph (n % 10) (omega arith)) is in
+    and_from (is_storable_character (digit_glyph false (n % 10))) (is_storable_text acc) (storable_glyph (n % 10) (omega arith)) is in
     either_way (λ t. is_storable_text t ≡ true) (n / 10 == 0) (digit_glyph false (n % 10) ∷ acc) (digits_onto k 10 false (n / 10) (digit_glyph false (n % 10) ∷ acc))
     more (storable_digits k (n / 10) (digit_glyph false (n % 10) ∷ acc) more)
 
@@ -56,4 +52,4 @@ storable_decimal n = storable_digits 64 n [] refl
 
 pub storable_integer : (i : ℤ) → is_storable_text (signed_decimal i) ≡ true
 storable_integer (pos n) = storable_decimal n
-storable_integer (negsuc n) = both (is_storable_character 45) (is_storable_text (decimal (suc n))) refl (storable_decimal (suc n))
+storable_integer (negsuc n) = and_from (is_storable_character 45) (is_storable_text (decimal (suc n))) refl (storable_decimal (suc n))

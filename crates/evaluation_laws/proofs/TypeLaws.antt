@@ -43,7 +43,8 @@ use Rattle.evaluation_laws.specs.Scopes.{HasValuesIn}
 use Rattle.evaluation_laws.proofs.ValueLaws.{of_given, no_collection_text, no_collection_number, no_collection_truth, no_collection_enum, no_collection_class, no_collection_null, with_model, value_elsewhere, value_conforms, datum_elsewhere, datum_conforms, datum_in, elements_in, AreOf, is_boolean, is_integer_value, is_collected}
 use Rattle.evaluation_laws.proofs.OperatorLaws.{operated_is, operation_is, negation_is, negated_is}
 use Rattle.evaluation_laws.proofs.NavigationLaws.{property_is, class_operation_is, extent_is}
-use Rattle.evaluation_laws.proofs.CollectionLaws.{first_in, later_in, collection_is, collect_is, iterator_is}
+use Rattle.evaluation_laws.proofs.CollectionLaws.{later_in, collection_is, collect_is, iterator_is}
+use Rattle.mof_metamodel.proofs.Facts.{contains_first}
 
 -- ---- what stands within what
 
@@ -96,15 +97,15 @@ module _ (context : Context) (contents : List ModelData) where
     chosen_is a b t model goes one None x y first second = tt
     chosen_is a b t model (inl is) one (Some true) x y first second = null_is (In a.model) (In model) t x (subst (λ u. IsOf (In a.model) u x) is.0 first)
     chosen_is a b t model (inl is) one (Some false) x y first second =
-        joined_value (a.model ∷ b.model ∷ []) b.model model b.ty t one (later_in a.model b.model (b.model ∷ []) (first_in b.model [])) (inl (sym is.1)) y second
+        joined_value (a.model ∷ b.model ∷ []) b.model model b.ty t one (later_in a.model b.model (b.model ∷ []) (contains_first b.model [])) (inl (sym is.1)) y second
     chosen_is a b t model (inr (inl is)) one (Some true) x y first second =
-        joined_value (a.model ∷ b.model ∷ []) a.model model a.ty t one (first_in a.model (b.model ∷ [])) (inl (sym is.1)) x first
+        joined_value (a.model ∷ b.model ∷ []) a.model model a.ty t one (contains_first a.model (b.model ∷ [])) (inl (sym is.1)) x first
     chosen_is a b t model (inr (inl is)) one (Some false) x y first second = null_is (In b.model) (In model) t y (subst (λ u. IsOf (In b.model) u y) is.0 second)
     chosen_is a b t model (inr (inr top)) one (Some true) x y first second =
-        joined_value (a.model ∷ b.model ∷ []) a.model model a.ty t one (first_in a.model (b.model ∷ [])) (top.above a.ty (first_in a.ty (b.ty ∷ []))) x first
+        joined_value (a.model ∷ b.model ∷ []) a.model model a.ty t one (contains_first a.model (b.model ∷ [])) (top.above a.ty (contains_first a.ty (b.ty ∷ []))) x first
     chosen_is a b t model (inr (inr top)) one (Some false) x y first second =
-        joined_value (a.model ∷ b.model ∷ []) b.model model b.ty t one (later_in a.model b.model (b.model ∷ []) (first_in b.model []))
-        (top.above b.ty (later_in a.ty b.ty (b.ty ∷ []) (first_in b.ty []))) y second
+        joined_value (a.model ∷ b.model ∷ []) b.model model b.ty t one (later_in a.model b.model (b.model ∷ []) (contains_first b.model []))
+        (top.above b.ty (later_in a.ty b.ty (b.ty ∷ []) (contains_first b.ty []))) y second
 
     -- ---- collection literals
 
@@ -128,18 +129,18 @@ module _ (context : Context) (contents : List ModelData) where
     all_data (p ∷ ps) [] t model conform join are ds is = absurd are
     all_data (p ∷ ps) (x ∷ xs) t model conform join are ds is =
         one_given (datum_of x) (all_given (map datum_of xs)) t model
-        (λ d at. datum_conforms context.metas s (In model) models p.ty t (conform p (first_in p ps)) d
-        (datum_elsewhere context.metas s (In p.model) (In model) (join p (first_in p ps)) p.ty d (datum_in context.metas s (In p.model) p.ty x are.0 d at)))
+        (λ d at. datum_conforms context.metas s (In model) models p.ty t (conform p (contains_first p ps)) d
+        (datum_elsewhere context.metas s (In p.model) (In model) (join p (contains_first p ps)) p.ty d (datum_in context.metas s (In p.model) p.ty x are.0 d at)))
         (all_data ps xs t model (λ q c. conform q (later_in p q ps c)) (λ q c. join q (later_in p q ps c)) are.1) ds (sym (given_more (datum_of x) (map datum_of xs)) ∙ is)
 
     type_in : (ps : List Typing) (p : Typing) → Contains ps p → Contains (types_of ps) p.ty
     type_in [] p (k, within, is) = absurd (omega (arith, within))
-    type_in (q ∷ ps) p (zero, within, is) = subst (λ (t : Typing). Contains (types_of (q ∷ ps)) t.ty) is (first_in q.ty (types_of ps))
+    type_in (q ∷ ps) p (zero, within, is) = subst (λ (t : Typing). Contains (types_of (q ∷ ps)) t.ty) is (contains_first q.ty (types_of ps))
     type_in (q ∷ ps) p (suc k, within, is) = later_in q.ty p.ty (types_of ps) (type_in ps p (k, omega (arith, within), is))
 
     model_in : (ps : List Typing) (p : Typing) → Contains ps p → Contains (models_of ps) p.model
     model_in [] p (k, within, is) = absurd (omega (arith, within))
-    model_in (q ∷ ps) p (zero, within, is) = subst (λ (t : Typing). Contains (models_of (q ∷ ps)) t.model) is (first_in q.model (models_of ps))
+    model_in (q ∷ ps) p (zero, within, is) = subst (λ (t : Typing). Contains (models_of (q ∷ ps)) t.model) is (contains_first q.model (models_of ps))
     model_in (q ∷ ps) p (suc k, within, is) = later_in q.model p.model (models_of ps) (model_in ps p (k, omega (arith, within), is))
 
     elements_conform : (ps : List Typing) (t : Ty) → OfElements context.metas (types_of ps) t → (p : Typing) → Contains ps p → ConformsTo context.metas p.ty t
@@ -266,7 +267,7 @@ module _ (context : Context) (contents : List ModelData) where
       call_within d c rolled are p among = are p (subst (λ ps. Contains ps p) (ap call_parts (sym (out-roll-Call d) ∙ ap out-Call rolled)) among)
 
       first_within : (p : Typed) (ps : List Typed) → AreWithin (p ∷ ps) → IsWithin e0 p
-      first_within p ps are = are p (first_in p ps)
+      first_within p ps are = are p (contains_first p ps)
 
       others_within : (p : Typed) (ps : List Typed) → AreWithin (p ∷ ps) → AreWithin ps
       others_within p ps are r c = are r (later_in p r ps c)

@@ -26,7 +26,8 @@ use Rattle.xmi_profile.specs.References.{words, attribute_targets}
 use Rattle.xmi_profile.specs.Source.{Source, all_items, all_ids, object_count, class_of, item_class, file_ids, is_number, attr_in, attr_of, attr_text, listed, element_text, targets_of, element_target_at, element_targets, targets_at, item_at}
 use Rattle.xmi_profile.specs.Values as texts
 use Rattle.xmi_profile.specs.Values.{without_repeats}
-use Rattle.xmi_profile.proofs.SeenLaws.{in_head, in_tail}
+use Rattle.xmi_profile.proofs.SeenLaws.{in_tail}
+use Rattle.mof_metamodel.proofs.Facts.{contains_first}
 use Rattle.model_files.specs.declared.json_filed.Slot.{Slot}
 use Rattle.model_files.specs.JsonContent.{Written, objects_of, class_in, may_stand, is_reference, type_in, value_of, item_text, with_blanks, reference_attrs, source_of}
 use Rattle.model_files.specs.JsonFiled.{number_in, reference_to, with_value, with_values, with_references, with_named, with_found, with_slots, with_object, with_objects, HasApart}
@@ -314,7 +315,7 @@ any_there test [] e = absurd (true≢false (sym e))
 any_there {X = X} test (x ∷ xs) e = by (test x) refl e (any_there test xs)
   where
     by : (b : Bool) → test x ≡ b → (b || list_any test xs) ≡ true → (list_any test xs ≡ true → (y : X) × Contains xs y × (test y ≡ true)) → (y : X) × Contains (x ∷ xs) y × (test y ≡ true)
-    by true f g more = (x, in_head x xs, f)
+    by true f g more = (x, contains_first x xs, f)
     by false f g more = (let (y, there, t) = more g in (y, in_tail x xs y there, t))
 
 none_any : {X : Type 0} (test : X → Bool) (ys : List X) → list_any test ys ≡ false → AllByRecursion (λ y. test y ≡ false) ys

@@ -22,6 +22,7 @@ use Rattle.model_files.specs.JsonFiled.{number_in, reference_to, with_references
 use Rattle.model_files.proofs.JsonKnownLaws.{named_prop}
 use Rattle.model_files.proofs.JsonTree.{prop_in, IsKnownSlot, IsKnownObject, type_known}
 use Rattle.model_files.proofs.JsonFiledValues.{slot_at}
+use Rattle.mof_metamodel.proofs.Facts.{or_false}
 
 -- ---- what the slots of objects name at a property, if they are of the object
 
@@ -172,10 +173,6 @@ named_said o p ids slot [] filed =
 named_said o p ids slot (d ∷ ds) filed =
     ap (λ (b : Bool). b || list_any (is_mention_at o p) filed.mentions) (any_references o p ids slot d ds filed.references)
     ∙ or_turned (list_any (is_reference_at o p) filed.references) (list_any (is_mention_at o p) filed.mentions) (is_at o p slot.object slot.property.0)
-
-or_false : (a : Bool) → (a || false) ≡ a
-or_false true = refl
-or_false false = refl
 
 items_said : (meta : MetaDesc) (o p : ℕ) (ids : List (List ℕ)) (slot : Slot) (type : Option PropType) (ds : List Data) (filed : Filed)
     → said o p (with_items meta ids slot type ds filed) ≡ (said o p filed || (is_class_type type && is_at o p slot.object slot.property.0))

@@ -21,13 +21,11 @@ use Rattle.model_files.specs.JsonFiled.{AreApart, HasApart}
 use Rattle.model_files.specs.JsonText.{without_mark, in_utf8, value_in}
 use Rattle.model_files.proofs.JsonStringLaws.{IsWellToken, AreWellTokens, tokens_well}
 use Rattle.model_files.proofs.read_back.Members.{AreInOrder, AreSpelled, IsSpelled, put_each, put_order, slots_apart}
-
-some_is : {X : Type 0} (x y : X) → Some x ≡ Some y → x ≡ y
-some_is x y e = cc
+use Rattle.std.proofs.lemmas.Option.{same_Some}
 
 mapped : {X Y : Type 0} (f : X → Y) (o : Option X) (y : Y) → option_map f o ≡ Some y → (x : X) × (o ≡ Some x) × (f x ≡ y)
 mapped f None y e = absurd cc
-mapped f (Some x) y e = (x, refl, some_is _ _ e)
+mapped f (Some x) y e = (x, refl, same_Some _ _ e)
 
 chained : {X Y : Type 0} (f : X → Option Y) (o : Option X) (y : Y) → option_and_then f o ≡ Some y → (x : X) × (o ≡ Some x) × (f x ≡ Some y)
 chained f None y e = absurd cc
@@ -60,7 +58,7 @@ given : {A : Type 0} (P : A → Type 0) (a b : A) (ts rest : List Token) → P a
 given {A = A} P a b ts rest p h e =
     let x : A × List Token = (a, ts) in
     let y : A × List Token = (b, rest) in
-    let same : x ≡ y = some_is x y e in
+    let same : x ≡ y = same_Some x y e in
     (subst P (ap (λ (z : A × List Token). z.0) same) p, subst AreWellTokens (ap (λ (z : A × List Token). z.1) same) h)
 
 parse_mapped : {A B : Type 0} (P : A → Type 0) (Q : B → Type 0) (f : A → B) → ((a : A) → P a → Q (f a)) → (o : Option (A × List Token)) (b : B) (rest : List Token)
@@ -73,7 +71,7 @@ after_well [] rest h e = absurd cc
 after_well (begin_object ∷ ts) rest h e = absurd cc
 after_well (end_object ∷ ts) rest h e = absurd cc
 after_well (begin_array ∷ ts) rest h e = absurd cc
-after_well (end_array ∷ ts) rest h e = subst AreWellTokens (some_is ts rest e) h.1
+after_well (end_array ∷ ts) rest h e = subst AreWellTokens (same_Some ts rest e) h.1
 after_well (key s ∷ ts) rest h e = absurd cc
 after_well (string s ∷ ts) rest h e = absurd cc
 after_well (number s ∷ ts) rest h e = absurd cc
@@ -176,15 +174,15 @@ put_ordered k d (member l e ms) f h = put_by (slice_cmp nat_cmp k l) k l d e ms 
 
 mutual
   json_ordered : (j : json.Json) (d : Data) → IsNamed j → of_json j ≡ Some d → IsOrdered d
-  json_ordered json.null d h e = subst IsOrdered (some_is _ _ e) tt
-  json_ordered (json.boolean b) d h e = subst IsOrdered (some_is _ _ e) tt
+  json_ordered json.null d h e = subst IsOrdered (same_Some _ _ e) tt
+  json_ordered (json.boolean b) d h e = subst IsOrdered (same_Some _ _ e) tt
   json_ordered (json.number s) d h e = let n = mapped values.number (number_of s) d e in subst IsOrdered n.2 tt
-  json_ordered (json.string s) d h e = subst IsOrdered (some_is _ _ e) tt
+  json_ordered (json.string s) d h e = subst IsOrdered (same_Some _ _ e) tt
   json_ordered (json.array js) d h e = let ds = mapped values.array (of_items js) d e in subst IsOrdered ds.2 (items_ordered js ds.0 h ds.1)
   json_ordered (json.object ms) d h e = let found = mapped values.object (of_members ms no_members) d e in subst IsOrdered found.2 (members_ordered ms no_members found.0 h (tt, tt, tt) found.1)
 
   items_ordered : (js : json.Items) (ds : Items) → ItemsNamed js → of_items js ≡ Some ds → ItemsOrdered ds
-  items_ordered json.no_items ds h e = subst ItemsOrdered (some_is _ _ e) tt
+  items_ordered json.no_items ds h e = subst ItemsOrdered (same_Some _ _ e) tt
   items_ordered (json.item j js) ds h e =
       let first = chained (λ d. option_map (item d) (of_items js)) (of_json j) ds e in
       let rest = mapped (item first.0) (of_items js) ds first.2 in
@@ -192,21 +190,21 @@ mutual
 
   members_ordered : (ms : json.Members) (found all : Members) → MembersNamed ms → AreInOrder found × AreSpelled found × MembersOrdered found → of_members ms found ≡ Some all
       → AreInOrder all × AreSpelled all × MembersOrdered all
-  members_ordered json.no_members found all h f e = subst (λ (ms : Members). AreInOrder ms × AreSpelled ms × MembersOrdered ms) (some_is _ _ e) f
+  members_ordered json.no_members found all h f e = subst (λ (ms : Members). AreInOrder ms × AreSpelled ms × MembersOrdered ms) (same_Some _ _ e) f
   members_ordered (json.member k j ms) found all h f e =
       let first = chained (λ d. of_members ms (put k d found)) (of_json j) all e in
       members_ordered ms (put k first.0 found) all h.2
       (put_order k first.0 found f.0, put_each (λ k d. IsSpelled k) k first.0 found (encodes-chars k h.0) f.1, put_ordered k first.0 found (json_ordered j first.0 h.1 first.1) f.2) first.2
 
 last_named : (j k : json.Json) (ts : List Token) → IsNamed j → json.if_last j ts ≡ Some k → IsNamed k
-last_named j k [] h e = subst IsNamed (some_is j k e) h
+last_named j k [] h e = subst IsNamed (same_Some j k e) h
 last_named j k (t ∷ ts) h e = absurd cc
 
 in_utf8_is : (bytes text : List ℕ) → in_utf8 bytes ≡ Some text → IsUtf8 text
 in_utf8_is bytes text e = by (is_utf8 bytes) refl e
   where
     by : (b : Bool) → is_utf8 bytes ≡ b → cond b (Some bytes) None ≡ Some text → IsUtf8 text
-    by true f g = subst IsUtf8 (some_is bytes text g) (IsUtf8-from_is_utf8 bytes f)
+    by true f g = subst IsUtf8 (same_Some bytes text g) (IsUtf8-from_is_utf8 bytes f)
     by false f g = absurd cc
 
 value_ordered : (bytes : List ℕ) (d : Data) → value_in bytes ≡ Some d → IsOrdered d

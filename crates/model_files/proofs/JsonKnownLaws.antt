@@ -3,7 +3,7 @@ use Rattle.std.proofs.Common.{◌≡◌, ℕ, zero, suc, ◌<◌, Bool, true, fa
 use Rattle.std.specs.Prelude.{◌||◌, not, is_some, slice_get}
 use Rattle.std.specs.List.{list_all, list_any, AllByRecursion}
 use Rattle.std.specs.Option.{option_or, unwrap_or}
-use Rattle.std.proofs.lemmas.Bool.{and_parts, true≢false}
+use Rattle.std.proofs.lemmas.Bool.{and_parts, true≢false, or_parts}
 use Rattle.serde_json.specs.Data.{Data}
 use Rattle.mof_metamodel.specs.declared.desc.MetaDesc.{MetaDesc}
 use Rattle.mof_metamodel.specs.declared.desc.PropType.{PropType}
@@ -144,11 +144,6 @@ any_before p (x ∷ xs) ys = by (p x) (any_before p xs ys)
     by true e = refl
     by false e = e
 
-neither : (a b : Bool) → (a || b) ≡ false → (a ≡ false) × (b ≡ false)
-neither false false e = (refl, refl)
-neither false true e = absurd (true≢false e)
-neither true b e = absurd (true≢false e)
-
 -- no identifier was met
 pub unmet_id : (met ids : List (List ℕ)) (i : ℕ) (id : List ℕ) → AreNew met ids → slice_get ids i ≡ Some id → list_any (same_name id) met ≡ false
 unmet_id met [] i id new at = absurd cc
@@ -156,12 +151,12 @@ unmet_id met (first ∷ ids) zero id new at =
     let same : first ≡ id = ap (λ (o : Option (List ℕ)). unwrap_or o []) at in
     subst (λ (x : List ℕ). list_any (same_name x) met ≡ false) same new.0
 unmet_id met (first ∷ ids) (suc i) id new at =
-    (neither (list_any (same_name id) met) _ (sym (any_before (same_name id) met (first ∷ [])) ∙ unmet_id (met ++ first ∷ []) ids i id new.1 at)).0
+    (or_parts (list_any (same_name id) met) _ (sym (any_before (same_name id) met (first ∷ [])) ∙ unmet_id (met ++ first ∷ []) ids i id new.1 at)).0
 
 one_met : (met : List (List ℕ)) (id : List ℕ) → list_any (same_name id) (met ++ id ∷ []) ≡ false → ⊥
 one_met met id e =
-    let none = (neither (list_any (same_name id) met) _ (sym (any_before (same_name id) met (id ∷ [])) ∙ e)).1 in
-    true≢false (sym (true_same id id refl) ∙ (neither (same_name id id) false none).0)
+    let none = (or_parts (list_any (same_name id) met) _ (sym (any_before (same_name id) met (id ∷ [])) ∙ e)).1 in
+    true≢false (sym (true_same id id refl) ∙ (or_parts (same_name id id) false none).0)
 
 pub distinct_ids : (met ids : List (List ℕ)) (i j : ℕ) (id : List ℕ) → AreNew met ids → j < i → slice_get ids i ≡ Some id → slice_get ids j ≡ Some id → ⊥
 distinct_ids met [] i j id new l at other = absurd cc

@@ -17,6 +17,7 @@ use Rattle.serde_json.specs.Find.{get_member}
 use Rattle.serde_json.specs.Read.{is_integer, float_of, number_from, number_of, of_json, of_items, of_members, read, max_depth}
 use Rattle.model_files.specs.JsonContent.{Written, items_list, in_list, slots_list, in_slots, slots_of, written_of, list_at, objects_of}
 use Rattle.model_files.specs.JsonText.{without_mark, in_utf8, value_in}
+use Rattle.std.proofs.lemmas.Option.{same_Some}
 
 -- a negative integer is one of 64 bits
 abbrev pub FitsNumber : Num → Type 0
@@ -41,11 +42,6 @@ abbrev mutual
   MembersFit no_members = Unit {0}
   MembersFit (member k d ms) = Fits d × MembersFit ms
 
--- ---- numbers
-
-some_is : {X : Type 0} (x y : X) → Some x ≡ Some y → x ≡ y
-some_is x y e = cc
-
 below_zero : (n : ℕ) → nat_lt 0 n ≡ true → nat_le n (2 ^ 63) ≡ true → FitsNumber (negative (with_sign true n))
 below_zero zero l h = absurd cc
 below_zero (suc k) l h = (k, refl, leb-true (suc k) (2 ^ 63) h)
@@ -54,14 +50,14 @@ float_fits : (sign : Bool) (p : Parts) (n : Num) → float_of sign p ≡ Some n 
 float_fits sign p n e = by (float_is_finite (nearest binary64 sign p)) e
   where
     by : (b : Bool) → cond b (Some (float (nearest binary64 sign p))) None ≡ Some n → FitsNumber n
-    by true f = subst FitsNumber (some_is _ _ f) tt
+    by true f = subst FitsNumber (same_Some _ _ f) tt
     by false f = absurd cc
 
 number_fits_from : (sign : Bool) (p : Parts) (n : Num) → number_from sign p ≡ Some n → FitsNumber n
 number_fits_from false p n e = by (is_integer p && nat_lt (digits_of p) (2 ^ 64)) e
   where
     by : (b : Bool) → cond b (Some (unsigned (digits_of p))) (float_of false p) ≡ Some n → FitsNumber n
-    by true f = subst FitsNumber (some_is _ _ f) tt
+    by true f = subst FitsNumber (same_Some _ _ f) tt
     by false f = float_fits false p n f
 number_fits_from true p n e = by (is_integer p && nat_lt 0 (digits_of p) && nat_le (digits_of p) (2 ^ 63)) refl e
   where
@@ -69,7 +65,7 @@ number_fits_from true p n e = by (is_integer p && nat_lt 0 (digits_of p) && nat_
         → cond b (Some (negative (with_sign true (digits_of p)))) (float_of true p) ≡ Some n → FitsNumber n
     by true g f =
         let both = and_parts (is_integer p && nat_lt 0 (digits_of p)) (nat_le (digits_of p) (2 ^ 63)) g in
-        subst FitsNumber (some_is _ _ f) (below_zero (digits_of p) (and_parts (is_integer p) (nat_lt 0 (digits_of p)) both.0).1 both.1)
+        subst FitsNumber (same_Some _ _ f) (below_zero (digits_of p) (and_parts (is_integer p) (nat_lt 0 (digits_of p)) both.0).1 both.1)
     by false g f = float_fits true p n f
 
 number_fits : (s : List ℕ) (n : Num) → number_of s ≡ Some n → FitsNumber n
@@ -94,7 +90,7 @@ put_fits k d (member l e ms) f h = put_by (slice_cmp nat_cmp k l) k l d e ms f h
 
 mapped : {X Y : Type 0} (f : X → Y) (o : Option X) (y : Y) → option_map f o ≡ Some y → (x : X) × (o ≡ Some x) × (f x ≡ y)
 mapped f None y e = absurd cc
-mapped f (Some x) y e = (x, refl, some_is _ _ e)
+mapped f (Some x) y e = (x, refl, same_Some _ _ e)
 
 chained : {X Y : Type 0} (f : X → Option Y) (o : Option X) (y : Y) → option_and_then f o ≡ Some y → (x : X) × (o ≡ Some x) × (f x ≡ Some y)
 chained f None y e = absurd cc
@@ -102,22 +98,22 @@ chained f (Some x) y e = (x, refl, e)
 
 mutual
   json_fits : (j : json.Json) (d : Data) → of_json j ≡ Some d → Fits d
-  json_fits json.null d e = subst Fits (some_is _ _ e) tt
-  json_fits (json.boolean b) d e = subst Fits (some_is _ _ e) tt
+  json_fits json.null d e = subst Fits (same_Some _ _ e) tt
+  json_fits (json.boolean b) d e = subst Fits (same_Some _ _ e) tt
   json_fits (json.number s) d e = let n = mapped number (number_of s) d e in subst Fits n.2 (number_fits s n.0 n.1)
-  json_fits (json.string s) d e = subst Fits (some_is _ _ e) tt
+  json_fits (json.string s) d e = subst Fits (same_Some _ _ e) tt
   json_fits (json.array js) d e = let ds = mapped array (of_items js) d e in subst Fits ds.2 (items_fit js ds.0 ds.1)
   json_fits (json.object ms) d e = let found = mapped object (of_members ms no_members) d e in subst Fits found.2 (members_fit ms no_members found.0 tt found.1)
 
   items_fit : (js : json.Items) (ds : Items) → of_items js ≡ Some ds → ItemsFit ds
-  items_fit json.no_items ds e = subst ItemsFit (some_is _ _ e) tt
+  items_fit json.no_items ds e = subst ItemsFit (same_Some _ _ e) tt
   items_fit (json.item j js) ds e =
       let first = chained (λ d. option_map (item d) (of_items js)) (of_json j) ds e in
       let rest = mapped (item first.0) (of_items js) ds first.2 in
       subst ItemsFit rest.2 (json_fits j first.0 first.1, items_fit js rest.0 rest.1)
 
   members_fit : (ms : json.Members) (found all : Members) → MembersFit found → of_members ms found ≡ Some all → MembersFit all
-  members_fit json.no_members found all f e = subst MembersFit (some_is _ _ e) f
+  members_fit json.no_members found all f e = subst MembersFit (same_Some _ _ e) f
   members_fit (json.member k j ms) found all f e =
       let first = chained (λ d. of_members ms (put k d found)) (of_json j) all e in
       members_fit ms (put k first.0 found) all (put_fits k first.0 found (json_fits j first.0 first.1) f) first.2

@@ -26,6 +26,7 @@ use Rattle.model_files.specs.declared.fault.FileError.{FileError}
 use Rattle.model_files.specs.declared.fault.FileError.TheVariants as errors
 use Rattle.model_files.specs.declared.fault.JsonFault.TheVariants as json_faults
 use Rattle.model_files.specs.Shape.{first_amiss}
+use Rattle.std.proofs.lemmas.Option.{same_Some}
 
 -- ---- texts
 
@@ -139,16 +140,13 @@ first_placed meta d fault shape fewer first =
 too_many : (meta : MetaDesc) (d : Data) (fault : ModelFault) → HasTooMany d → faults.Limit limits.Objects ≡ fault → IsFirstContentFault meta d fault
 too_many meta d fault h e = subst (IsFirstContentFault meta d) e h
 
-some_injective : {X : Type 0} (x y : X) → Some x ≡ Some y → x ≡ y
-some_injective x y e = cc
-
 pub content_fault : (meta : MetaDesc) (d : Data) (fault : ModelFault) → first_amiss d ≡ None → first_fault meta (objects_of d) ≡ Some fault
     → IsFirstContentFault meta d fault
 content_fault meta d fault shape = by (nat_lt MAX_OBJECTS (length (objects_of d))) refl
   where
     by : (b : Bool) → nat_lt MAX_OBJECTS (length (objects_of d)) ≡ b → cond b (Some (faults.Limit limits.Objects)) (first_wrong meta (objects_of d)) ≡ Some fault
         → IsFirstContentFault meta d fault
-    by true e f = too_many meta d fault (record { shape = shape; more = ltb-true MAX_OBJECTS (length (objects_of d)) e }) (some_injective _ _ f)
+    by true e f = too_many meta d fault (record { shape = shape; more = ltb-true MAX_OBJECTS (length (objects_of d)) e }) (same_Some _ _ f)
     by false e f = first_placed meta d fault shape (ltb-false MAX_OBJECTS (length (objects_of d)) e) f
 
 pub no_fault_left : (meta : MetaDesc) (objects : List Written) → first_fault meta objects ≡ None → (length objects ≤ MAX_OBJECTS) × (first_wrong meta objects ≡ None)

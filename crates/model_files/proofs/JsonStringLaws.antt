@@ -11,6 +11,7 @@ use Rattle.json.specs.Token.{Token, begin_object, end_object, begin_array, end_a
 use Rattle.json.specs.Word.{is_operator, is_space, word, literal, number_before, after_number, ends_word, head}
 use Rattle.json.specs.Lex.{Lexeme, token, comma, colon, Class, quote, backslash, operator, space, other, class, operator_lexeme, string_token, Mode, between, in_word, in_string, in_escape, lex_byte, lex, Place, fresh, after_value, after_comma, after_key, begins_colon, may_begin, may_close, if_allowed, place_token, punctuate, tokens}
 use Rattle.json.specs.Ascii as ascii
+use Rattle.std.proofs.lemmas.Option.{same_Some}
 
 -- ---- around a byte of ASCII
 
@@ -44,18 +45,13 @@ beside pre x xs small u =
 further : (pre : List ℕ) (x : ℕ) (xs : List ℕ) → IsUtf8 (pre ++ x ∷ xs) → IsUtf8 ((pre ++ x ∷ []) ++ xs)
 further pre x xs u = subst IsUtf8 (sym (append_assoc pre (x ∷ []) xs)) u
 
--- ---- bytes of escapes
-
-some_is : {X : Type 0} (x y : X) → Some x ≡ Some y → x ≡ y
-some_is x y e = cc
-
 chained : {X Y : Type 0} (f : X → Option Y) (o : Option X) (y : Y) → option_and_then f o ≡ Some y → (x : X) × (o ≡ Some x) × (f x ≡ Some y)
 chained f None y e = absurd cc
 chained f (Some x) y e = (x, refl, e)
 
 mapped : {X Y : Type 0} (f : X → Y) (o : Option X) (y : Y) → option_map f o ≡ Some y → (x : X) × (o ≡ Some x) × (f x ≡ y)
 mapped f None y e = absurd cc
-mapped f (Some x) y e = (x, refl, some_is _ _ e)
+mapped f (Some x) y e = (x, refl, same_Some _ _ e)
 
 -- a digit is below 123, and its value below 16
 high_digit : (c : ℕ) → 123 ≤ c → digit_value c ≡ 36
@@ -102,7 +98,7 @@ unit_is a b c d u e = by (is_digit a 16 && is_digit b 16 && is_digit c 16 && is_
         let vb : digit_value b < 16 = ltb-true (digit_value b) 16 front.1 in
         let vc : digit_value c < 16 = ltb-true (digit_value c) 16 third.1 in
         let vd : digit_value d < 16 = ltb-true (digit_value d) 16 last.1 in
-        let same : value ≡ u = some_is value u g in
+        let same : value ≡ u = same_Some value u g in
         record {
           first = digit_small a front.0;
           second = digit_small b front.1;
@@ -140,7 +136,7 @@ short_small x c e = by ((x == ascii.quote) || (x == ascii.backslash) || (x == as
     either false false false f g h i = absurd cc
 
     letter : (n k : ℕ) (b : Bool) (o : Option ℕ) → n < 128 → k < 128 → (x == n) ≡ b → (o ≡ Some c → (x < 128) × (c < 128)) → cond b (Some k) o ≡ Some c → (x < 128) × (c < 128)
-    letter n k true o small low f more g = (let same = eqb-true x n f in let value = some_is k c g in (omega (arith, same, small), omega (arith, value, low)))
+    letter n k true o small low f more g = (let same = eqb-true x n f in let value = same_Some k c g in (omega (arith, same, small), omega (arith, value, low)))
     letter n k false o small low f more g = more g
 
     letters : cond (x == ascii.lower_b) (Some ascii.backspace) (cond (x == ascii.lower_f) (Some ascii.form_feed) (cond (x == ascii.lower_n) (Some ascii.line_feed) (cond (x == ascii.lower_r) (Some ascii.carriage_return) (cond (x == ascii.lower_t) (Some ascii.tab) None)))) ≡ Some c
@@ -157,7 +153,7 @@ short_small x c e = by ((x == ascii.quote) || (x == ascii.backslash) || (x == as
         → (x < 128) × (c < 128)
     by true f g =
         let small = either (x == ascii.quote) (x == ascii.backslash) (x == ascii.slash) refl refl refl f in
-        let same = some_is x c g in
+        let same = same_Some x c g in
         (small, omega (arith, small, same))
     by false f g = letters g
 
@@ -297,7 +293,7 @@ goes_all (suc n) pre (x ∷ xs) s few u e = quoted (goes_all n) (x == ascii.quot
         → cond b (Some []) (cond (x == ascii.backslash) (content after_backslash xs) (cond (nat_lt x ascii.space) None (prepend (x ∷ []) (content plain xs)))) ≡ Some s → IsUtf8 (pre ++ s)
     quoted goes true f g =
         let same = eqb-true x 34 f in
-        subst (λ (ys : List ℕ). IsUtf8 (pre ++ ys)) (some_is [] s g) (subst IsUtf8 (sym (append-nil pre)) (beside pre x xs (omega (arith, same)) u).0)
+        subst (λ (ys : List ℕ). IsUtf8 (pre ++ ys)) (same_Some [] s g) (subst IsUtf8 (sym (append-nil pre)) (beside pre x xs (omega (arith, same)) u).0)
     quoted goes false f g = slashed goes (x == ascii.backslash) refl g
 
 pub content_utf8 : (xs s : List ℕ) → IsUtf8 xs → content plain xs ≡ Some s → IsUtf8 s

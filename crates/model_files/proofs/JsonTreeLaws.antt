@@ -24,12 +24,14 @@ use Rattle.xmi_profile.specs.Judged.{runs_in, runs, IsUnknownClass, is_unknown_o
 use Rattle.xmi_profile.specs.Profile.{xmi_id, xmi_type}
 use Rattle.xmi_profile.specs.Source.{Source, all_items, ids_from, item_class, file_ids, uses, is_added, added_names, all_ids, all_classes, object_count, primitive_class}
 use Rattle.xmi_profile.specs.Values as texts
-use Rattle.xmi_profile.proofs.SeenLaws.{in_cons, in_none}
+use Rattle.xmi_profile.proofs.SeenLaws.{in_cons}
+use Rattle.mof_metamodel.proofs.Facts.{nothing_in}
 use Rattle.model_files.specs.JsonContent.{Written, objects_of, value_of, value_text, type_in, class_in, reference_attrs, value_elements, slot_elements, object_elements, source_of, may_stand, is_reference, with_blanks, item_text}
 use Rattle.model_files.proofs.JsonTree.{IsPlain, other_name, prop_in, IsKnownSlot, IsKnownObject, type_known, value_items, slot_items, object_attrs, object_item, own_items, objects_items, root_item, value_item, next_object, all_listed}
 use Rattle.model_files.proofs.JsonKnownLaws.{HasPlainNames, AreRight, distinct_ids}
 use Rattle.model_files.proofs.JsonNumberLaws.{Fits, SlotFits, ObjectFits}
 use Rattle.model_files.proofs.JsonValueLaws.{text_is_value}
+use Rattle.std.proofs.lemmas.Option.{none-some}
 
 -- ---- identifiers and classes
 
@@ -219,17 +221,12 @@ at_number {X = X} P (y ∷ ys) zero x h e = subst P (ap (λ (o : Option X). unwr
 at_number P (y ∷ ys) (suc n) x h e = at_number P ys n x h.1 e
 
 pub own_item : {X : Type 0} (P : X → Type 0) (xs : List X) (x : X) → AllByRecursion P xs → Contains xs x → P x
-own_item P [] x h c = absurd (in_none x c)
+own_item P [] x h c = absurd (nothing_in x c)
 own_item P (y ∷ ys) x h c = by (in_cons y ys x c) (own_item P ys x h.1)
   where
     by : (y ≡ x) ⊎ Contains ys x → (Contains ys x → P x) → P x
     by (inl e) more = subst P e h.0
     by (inr l) more = more l
-
--- ---- faults
-
-none_some : {X : Type 0} (x : X) → None ≡ Some x → ⊥
-none_some x e = cc
 
 -- what is not so of an element
 abbrev NoneStands : (Item → ℕ → List ℕ → List ℕ → Type 0) → Item → Type 0
@@ -238,11 +235,11 @@ NoneStands Stands item = (place : ℕ) (id prop : List ℕ) → Stands item plac
 classes_known : (meta : MetaDesc) (d : Data) → IsSound meta d → AllByRecursion (λ item. (place : ℕ) (name : List ℕ) → IsUnknownClass item place name → ⊥) (all_items (source_of meta d))
 classes_known meta d sound =
     all_have meta d (λ item. (place : ℕ) (name : List ℕ) → IsUnknownClass item place name → ⊥) sound (λ place name h. h)
-    (λ written known at number place name h. none_some (class_in meta written) (sym h.0 ∙ known.class)) (λ o p value_name text at value place name h. h)
+    (λ written known at number place name h. none-some (class_in meta written) (sym h.0 ∙ known.class)) (λ o p value_name text at value place name h. h)
 
 root_known : (meta : MetaDesc) (d : Data) → NoneStands (IsUnknownProperty (source_of meta d)) (root_item meta (objects_of d))
 root_known meta d place id prop (is, inl h) = h
-root_known meta d place id prop (is, inr (text, (number, at, place_is), h)) = none_some (prop, text) at
+root_known meta d place id prop (is, inr (text, (number, at, place_is), h)) = none-some (prop, text) at
 
 object_known : (meta : MetaDesc) (d : Data) → HasPlainNames meta → (written : Written) → IsKnownObject meta written → (at number : ℕ)
     → NoneStands (IsUnknownProperty (source_of meta d)) (object_item meta written at number)
@@ -254,7 +251,7 @@ object_known meta d plain written known at number place id prop (is, inr (text, 
 
 value_known : (meta : MetaDesc) (d : Data) (o p : ℕ) (name text : List ℕ) (at : ℕ) → NoneStands (IsUnknownProperty (source_of meta d)) (value_item o p name text at)
 value_known meta d o p name text at place id prop (is, inl h) = h
-value_known meta d o p name text at place id prop (is, inr (found, (number, there, place_is), h)) = none_some (prop, found) there
+value_known meta d o p name text at place id prop (is, inr (found, (number, there, place_is), h)) = none-some (prop, found) there
 
 properties_known : (meta : MetaDesc) (d : Data) → IsSound meta d → AllByRecursion (NoneStands (IsUnknownProperty (source_of meta d))) (all_items (source_of meta d))
 properties_known meta d sound =
@@ -266,7 +263,7 @@ abbrev NoneWrong : Source → Item → Type 0
 NoneWrong s item = (place : ℕ) (id : List ℕ) (prop : Option (List ℕ)) → IsWrongValue s item place id prop → ⊥
 
 no_text : (item : Item) (place : ℕ) → runs item ≡ [] → IsTextAt item place → ⊥
-no_text item place e h = in_none (place, h.0) (subst (λ (rs : List (ℕ × List ℕ)). Contains rs (place, h.0)) e h.1)
+no_text item place e h = nothing_in (place, h.0) (subst (λ (rs : List (ℕ × List ℕ)). Contains rs (place, h.0)) e h.1)
 
 root_right : (meta : MetaDesc) (d : Data) → NoneWrong (source_of meta d) (root_item meta (objects_of d))
 root_right meta d place id prop h = no_text (root_item meta (objects_of d)) place (objects_no_runs meta (objects_of d) _) h.0
@@ -283,7 +280,7 @@ object_right meta d plain written known at number place id prop (inr (inl h)) =
     true≢false (sym (right.reference h.property is) ∙ h.attribute)
 object_right meta d plain written known at number place id prop (inr (inr (inl h))) =
     no_text (object_item meta written at number) place (slots_no_runs meta (class_in meta written) written.slots _) h.text
-object_right meta d plain written known at number place id prop (inr (inr (inr h))) = none_some (h.container, h.property) h.within
+object_right meta d plain written known at number place id prop (inr (inr (inr h))) = none-some (h.container, h.property) h.within
 
 value_right : (meta : MetaDesc) (d : Data) (o p : ℕ) (name text : List ℕ) (at : ℕ) → is_some (texts.value_of meta (type_of meta p) (text ++ [])) ≡ true
     → NoneWrong (source_of meta d) (value_item o p name text at)

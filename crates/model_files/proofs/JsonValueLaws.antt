@@ -4,7 +4,7 @@ use Rattle.std.specs.Prelude.{◌==◌, ◌||◌, ◌&&◌, not, is_some, nat_lt
 use Rattle.std.specs.Fmt.{decimal, signed_decimal}
 use Rattle.std.specs.List.{list_all, list_any, AllByRecursion}
 use Rattle.std.specs.Option.{option_map}
-use Rattle.std.proofs.lemmas.Bool.{and_parts, true≢false, lt-ltb, ltb-true, le-leb, ne_eqb}
+use Rattle.std.proofs.lemmas.Bool.{and_parts, true≢false, lt-ltb, ltb-true, le-leb, ne_eqb, not-true}
 use Rattle.std.proofs.lemmas.Bool.Decides.{nat_tests}
 use Rattle.std.proofs.lemmas.Fmt.{decimal_by_steps}
 use Rattle.serde_json.specs.Data.{Num, unsigned, negative, float, Data, null, boolean, number, string, array, object}
@@ -219,10 +219,6 @@ unblank_from (c ∷ cs) h = by (is_blank c) refl h (unblank_from cs)
     by true e g more = absurd (true≢false g)
     by false e g more = (e, more g)
 
-not_is : (b : Bool) → not b ≡ true → b ≡ false
-not_is true e = absurd (true≢false (sym e))
-not_is false e = refl
-
 some_length : (text : List ℕ) → (length text == 0) ≡ false → 0 < length text
 some_length [] e = absurd (true≢false e)
 some_length (c ∷ cs) e = omega arith
@@ -232,7 +228,7 @@ pub word_from : (text : List ℕ) → is_identifier_text text ≡ true → IsWor
 word_from text h =
     let both = and_parts (is_storable_text text && not (list_any is_blank text)) (not (length text == 0)) h in
     let first = and_parts (is_storable_text text) (not (list_any is_blank text)) both.0 in
-    (some_length text (not_is _ both.1), unblank_from text (not_is _ first.1))
+    (some_length text (not-true _ both.1), unblank_from text (not-true _ first.1))
 
 word_on : (word text rest : List ℕ) → Unblank text → words_behind word (text ++ rest) ≡ words_behind (word ++ text) rest
 word_on word [] rest h = ap (λ (w : List ℕ). words_behind w rest) (sym (append-nil word))

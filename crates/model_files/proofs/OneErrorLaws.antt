@@ -44,9 +44,7 @@ use Rattle.model_files.proofs.FileLaws.{one_tree, one_value, no_value, amiss_cla
 use Rattle.model_files.proofs.MetaFileLaws.{IsOf, OfModel, OfDescription, is_of, not_both, one_emof, heads}
 use Rattle.model_files.proofs.OneFaultLaws.{one_meta_fault, one_breach}
 use Rattle.model_files.proofs.OneModelLaws.{same_content}
-
-some_same : {X : Type 0} (x y : X) → Some x ≡ Some y → x ≡ y
-some_same x y e = cc
+use Rattle.std.proofs.lemmas.Option.{same_Some}
 
 -- ---- a tree of elements
 
@@ -93,7 +91,7 @@ one_invalid s b c i j x y =
     let same = same_content s y.model x.model y.content x.content y.kept x.kept in
     let breach : b ≡ c = one_breach x.model b c x.broken (subst (λ (m : ModelData). IsFirstBreach m c) same y.broken) in
     let there : id_at x.model c.object.0 ≡ Some j = subst (λ (m : ModelData). id_at m c.object.0 ≡ Some j) same y.id_is in
-    let id : i ≡ j = some_same i j (sym x.id_is ∙ ap (λ (d : Breach). id_at x.model d.object.0) breach ∙ there) in
+    let id : i ≡ j = same_Some i j (sym x.id_is ∙ ap (λ (d : Breach). id_at x.model d.object.0) breach ∙ there) in
     ap₂ (λ (d : Breach) (k : List ℕ). faults.Invalid d k) breach id
 
 -- one fault is told of a tree
@@ -144,7 +142,7 @@ one_content_fault : (meta : MetaDesc) (d : Data) (f g : ModelFault) → WellMeta
 one_content_fault meta d f g well x y = by (placed meta d f x) (placed meta d g y)
   where
     by : Placed meta d f → Placed meta d g → f ≡ g
-    by (OfPlaces x) (OfPlaces y) = some_same f g (sym x.first ∙ y.first)
+    by (OfPlaces x) (OfPlaces y) = same_Some f g (sym x.first ∙ y.first)
     by (OfPlaces x) (OfOthers y) = absurd (wrong_none meta d f g x y)
     by (OfPlaces x) (OfMany e y) = absurd (let few = x.fewer in let many = y.more in omega (arith, few, many))
     by (OfOthers x) (OfPlaces y) = absurd (wrong_none meta d g f y x)
@@ -160,7 +158,7 @@ one_json_fault meta bytes json_faults.Syntax (json_faults.Shape p) well x (d, e,
 one_json_fault meta bytes json_faults.Syntax (json_faults.Content g) well x (d, e, y) = absurd (no_value bytes d e x)
 one_json_fault meta bytes (json_faults.Shape p) json_faults.Syntax well (d, e, x) y = absurd (no_value bytes d e y)
 one_json_fault meta bytes (json_faults.Shape p) (json_faults.Shape q) well (d, e, x) (c, f, y) =
-    ap (λ (path : List ℕ). json_faults.Shape path) (some_same p q (sym x ∙ ap first_amiss (one_value bytes d c e f) ∙ y))
+    ap (λ (path : List ℕ). json_faults.Shape path) (same_Some p q (sym x ∙ ap first_amiss (one_value bytes d c e f) ∙ y))
 one_json_fault meta bytes (json_faults.Shape p) (json_faults.Content g) well (c, f, x) (d, e, y) = absurd (amiss_clash bytes d c p e f (shape_of meta d g y) x)
 one_json_fault meta bytes (json_faults.Content h) json_faults.Syntax well (d, e, x) y = absurd (no_value bytes d e y)
 one_json_fault meta bytes (json_faults.Content h) (json_faults.Shape q) well (d, e, x) (c, f, y) = absurd (amiss_clash bytes d c q e f (shape_of meta d h x) y)
@@ -177,7 +175,7 @@ module _ (meta : MetaDesc) (outside : Externs) (bytes : List ℕ) (well : WellMe
       (subst (λ (t : Tree). IsFirstFault (reads.source_of meta outside t) g) (one_tree bytes y.tree x.tree y.markup x.markup) y.first)
 
   one_text_fault : (f g : TextFault) → markup.IsFirstFault bytes f → markup.IsFirstFault bytes g → f ≡ g
-  one_text_fault f g x y = some_same f g (sym (first_told bytes f x) ∙ first_told bytes g y)
+  one_text_fault f g x y = same_Some f g (sym (first_told bytes f x) ∙ first_told bytes g y)
 
   -- one error is told of a file
   pub one_error_in : (form : Form) (e f : FileError) → IsTold e → IsTold f → IsErrorIn meta outside bytes form e → IsErrorIn meta outside bytes form f → e ≡ f

@@ -16,9 +16,7 @@ use Rattle.object_tables.specs.declared.value.ObjId.{ObjId}
 use Rattle.object_tables.specs.Models.{ModelData, slot_number}
 use Rattle.object_tables.specs.Validity.{IsFirst, IsFirstBreach, IsBrokenAt, IsKeptBefore, IsPropertyOf, IsLeastOnCycle, KeepsBounds}
 use Rattle.object_tables.proofs.ModelLemmas.{index-within, index-same, same_class}
-
-some_same : {X : Type 0} (x y : X) → Some x ≡ Some y → x ≡ y
-some_same x y e = cc
+use Rattle.std.proofs.lemmas.Option.{same_Some}
 
 none_some : {X : Type 0} (o : Option X) (x : X) → o ≡ None → o ≡ Some x → ⊥
 none_some o x e f = let g : None ≡ Some x = sym e ∙ f in absurd cc
@@ -140,13 +138,13 @@ one_circular desc n m x y = x.named ∙ ap (λ (c : ℕ). (class_at desc c).name
 
 one_name : (desc : MetaDesc) (kind : MetaKind) (n m : List ℕ) → IsFirstFault desc kind n → IsFirstFault desc kind m → n ≡ m
 one_name desc kinds.Limit n m x y = x.1 ∙ sym y.1
-one_name desc kinds.BadName n m x y = some_same n m (sym x.1 ∙ y.1)
-one_name desc kinds.DuplicateName n m x y = some_same n m (sym x.1 ∙ y.1)
-one_name desc kinds.UnknownType n m x y = some_same n m (sym x.1 ∙ y.1)
+one_name desc kinds.BadName n m x y = same_Some n m (sym x.1 ∙ y.1)
+one_name desc kinds.DuplicateName n m x y = same_Some n m (sym x.1 ∙ y.1)
+one_name desc kinds.UnknownType n m x y = same_Some n m (sym x.1 ∙ y.1)
 one_name desc kinds.SuperCycle n m x y = one_circular desc n m x.1 y.1
-one_name desc kinds.BadBounds n m x y = some_same n m (sym x.1 ∙ y.1)
-one_name desc kinds.BadOpposite n m x y = some_same n m (sym x.1 ∙ y.1)
-one_name desc kinds.TwoContainers n m x y = some_same n m (sym x.1 ∙ y.1)
+one_name desc kinds.BadBounds n m x y = same_Some n m (sym x.1 ∙ y.1)
+one_name desc kinds.BadOpposite n m x y = same_Some n m (sym x.1 ∙ y.1)
+one_name desc kinds.TwoContainers n m x y = same_Some n m (sym x.1 ∙ y.1)
 
 not_before : (desc : MetaDesc) (f g : MetaFault) → IsFirstFault desc f.kind f.name → IsFirstFault desc g.kind g.name → rank f.kind < rank g.kind → ⊥
 not_before desc f g x y l = not_clear desc f.kind f.name x (clear_at desc (rank g.kind) (rank f.kind) l (passed desc g.kind g.name y))

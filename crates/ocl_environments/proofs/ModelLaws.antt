@@ -5,7 +5,7 @@ use Rattle.std.proofs.lemmas.Bool.{ltb-true, ne_eqb}
 use Rattle.std.proofs.lemmas.List.FromFn.{get_or-map-range_with_len, length-map-range_with_len}
 use Rattle.qv_syntax.specs.declared.query.ModelSlot.{ModelSlot}
 use Rattle.ocl_environments.specs.Environments.{have_metas, only, models_of, only_model, only_models}
-use Rattle.ocl_environments.proofs.TypeLaws.{both_true}
+use Rattle.std.proofs.lemmas.Bool.{and_parts}
 
 module _ (models : List ModelSlot) (table : List (Option ℕ)) (count : ℕ) (kept : table ≡ only_models models count) where
   long : length table ≡ count
@@ -20,7 +20,7 @@ module _ (models : List ModelSlot) (table : List (Option ℕ)) (count : ℕ) (ke
   none_past : (meta i : ℕ) (slots : List ModelSlot) → IsTrue (have_metas slots count) → count ≤ meta → models_of meta i slots ≡ []
   none_past meta i [] placed past = refl
   none_past meta i (slot ∷ slots) placed past =
-      let both = both_true (nat_lt slot.meta count) (have_metas slots count) placed in
+      let both = and_parts (nat_lt slot.meta count) (have_metas slots count) placed in
       let before : slot.meta < count = ltb-true slot.meta count both.0 in
       ap (λ b. (if b then i ∷ [] else []) ++ models_of meta (i + 1) slots) (ne_eqb slot.meta meta (λ same. absurd (omega (arith, before, past, same))))
       ∙ none_past meta (i + 1) slots both.1 past

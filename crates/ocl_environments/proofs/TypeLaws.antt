@@ -1,16 +1,12 @@
 -- One type as a test and as an equation.
 use Rattle.std.proofs.Common.{◌≡◌, Bool, true, false, ◌&&◌, refl, sym, ◌∙◌, ap, subst, eq-eqb}
 use Rattle.std.specs.Prelude.{◌==◌, IsTrue, ◌↔◌}
-use Rattle.std.proofs.lemmas.Bool.{eqb-true, false≢true}
+use Rattle.std.proofs.lemmas.Bool.{eqb-true, false≢true, and_parts, and_from}
 use Rattle.qv_syntax.specs.declared.type_tree.Kind.{Kind}
 use Rattle.qv_syntax.specs.declared.type_tree.Kind.TheVariants as kinds
 use Rattle.qv_syntax.specs.declared.ty.Ty.{Ty, Ty-F, ind-Ty, map-Ty, roll-Ty, out-Ty, fold-roll-Ty, roll-out-Ty, out-roll-Ty}
 use Rattle.qv_syntax.specs.declared.ty.Ty.TheOpen as of
 use Rattle.ocl_environments.specs.Agreement.{same_kind, same_type, same_step, same_layer}
-
-pub both_true : (a b : Bool) → (a && b) ≡ true → (a ≡ true) × (b ≡ true)
-both_true true b is = (refl, is)
-both_true false b is = absurd (false≢true is)
 
 pub same_kinds : (a b : Kind) → same_kind a b ≡ true → a ≡ b
 same_kinds kinds.Set kinds.Set is = refl
@@ -29,17 +25,17 @@ module _ (X : Type 0) (type : X → Ty) (told : (x : X) → IsToldApart (type x)
   same_layers of.Int of.Int is = refl
   same_layers of.Bool of.Bool is = refl
   same_layers (of.Enum m e) (of.Enum n f) is =
-      let both = both_true (m == n) (e.0 == f.0) is in
+      let both = and_parts (m == n) (e.0 == f.0) is in
       let meta : m ≡ n = eqb-true m n both.0 in
       let id : e.0 ≡ f.0 = eqb-true e.0 f.0 both.1 in
       λ i. of.Enum (meta i) (record { 0 = id i })
   same_layers (of.Class m c) (of.Class n d) is =
-      let both = both_true (m == n) (c.0 == d.0) is in
+      let both = and_parts (m == n) (c.0 == d.0) is in
       let meta : m ≡ n = eqb-true m n both.0 in
       let id : c.0 ≡ d.0 = eqb-true c.0 d.0 both.1 in
       λ i. of.Class (meta i) (record { 0 = id i })
   same_layers (of.Coll kind x) (of.Coll other inner) is =
-      let both = both_true (same_kind kind other) (same_type (type x) inner) is in
+      let both = and_parts (same_kind kind other) (same_type (type x) inner) is in
       let kinds_same : kind ≡ other = same_kinds kind other both.0 in
       let inner_same : type x ≡ inner = told x inner both.1 in
       λ i. of.Coll (kinds_same i) (inner_same i)
@@ -58,18 +54,14 @@ same_kind_itself kinds.Bag = refl
 same_kind_itself kinds.Sequence = refl
 same_kind_itself kinds.OrderedSet = refl
 
-pub and_true : (a b : Bool) → a ≡ true → b ≡ true → (a && b) ≡ true
-and_true true b is more = more
-and_true false b is more = is
-
 module _ (X : Type 0) (type : X → Ty) (itself : (x : X) → same_type (type x) (type x) ≡ true) where
   layer_itself : (y : of.Ty-F X) → same_layer (map-Ty Ty (Ty → Bool) same_type (map-Ty X Ty type y)) (map-Ty X Ty type y) ≡ true
   layer_itself of.Str = refl
   layer_itself of.Int = refl
   layer_itself of.Bool = refl
-  layer_itself (of.Enum m e) = and_true _ _ (eq-eqb m m refl) (eq-eqb e.0 e.0 refl)
-  layer_itself (of.Class m c) = and_true _ _ (eq-eqb m m refl) (eq-eqb c.0 c.0 refl)
-  layer_itself (of.Coll kind x) = and_true _ _ (same_kind_itself kind) (itself x)
+  layer_itself (of.Enum m e) = and_from _ _ (eq-eqb m m refl) (eq-eqb e.0 e.0 refl)
+  layer_itself (of.Class m c) = and_from _ _ (eq-eqb m m refl) (eq-eqb c.0 c.0 refl)
+  layer_itself (of.Coll kind x) = and_from _ _ (same_kind_itself kind) (itself x)
   layer_itself of.Null = refl
 
 pub same_itself : (a : Ty) → same_type a a ≡ true

@@ -45,6 +45,7 @@ use Rattle.ocl_parser.proofs.CompleteLeading.{IsPlain, one_symbol}
 use Rattle.ocl_parser.proofs.CompleteArguments.{arrow_of, class_between, class_given, class_behind_arrow, first_value}
 use Rattle.ocl_parser.proofs.CompleteForms.{Reads, Reading, IsRead, by_span, atom, held_after}
 use Rattle.ocl_parser.proofs.CompleteLists.{AllOf, Holder, list_read}
+use Rattle.std.proofs.lemmas.Bool.{not-true}
 
 -- ---- collections
 
@@ -158,10 +159,6 @@ pub args_rolled : (ts : List Lexeme) (d : of.Args-F Args Expr Postfix Infix) (a 
 args_rolled ts d a h = subst (λ (g : Given). GivenReads ts g a)
     (sym (ap (given ts) (sym h) ∙ fold-roll-Args Given Form Piece InfixForm (args_step ts) (expr_step ts) (postfix_step ts) (infix_step ts) d))
 
-is_false : (b : Bool) → not b ≡ true → b ≡ false
-is_false true e = cc
-is_false false e = refl
-
 end_at : (ts : List Lexeme) (i k : ℕ) → (span_at ts k (k + 1)).end ≡ (span_at ts i (k + 1)).end
 unfolding span_at
 end_at ts i k = refl
@@ -218,7 +215,7 @@ values_read ts es all levels n i j stack x few e =
     let c = within body n i j a.1 in
     let d = bracketed (is_sign (codes "(")) (is_sign (codes ")")) ts list c.0 i j c.2 in
     subst (λ (y : ℕ). ArgsReads levels ts (args.Values es) x stack i y) (sym d.4)
-    (values_on levels ts es x stack i d.0 c.0 all (is_false (takes_class x.text) a.0) (omega (arith, few, c.1)) d.1 d.2 d.3)
+    (values_on levels ts es x stack i d.0 c.0 all (not-true (takes_class x.text) a.0) (omega (arith, few, c.1)) d.1 d.2 d.3)
 
 pub class_argument_read : (ts : List Lexeme) (p : Path) → GivenReads ts (args_step ts (of.Class p)) (args.Class p)
 class_argument_read ts p levels n i j stack x few e =

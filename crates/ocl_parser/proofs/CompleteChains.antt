@@ -19,7 +19,8 @@ use Rattle.ocl_parser.specs.declared.frame.Frame.{Frame}
 use Rattle.ocl_parser.specs.declared.frame.Frame.TheVariants as frames
 use Rattle.ocl_parser.specs.declared.state.State.TheVariants as states
 use Rattle.ocl_parser.proofs.CompleteRuns.{going, step}
-use Rattle.ocl_parser.proofs.CompletePieces.{parts, held, both_true, token_first}
+use Rattle.ocl_parser.proofs.CompletePieces.{parts, held, token_first}
+use Rattle.std.proofs.lemmas.Bool.{and_parts}
 use Rattle.std.specs.Prelude.{◌==◌, nat_eq}
 use Rattle.std.specs.List.{list_all}
 use Rattle.std.proofs.lemmas.List.{append_assoc}
@@ -119,10 +120,10 @@ chain_on levels ts level stack f n i h k small few (l ∷ ls) all done operator 
     let r = ih levels n from j row (omega (arith, of_level, tight)) (omega (arith, few)) subtree in
     let a = parts (infix_form ts l).piece (pieces_of ts ls) n j k more in
     let b = token_first (is_operator l.operator) ts (form ts l.right).piece n j a.0 (subst (λ (x : InfixForm). x.piece n j ≡ Some a.0) (infix_form_is ts l) a.1) in
-    let here = both_true (is_of_level level (infix_form ts l)) (list_all (is_of_level level) (map (infix_form ts) ls)) same_level in
+    let here = and_parts (is_of_level level (infix_form ts l)) (list_all (is_of_level level) (map (infix_form ts) ls)) same_level in
     let here' : is_of_level level (infix_step ts (record { operator = l.operator; right = form ts l.right })) ≡ true =
     subst (λ (x : InfixForm). is_of_level level x ≡ true) (infix_form_is ts l) here.0 in
-    let now = both_true (level_of l.operator == level) (nat_lt level (form ts l.right).binding) here' in
+    let now = and_parts (level_of l.operator == level) (nat_lt level (form ts l.right).binding) here' in
     let level' : level_of l.operator ≡ level = grind (arith, nat_tests) in
     let tight' : level < (form ts l.right).binding = grind (arith, nat_tests) in
     let m = behind_part levels ts e (form ts e).binding row from j r l.operator (span_at ts j (j + 1)) (omega (arith, tight, level'))
@@ -150,12 +151,12 @@ chain_from ts f (l ∷ ls) ih all is levels n i j stack fit few e =
     let level : ℕ = (infix_form ts l).level in
     let level_is : level ≡ level_of l.operator = ap (λ (x : InfixForm). x.level) (infix_form_is ts l) in
     let some : Bool = nat_lt 0 (length (map (infix_form ts) (l ∷ ls))) in
-    let both = both_true (some && nat_lt level (form ts f).binding) (list_all (is_of_level level) (map (infix_form ts) (l ∷ ls))) is in
-    let looser = both_true some (nat_lt level (form ts f).binding) both.0 in
-    let here = both_true (is_of_level level (infix_form ts l)) (list_all (is_of_level level) (map (infix_form ts) ls)) both.1 in
+    let both = and_parts (some && nat_lt level (form ts f).binding) (list_all (is_of_level level) (map (infix_form ts) (l ∷ ls))) is in
+    let looser = and_parts some (nat_lt level (form ts f).binding) both.0 in
+    let here = and_parts (is_of_level level (infix_form ts l)) (list_all (is_of_level level) (map (infix_form ts) ls)) both.1 in
     let here' : is_of_level level (infix_step ts (record { operator = l.operator; right = form ts l.right })) ≡ true =
     subst (λ (x : InfixForm). is_of_level level x ≡ true) (infix_form_is ts l) here.0 in
-    let now = both_true (level_of l.operator == level) (nat_lt level (form ts l.right).binding) here' in
+    let now = and_parts (level_of l.operator == level) (nat_lt level (form ts l.right).binding) here' in
     let tight : level < (form ts f).binding = grind (arith, nat_tests, looser.1) in
     let tight' : level < (form ts l.right).binding = grind (arith, nat_tests, now.1) in
     let a = parts (form ts f).piece (pieces_of ts (l ∷ ls)) n i j e in

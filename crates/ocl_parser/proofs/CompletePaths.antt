@@ -17,14 +17,15 @@ use Rattle.ql_lex.specs.declared.symbol.Symbol.TheVariants as symbols
 use Rattle.ocl_parser.specs.declared.frame.Frame.{Frame}
 use Rattle.ocl_parser.specs.declared.state.State.{State}
 use Rattle.ocl_parser.proofs.CompleteRuns.{going, there, span_of, step}
-use Rattle.ocl_parser.proofs.CompletePieces.{parts, taken, held, both_true, same_spans, at_span}
+use Rattle.ocl_parser.proofs.CompletePieces.{parts, taken, held, same_spans, at_span}
+use Rattle.std.proofs.lemmas.Bool.{and_parts}
 
 -- where a name stands
 pub name_span : (ts : List Lexeme) (x : Name) (i : ℕ) → stands (is_name x) ts i ≡ true → x.span ≡ span_at ts i (i + 1)
 name_span ts x i e =
     let t = there (is_name x) ts i e in
     let l : Lexeme = t.0 in
-    let b = both_true (option_map_or (bytes_eq x.text) (name_text l.token.kind l.text) false) (is_same_span l.token.span x.span) t.2 in
+    let b = and_parts (option_map_or (bytes_eq x.text) (name_text l.token.kind l.text) false) (is_same_span l.token.span x.span) t.2 in
     sym (span_of ts i l t.1 ∙ same_spans l.token.span x.span b.1)
 
 abbrev behind_colons : List Lexeme → Piece → Piece
@@ -88,7 +89,7 @@ unfolding path names separated
 path_parts ts most p n i j e =
     let a = at_span ts p.span (only (nat_lt 0 (length p.names) && nat_le (length p.names) most) (names ts p.names)) n i j e in
     let b = held (nat_lt 0 (length p.names) && nat_le (length p.names) most) (names ts p.names) n i j a.0 in
-    let c = both_true (nat_lt 0 (length p.names)) (nat_le (length p.names) most) b.0 in
+    let c = and_parts (nat_lt 0 (length p.names)) (nat_le (length p.names) most) b.0 in
     by p.names refl c.0 c.1 b.1 a.1
   where
     by : (ns : List Name) → p.names ≡ ns → nat_lt 0 (length ns) ≡ true → nat_le (length ns) most ≡ true → names ts ns n i ≡ Some j → p.span ≡ span_at ts i j

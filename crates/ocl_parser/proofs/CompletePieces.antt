@@ -6,6 +6,7 @@ use Rattle.mof_metamodel.specs.declared.span.Span.{Span}
 use Rattle.ql_lex.specs.Lexed.{Lexeme}
 use Rattle.ocl_parser.specs.Pieces.{Piece, ◌▸◌, token, nested, only, spanned}
 use Rattle.ql_lex.specs.Lexemes.{stands, span_at, is_same_span}
+use Rattle.std.proofs.lemmas.Bool.{and_parts}
 
 some_is : (i j : ℕ) → Option.Some i ≡ Option.Some j → i ≡ j
 some_is i j e = cc
@@ -28,16 +29,12 @@ pub held : (b : Bool) (p : Piece) (n i j : ℕ) → only b p n i ≡ Some j → 
 held true p n i j e = (refl, e)
 held false p n i j e = cc
 
-pub both_true : (a b : Bool) → (a && b) ≡ true → (a ≡ true) × (b ≡ true)
-both_true true b e = (refl, e)
-both_true false b e = cc
-
 same_fields : (a b : Span) → a.start ≡ b.start → a.end ≡ b.end → a ≡ b
 same_fields a b starts ends = ap (λ (x : ℕ). record { start = x; end = a.end }) starts ∙ ap (λ (x : ℕ). record { start = b.start; end = x }) ends
 
 pub same_spans : (a b : Span) → is_same_span a b ≡ true → a ≡ b
 same_spans a b e =
-    let at = both_true (a.start == b.start) (a.end == b.end) e in
+    let at = and_parts (a.start == b.start) (a.end == b.end) e in
     same_fields a b (grind (arith, nat_tests)) (grind (arith, nat_tests))
 
 pub at_span : (ts : List Lexeme) (span : Span) (p : Piece) (n i j : ℕ) → spanned ts span p n i ≡ Some j → (p n i ≡ Some j) × (span ≡ span_at ts i j)

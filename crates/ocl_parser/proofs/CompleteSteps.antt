@@ -23,7 +23,8 @@ use Rattle.ocl_parser.specs.declared.frame.Frame.TheVariants as frames
 use Rattle.ocl_parser.specs.declared.state.State.{State}
 use Rattle.ocl_parser.specs.declared.state.State.TheVariants as states
 use Rattle.ocl_parser.proofs.CompleteRuns.{going, step}
-use Rattle.ocl_parser.proofs.CompletePieces.{parts, taken, held, both_true, at_span, within, token_first, token_last}
+use Rattle.ocl_parser.proofs.CompletePieces.{parts, taken, held, at_span, within, token_first, token_last}
+use Rattle.std.proofs.lemmas.Bool.{and_parts}
 use Rattle.std.proofs.lemmas.List.{append_assoc, append-nil, length-map}
 use Rattle.qv_syntax.specs.declared.expr.Postfix.{roll-Postfix, map-Postfix, fold-roll-Postfix}
 use Rattle.qv_syntax.specs.declared.expr.Postfix.TheVariants as postfixes
@@ -241,7 +242,7 @@ calls_read ts subtree ss span ih all =
     let some : Bool = nat_lt 0 (length (map (postfix_piece ts) ss)) in
     by_span ts 9 (exprs.Calls subtree ss) span (only (binds && some) ((form ts subtree).piece ▸ postfixes_piece ts ss)) (λ levels n i j stack fit few e.
     let a = held (binds && some) ((form ts subtree).piece ▸ postfixes_piece ts ss) n i j e in
-    let b = both_true binds some a.0 in
+    let b = and_parts binds some a.0 in
     let tight : 10 ≤ (form ts subtree).binding = grind (arith, nat_tests, b.0) in
     let more : 0 < length (map (postfix_piece ts) ss) = grind (arith, nat_tests, b.1) in
     calls_on levels ts subtree ss stack n i j ih all tight (omega (arith, more, length-map ss (postfix_piece ts))) (tighter (form ts subtree).binding stack tight fit) few a.1)

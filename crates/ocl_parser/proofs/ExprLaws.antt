@@ -21,6 +21,8 @@ use Rattle.ql_lex.specs.Lexemes.{stands, is_sign, is_word, is_name, is_number, i
 use Rattle.ocl_parser.specs.Grammar.{Form, InfixForm, Given, form, infix_form, postfix_piece, given, args_step, expr_step, postfix_step, infix_step, binding, spelled, spelled_infixes, spelled_postfixes, spelled_args, spelled_list, are_of_level, is_of_level, is_chain, chain_level, path, kind_word, bound, constant}
 use Rattle.ql_lex.proofs.TokenLaws.{same_span}
 use Rattle.ocl_parser.proofs.PieceLaws.{nested_at}
+use Rattle.std.proofs.lemmas.Bool.{lt-ltb}
+use Rattle.mof_metamodel.proofs.Facts.{first_true}
 
 rolled : (ts : List Lexeme) (d : of.Expr-F Args Expr Postfix Infix) (e : Expr) → roll-Expr d ≡ e → form ts e ≡ expr_step ts (map-Expr Args Expr Postfix Infix Given Form Piece InfixForm (given ts) (form ts) (postfix_piece ts) (infix_form ts) d)
 rolled ts d e h = ap (form ts) (sym h) ∙ fold-roll-Expr Given Form Piece InfixForm (args_step ts) (expr_step ts) (postfix_step ts) (infix_step ts) d
@@ -89,9 +91,6 @@ call_spelled ts x args span n i j k name e1 subtree at =
 at_least : (a b : ℕ) → a ≤ b → nat_le a b ≡ true
 at_least a b h = grind (arith, nat_tests)
 
-above : (a b : ℕ) → a < b → nat_lt a b ≡ true
-above a b h = grind (arith, nat_tests)
-
 pub not_spelled : (ts : List Lexeme) (operand : Expr) (span : Span) (n m i j k : ℕ) → n ≡ m + 1 → stands (is_word (codes "not")) ts i ≡ true → j ≡ i + 1
     → spelled ts m operand j ≡ Some k → 8 ≤ binding ts operand → span ≡ span_at ts i k → spelled ts n (Not operand span) i ≡ Some k
 unfolding spelled binding
@@ -108,17 +107,13 @@ pub calls_spelled : (ts : List Lexeme) (subtree : Expr) (steps : List Postfix) (
     → spelled ts n (Calls subtree steps span) i ≡ Some k
 unfolding spelled spelled_postfixes binding
 calls_spelled ts subtree steps span n i j k first tight rest some at =
-    let there : nat_lt 0 (length (map (postfix_piece ts) steps)) ≡ true = above 0 (length (map (postfix_piece ts) steps)) (omega (arith, length-map steps (postfix_piece ts))) in
+    let there : nat_lt 0 (length (map (postfix_piece ts) steps)) ≡ true = lt-ltb 0 (length (map (postfix_piece ts) steps)) (omega (arith, length-map steps (postfix_piece ts))) in
     ap (λ (f : Form). f.piece n i) (rolled ts (of.Calls subtree steps span) (Calls subtree steps span) (rolls-Calls subtree steps span)) ∙ rw (at_least 10 (form ts subtree).binding tight, there, first, rest, at, same_span (span_at ts i k)) refl
-
-both_left : (a b : Bool) → (a && b) ≡ true → a ≡ true
-both_left true b e = refl
-both_left false b e = e
 
 chain_level_is : (level : ℕ) (ls : List InfixForm) → 0 < length ls → list_all (is_of_level level) ls ≡ true → chain_level ls ≡ level
 chain_level_is level [] some all = absurd (omega arith)
 chain_level_is level (l ∷ ls) some all =
-    let here : (l.level == level) ≡ true = both_left (l.level == level) (nat_lt level l.subtree) (both_left (is_of_level level l) (list_all (is_of_level level) ls) all) in
+    let here : (l.level == level) ≡ true = first_true (l.level == level) (nat_lt level l.subtree) (first_true (is_of_level level l) (list_all (is_of_level level) ls) all) in
     grind (arith, nat_tests)
 
 pub chain_binding : (ts : List Lexeme) (first : Expr) (rest : List Infix) (span : Span) (level : ℕ) → are_of_level ts level rest ≡ true → 0 < length rest → binding ts (Chain first rest span) ≡ level
@@ -133,7 +128,7 @@ chain_spelled ts first rest span level n i j k begins tight more all some at =
     let ls : List InfixForm = map (infix_form ts) rest in
     let there : 0 < length ls = omega (arith, length-map rest (infix_form ts)) in
     let same : chain_level ls ≡ level = chain_level_is level ls there all in
-    let holds : is_chain (form ts first) ls ≡ true = rw (same, above 0 (length ls) there, above level (form ts first).binding tight, all) refl in
+    let holds : is_chain (form ts first) ls ≡ true = rw (same, lt-ltb 0 (length ls) there, lt-ltb level (form ts first).binding tight, all) refl in
     ap (λ (f : Form). f.piece n i) (rolled ts (of.Chain first rest span) (Chain first rest span) (rolls-Chain first rest span)) ∙ rw (holds, begins, more, at, same_span (span_at ts i k)) refl
 
 -- ---- how tightly each form binds

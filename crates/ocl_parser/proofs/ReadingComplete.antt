@@ -28,7 +28,8 @@ use Rattle.ocl_parser.specs.Readings.{Read, elements_read, expr_read, name_by, n
 use Rattle.ocl_parser.proofs.SymbolLaws.{is_told, plain_word, symbol_is, test_of}
 use Rattle.ocl_parser.proofs.CompleteRuns.{span_of, there}
 use Rattle.ocl_parser.proofs.CompletePaths.{name_span}
-use Rattle.ocl_parser.proofs.CompletePieces.{at_span, both_true, bracketed, held, parts, same_spans, taken, within}
+use Rattle.ocl_parser.proofs.CompletePieces.{at_span, bracketed, held, parts, same_spans, taken, within}
+use Rattle.std.proofs.lemmas.Bool.{and_parts}
 use Rattle.ocl_parser.proofs.SoundParts.{name_spans}
 use Rattle.ocl_parser.proofs.ReadingLaws.{type_unrolled}
 use Rattle.ocl_parser.proofs.Local.{spelled_end}
@@ -55,12 +56,12 @@ word_reads ts text n i j e = token_reads (is_word text) ts n i j e
 
 named : (x : Name) (l : Lexeme) → is_name x l ≡ true → (o : Option (List ℕ)) → name_text l.token.kind l.text ≡ o → (i : ℕ) → name_by l i o ≡ Ok (x, i + 1)
 named x l e (Some text) t i =
-    let b = both_true (option_map_or (bytes_eq x.text) (name_text l.token.kind l.text) false) (is_same_span l.token.span x.span) e in
+    let b = and_parts (option_map_or (bytes_eq x.text) (name_text l.token.kind l.text) false) (is_same_span l.token.span x.span) e in
     let same : bytes_eq x.text text ≡ true = rw t at b.0 in
     ap (λ (y : List ℕ). Ok (record { text = y; span = l.token.span }, i + 1)) (sym ((bytes_eq-Decides x.text text).0 same))
     ∙ ap (λ (s : Span). Ok (record { text = x.text; span = s }, i + 1)) (same_spans l.token.span x.span b.1)
 named x l e None t i =
-    let b = both_true (option_map_or (bytes_eq x.text) (name_text l.token.kind l.text) false) (is_same_span l.token.span x.span) e in
+    let b = and_parts (option_map_or (bytes_eq x.text) (name_text l.token.kind l.text) false) (is_same_span l.token.span x.span) e in
     let none : false ≡ true = rw t at b.0 in
     cc
 
@@ -173,7 +174,7 @@ path_reads ts p n i j e last =
         record { read = two_names ts x y p.span i j d.0 colons second next at; further = omega (arith, next) }
     by (x ∷ y ∷ z ∷ ns) h at =
         let b = held (nat_lt 0 (length (x ∷ y ∷ z ∷ ns)) && nat_le (length (x ∷ y ∷ z ∷ ns)) 2) (names ts (x ∷ y ∷ z ∷ ns)) n i j h in
-        let c = both_true (nat_lt 0 (length (x ∷ y ∷ z ∷ ns))) (nat_le (length (x ∷ y ∷ z ∷ ns)) 2) b.0 in
+        let c = and_parts (nat_lt 0 (length (x ∷ y ∷ z ∷ ns))) (nat_le (length (x ∷ y ∷ z ∷ ns)) 2) b.0 in
         absurd (grind (arith, nat_tests, c.1))
 
 -- ---- types

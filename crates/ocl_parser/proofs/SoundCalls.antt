@@ -20,20 +20,21 @@ use Rattle.ocl_parser.proofs.StepLaws.{class_spelled}
 use Rattle.ocl_parser.proofs.SoundStacks.{here, IsNamed, StepAt, PathAt, CallOpenAt, ClassPathAt, IteratorAt, Holds}
 use Rattle.ocl_parser.proofs.SoundReduced.{floor_most, chosen}
 use Rattle.ocl_parser.proofs.SoundParts.{called_with, path_one}
-use Rattle.ocl_parser.proofs.SoundOperands.{operand_fits, path_fits, path_spelled, few}
+use Rattle.ocl_parser.proofs.SoundOperands.{operand_fits, path_fits, path_spelled}
+use Rattle.std.proofs.lemmas.Bool.{ltb-true}
 use Rattle.ocl_parser.proofs.SoundMoves.{Fits, IsAt, room}
 
 pub arrow_parenthesis_fits : (ts : List Lexeme) (from levels : ℕ) (stack : List Frame) (base : Base) (start : ℕ) (name : Name) (s : Symbol) (a b n : ℕ)
     → Holds ts from levels stack a n
     → StepAt ts n (codes "->") base start name a b → IsAt ts b s → Fits ts from levels b (on_arrow_parenthesis stack base start name s)
 arrow_parenthesis_fits ts from levels stack base start name symbols.OpenParenthesis a b n h r e =
-    λ few. record {
+    λ ltb-true. record {
       a = a;
       n = n;
       below = h;
       read = record {
         m = n - 1;
-        level = room ts from levels stack a n h (omega (arith, few));
+        level = room ts from levels stack a n h (omega (arith, ltb-true));
         at = b;
         call = r;
         opens = e;
@@ -60,7 +61,7 @@ class_path_fits ts from levels stack called p symbols.DoubleColon a b n h r e = 
       a = a;
       n = n;
       below = h;
-      read = record { from = r.from; call = r.call; path = record { at = b; room = few (length p.names) 2 less; shorter = r.path; sign = e; end = refl } };
+      read = record { from = r.from; call = r.call; path = record { at = b; room = ltb-true (length p.names) 2 less; shorter = r.path; sign = e; end = refl } };
     })
     (λ _. tt)
 class_path_fits ts from levels stack called p symbols.CloseParenthesis a b n h r e = class_closes ts from levels stack called p a b n h r e

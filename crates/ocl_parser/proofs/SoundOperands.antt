@@ -30,20 +30,21 @@ use Rattle.ocl_parser.proofs.SoundStacks.{here, IsNamed, BaseAt, StepAt, CalledA
 use Rattle.ocl_parser.proofs.SoundReduced.{floor_most, begins_free, span_to, chosen}
 use Rattle.ocl_parser.proofs.SoundParts.{name_spans, path_one, base_first, step_added, called_with}
 use Rattle.ocl_parser.proofs.SoundMoves.{Fits, IsAt, room, after_fits}
+use Rattle.std.proofs.lemmas.Bool.{ltb-true}
 
 -- ---- an operand begins
 
 let_begins : (ts : List Lexeme) (from levels : ℕ) (stack : List Frame) (b n : ℕ) → Holds ts from levels stack b n → IsAt ts b symbols.Let
     → Fits ts from levels b (let_on (begins_expression stack) stack (start_of ts b))
 let_begins ts from levels stack b n h e = chosen (Fits ts from levels b) (begins_expression stack) _ _
-    (λ free. λ few. record {
+    (λ free. λ ltb-true. record {
       a = b;
       n = n;
       below = h;
       read = (
         record {
           m = n - 1;
-          opens = record { level = room ts from levels stack b n h (omega (arith, few)); begin = refl; token = e };
+          opens = record { level = room ts from levels stack b n h (omega (arith, ltb-true)); begin = refl; token = e };
           free = begins_free stack free;
         },
         refl,
@@ -80,44 +81,44 @@ one_token ts from levels stack e b n h whole tight = λ _. record { a = b; n = n
 pub operand_fits : (ts : List Lexeme) (from levels : ℕ) (stack : List Frame) (s : Symbol) (b n : ℕ) → Holds ts from levels stack b n → IsAt ts b s
     → Fits ts from levels b (operand stack s (here ts b))
 operand_fits ts from levels stack symbols.Let b n h e = let_begins ts from levels stack b n h e
-operand_fits ts from levels stack symbols.If b n h e = λ few. (
+operand_fits ts from levels stack symbols.If b n h e = λ ltb-true. (
   n - 1,
   record {
     a = b;
     n = n;
     below = h;
     fits = floor_most stack;
-    frame = (record { level = room ts from levels stack b n h (omega (arith, few)); begin = refl; token = e }, refl);
+    frame = (record { level = room ts from levels stack b n h (omega (arith, ltb-true)); begin = refl; token = e }, refl);
   },
 )
-operand_fits ts from levels stack symbols.Not b n h e = λ few. (
+operand_fits ts from levels stack symbols.Not b n h e = λ ltb-true. (
   n - 1,
   record {
     a = b;
     n = n;
     below = h;
     fits = floor_most stack;
-    frame = (record { level = room ts from levels stack b n h (omega (arith, few)); begin = refl; token = e }, refl);
+    frame = (record { level = room ts from levels stack b n h (omega (arith, ltb-true)); begin = refl; token = e }, refl);
   },
 )
-operand_fits ts from levels stack (symbols.Operator operators.Minus) b n h e = λ few. (
+operand_fits ts from levels stack (symbols.Operator operators.Minus) b n h e = λ ltb-true. (
   n - 1,
   record {
     a = b;
     n = n;
     below = h;
     fits = floor_most stack;
-    frame = (record { level = room ts from levels stack b n h (omega (arith, few)); begin = refl; token = e }, refl);
+    frame = (record { level = room ts from levels stack b n h (omega (arith, ltb-true)); begin = refl; token = e }, refl);
   },
 )
-operand_fits ts from levels stack symbols.OpenParenthesis b n h e = λ few. (
+operand_fits ts from levels stack symbols.OpenParenthesis b n h e = λ ltb-true. (
   n - 1,
   record {
     a = b;
     n = n;
     below = h;
     fits = floor_most stack;
-    frame = (record { level = room ts from levels stack b n h (omega (arith, few)); begin = refl; token = e }, refl);
+    frame = (record { level = room ts from levels stack b n h (omega (arith, ltb-true)); begin = refl; token = e }, refl);
   },
 )
 operand_fits ts from levels stack symbols.Null b n h e =
@@ -143,21 +144,21 @@ pub arguments_fit : (ts : List Lexeme) (from levels : ℕ) (stack : List Frame) 
     → IsAt ts b symbols.OpenParenthesis
     → Fits ts from levels b (arguments stack called)
 arguments_fit ts from levels stack called a b n h p e = chosen (Fits ts from levels b) (takes_class called.name.text) _ _
-    (λ class. λ few. record {
+    (λ class. λ ltb-true. record {
       a = a;
       n = n;
       below = h;
       read =
-          record { class = class; call = record { m = n - 1; level = room ts from levels stack a n h (omega (arith, few)); at = b; call = p; opens = e; end = refl } };
+          record { class = class; call = record { m = n - 1; level = room ts from levels stack a n h (omega (arith, ltb-true)); at = b; call = p; opens = e; end = refl } };
     })
-    (λ plain. λ few. (
+    (λ plain. λ ltb-true. (
       n - 1,
       record {
         a = a;
         n = n;
         below = h;
         fits = floor_most stack;
-        frame = record { level = room ts from levels stack a n h (omega (arith, few)); at = b; call = p; plain = plain; opens = e; list = refl };
+        frame = record { level = room ts from levels stack a n h (omega (arith, ltb-true)); at = b; call = p; plain = plain; opens = e; list = refl };
       },
     ))
 
@@ -166,9 +167,6 @@ arguments_fit ts from levels stack called a b n h p e = chosen (Fits ts from lev
 pub path_spelled : (ts : List Lexeme) (most : ℕ) (p : Path) (a b : ℕ) → PathAt ts most p a b → (m : ℕ) → path ts most p m a ≡ Some b
 path_spelled ts most p a b h m =
     ap (λ (s : Span). path ts most (record { names = p.names; span = s }) m a) h.span ∙ path_whole ts most p.names a b h.some h.few h.names m
-
-pub few : (a b : ℕ) → nat_lt a b ≡ true → a < b
-few a b e = grind (arith, nat_tests)
 
 one_more : (b : Bool) (a c : ℕ) → option_and_then (λ (x : ℕ). Some x) (if b then Some (a + 1) else None) ≡ Some c → (b ≡ true) × (c ≡ a + 1)
 one_more true a c e = (refl, the_same (a + 1) c e)
@@ -200,7 +198,7 @@ longer_fits ts from levels ns stack p a b n same h r e = chosen (Fits ts from le
       a = a;
       n = n;
       below = h;
-      read = record { at = b; room = subst (λ (xs : List Name). length xs < 3) (sym same) (few (length ns) 3 less); shorter = r; sign = e; end = refl };
+      read = record { at = b; room = subst (λ (xs : List Name). length xs < 3) (sym same) (ltb-true (length ns) 3 less); shorter = r; sign = e; end = refl };
     })
     (λ _. named_fits ts from levels stack p symbols.DoubleColon a b n h r e)
 

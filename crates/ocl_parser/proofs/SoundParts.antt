@@ -27,12 +27,7 @@ use Rattle.ocl_parser.proofs.PieceLaws.{names_one, names_more}
 use Rattle.ocl_parser.proofs.StepLaws.{steps_none, steps_more, dot_spelled, arrow_spelled, list_one, list_more}
 use Rattle.ocl_parser.proofs.SoundStacks.{IsNamed, IsSign, PartAt, BaseAt, BeforeAt, CalledAt, PathAt, LongerPathAt, ListAt}
 use Rattle.ocl_parser.proofs.SoundReduced.{span_to}
-
--- ---- names
-
-both_true : (a b : Bool) → (a && b) ≡ true → b ≡ true
-both_true true b e = e
-both_true false b e = absurd (true≢false (sym e))
+use Rattle.mof_metamodel.proofs.Facts.{second_true}
 
 pub record Spans (name : Name) (start end : ℕ) : Type 0 where
   pub starts : name.span.start ≡ start
@@ -41,7 +36,7 @@ pub record Spans (name : Name) (start end : ℕ) : Type 0 where
 same_spans : (name : Name) (span : Span) → is_same_span span name.span ≡ true → Spans name span.start span.end
 same_spans name span e =
     let s : (span.start == name.span.start) ≡ true = left (span.start == name.span.start) (span.end == name.span.end) e in
-    let t : (span.end == name.span.end) ≡ true = both_true (span.start == name.span.start) (span.end == name.span.end) e in
+    let t : (span.end == name.span.end) ≡ true = second_true (span.start == name.span.start) (span.end == name.span.end) e in
     record { starts = same span.start name.span.start s; ends = same span.end name.span.end t }
   where
     left : (a b : Bool) → (a && b) ≡ true → a ≡ true
@@ -55,7 +50,7 @@ named_spans : (name : Name) (o : Option Lexeme) → option_map_or (is_name name)
     → Spans name (option_map_or (λ l. l.token.span.start) o 0) (option_map_or (λ l. l.token.span.end) o 0)
 named_spans name None e = absurd (true≢false (sym e))
 named_spans name (Some l) e =
-    same_spans name l.token.span (both_true (option_map_or (bytes_eq name.text) (name_text l.token.kind l.text) false) (is_same_span l.token.span name.span) e)
+    same_spans name l.token.span (second_true (option_map_or (bytes_eq name.text) (name_text l.token.kind l.text) false) (is_same_span l.token.span name.span) e)
 
 -- a name stands where its token does
 pub name_spans : (ts : List Lexeme) (name : Name) (at : ℕ) → IsNamed ts name at → Spans name (start_of ts at) (end_of ts at)

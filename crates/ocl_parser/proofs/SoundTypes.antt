@@ -25,7 +25,8 @@ use Rattle.ocl_parser.proofs.HeadLaws.{bound_spelled, typed_spelled, variable_sp
 use Rattle.ocl_parser.proofs.SoundStacks.{here, IsNamed, IsSign, LetAt, KindAt, PathAt, Holds, StateAt}
 use Rattle.ocl_parser.proofs.SoundReduced.{floor_most, span_to, chosen}
 use Rattle.ocl_parser.proofs.SoundParts.{path_one}
-use Rattle.ocl_parser.proofs.SoundOperands.{one_span, path_spelled, few}
+use Rattle.ocl_parser.proofs.SoundOperands.{one_span, path_spelled}
+use Rattle.std.proofs.lemmas.Bool.{ltb-true}
 use Rattle.ocl_parser.proofs.SoundMoves.{Fits, IsAt, room}
 
 -- ---- where a type begins
@@ -45,7 +46,7 @@ type_begin_fits ts from levels stack s b n h e = tt
 pub type_parenthesis_fits : (ts : List Lexeme) (from levels : ℕ) (stack : List Frame) (start : ℕ) (kind : Kind) (s : Symbol) (a b n : ℕ)
     → Holds ts from levels stack a n → KindAt ts kind start a b → IsAt ts b s
     → Fits ts from levels b (on_type_parenthesis stack start kind s)
-type_parenthesis_fits ts from levels stack start kind symbols.OpenParenthesis a b n h r e = λ few. (
+type_parenthesis_fits ts from levels stack start kind symbols.OpenParenthesis a b n h r e = λ ltb-true. (
   n - 1,
   record {
     a = a;
@@ -53,7 +54,7 @@ type_parenthesis_fits ts from levels stack start kind symbols.OpenParenthesis a 
     below = h;
     fits = floor_most stack;
     frame =
-        (record { level = room ts from levels stack a n h (omega (arith, few)); begin = r.0; token = r.1 }, subst (IsSign ts (codes "(")) r.2 e, ap (λ (x : ℕ). x + 1) r.2);
+        (record { level = room ts from levels stack a n h (omega (arith, ltb-true)); begin = r.0; token = r.1 }, subst (IsSign ts (codes "(")) r.2 e, ap (λ (x : ℕ). x + 1) r.2);
   },
 )
 type_parenthesis_fits ts from levels stack start kind s a b n h r e = tt
@@ -61,7 +62,7 @@ type_parenthesis_fits ts from levels stack start kind s a b n h r e = tt
 pub brace_fits : (ts : List Lexeme) (from levels : ℕ) (stack : List Frame) (start : ℕ) (kind : Kind) (s : Symbol) (a b n : ℕ) → Holds ts from levels stack a n
     → KindAt ts kind start a b → IsAt ts b s
     → Fits ts from levels b (on_brace stack start kind s)
-brace_fits ts from levels stack start kind symbols.OpenBrace a b n h r e = λ few. (
+brace_fits ts from levels stack start kind symbols.OpenBrace a b n h r e = λ ltb-true. (
   n - 1,
   record {
     a = a;
@@ -69,7 +70,7 @@ brace_fits ts from levels stack start kind symbols.OpenBrace a b n h r e = λ fe
     below = h;
     fits = floor_most stack;
     frame =
-        (record { level = room ts from levels stack a n h (omega (arith, few)); begin = r.0; token = r.1 }, subst (IsSign ts (codes "{")) r.2 e, ap (λ (x : ℕ). x + 1) r.2);
+        (record { level = room ts from levels stack a n h (omega (arith, ltb-true)); begin = r.0; token = r.1 }, subst (IsSign ts (codes "{")) r.2 e, ap (λ (x : ℕ). x + 1) r.2);
   },
 )
 brace_fits ts from levels stack start kind s a b n h r e = tt
@@ -147,7 +148,7 @@ pub type_path_fits : (ts : List Lexeme) (from levels : ℕ) (stack : List Frame)
     → IsAt ts b s
     → Fits ts from levels b (type_path stack p s (here ts b))
 type_path_fits ts from levels stack p symbols.DoubleColon a b n h r e = chosen (Fits ts from levels b) (nat_lt (length p.names) 2) _ _
-    (λ less. λ _. record { a = a; n = n; below = h; read = record { at = b; room = few (length p.names) 2 less; shorter = r; sign = e; end = refl } })
+    (λ less. λ _. record { a = a; n = n; below = h; read = record { at = b; room = ltb-true (length p.names) 2 less; shorter = r; sign = e; end = refl } })
     (λ _. path_ends ts from levels stack p symbols.DoubleColon a b n h r e)
 type_path_fits ts from levels stack p s a b n h r e = path_ends ts from levels stack p s a b n h r e
 

@@ -25,6 +25,7 @@ use Rattle.ql_lex.specs.declared.symbol.Symbol.TheVariants as symbols
 use Rattle.ql_lex.specs.declared.symbol.PlainType.{PlainType}
 use Rattle.ql_lex.specs.declared.symbol.PlainType.TheVariants as plain
 use Rattle.ql_lex.proofs.TokenLaws.{same_text, same_span}
+use Rattle.std.proofs.lemmas.Bool.{and_parts}
 
 -- the word of a type that is no collection and no class
 abbrev pub plain_word : PlainType → List ℕ
@@ -275,13 +276,9 @@ number_is value l e = by l.token.kind l.text l.token.span e
     by kinds.Str x span e = none_true e
     by kinds.Sign x span e = none_true e
 
-both_true : (a b : Bool) → (a && b) ≡ true → (a ≡ true) × (b ≡ true)
-both_true true b e = (refl, e)
-both_true false b e = none_true e
-
 string_by : (text found : List ℕ) → (bytes_eq text found && is_storable_text text) ≡ true → string_symbol found ≡ symbols.Str text
 string_by text found e =
-    let t = both_true (bytes_eq text found) (is_storable_text text) e in
+    let t = and_parts (bytes_eq text found) (is_storable_text text) e in
     let same : text ≡ found = (bytes_eq-Decides text found).0 t.0 in
     ap string_symbol (sym same) ∙ rw t.1 refl
 
@@ -301,9 +298,9 @@ named_by : (name : Name) (o : Option (List ℕ)) (span : Span) → (option_map_o
     → name_symbol o span ≡ symbols.Name name
 named_by name None span e = none_true e
 named_by name (Some text) span e =
-    let t = both_true (bytes_eq name.text text) (is_same_span span name.span) e in
+    let t = and_parts (bytes_eq name.text text) (is_same_span span name.span) e in
     let same : name.text ≡ text = (bytes_eq-Decides name.text text).0 t.0 in
-    let at = both_true (span.start == name.span.start) (span.end == name.span.end) t.1 in
+    let at = and_parts (span.start == name.span.start) (span.end == name.span.end) t.1 in
     let starts : span.start ≡ name.span.start = grind (arith, nat_tests) in
     let ends : span.end ≡ name.span.end = grind (arith, nat_tests) in
     ap (λ (x : List ℕ). symbols.Name (record { text = x; span = span })) (sym same)

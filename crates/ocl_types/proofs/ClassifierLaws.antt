@@ -20,7 +20,8 @@ use Rattle.ocl_environments.specs.declared.classifier.Wanted.{Wanted}
 use Rattle.ocl_environments.specs.declared.classifier.Wanted.TheVariants.{Types, Classes, Enums}
 use Rattle.ocl_environments.specs.Environments.{Environment, no_meta, meta_at}
 use Rattle.ocl_environments.specs.Classifiers.{class_in, enum_in, is_meant, wanted_classes, wanted_enums, classifiers_in, classifiers_from, path_classifiers, classifier_type, named_type, class_alone, named_class, literal_in, path_literal, named_literal, only}
-use Rattle.ocl_types.proofs.ConformanceLaws.{nothing_in, in_either}
+use Rattle.ocl_types.proofs.ConformanceLaws.{in_either}
+use Rattle.mof_metamodel.proofs.Facts.{nothing_in}
 
 -- the class or the enumeration is one of the metamodels
 abbrev pub IsClassifierIn : List MetaDesc → Classifier → Type 0

@@ -15,9 +15,11 @@ use Rattle.qv_syntax.specs.TypeRules.{AreLikeCollections, AreComparable}
 use Rattle.ocl_environments.specs.Environments.{no_meta, meta_at, class_of, AreWell}
 use Rattle.ocl_environments.specs.Conformance.{ConformsBy, TypeConforms}
 use Rattle.ocl_environments.specs.Agreement.{same_kind, is_null, collection_parts, has_objects, fits, are_related, agreed, upper, IsTop, comparable_elements, are_comparable}
-use Rattle.ocl_environments.proofs.TypeLaws.{same_kinds, both_true}
+use Rattle.ocl_environments.proofs.TypeLaws.{same_kinds}
+use Rattle.std.proofs.lemmas.Bool.{and_parts}
 use Rattle.ocl_types.proofs.UpperLaws.{fits_exactly, agreed_sound}
 use Rattle.ocl_types.proofs.LayerLaws.{is_class, is_collection, null_is, objects_of_class}
+use Rattle.mof_metamodel.proofs.Facts.{nothing_in}
 
 -- ---- lists of one more
 
@@ -26,9 +28,6 @@ first_in x y xs same = Contains-append_left (x ∷ []) xs y (subst (Contains (x 
 
 pub later_in : {X : Type 0} (x y : X) (xs : List X) → Contains xs y → Contains (x ∷ xs) y
 later_in x y xs among = Contains-append_right (x ∷ []) xs y among
-
-pub nothing_in : {X : Type 0} (x : X) → Contains [] x → ⊥
-nothing_in x among = let below : among.0 < 0 = among.1 in absurd (omega arith)
 
 pub in_either : {X : Type 0} (x y : X) (xs : List X) → Contains (x ∷ xs) y → (x ≡ y) ⊎ Contains xs y
 in_either x y xs among = ⊎_elim
@@ -113,7 +112,7 @@ module _ (metas : List MetaDesc) (well : AreWell metas) where
     where
       by : (x y : Option (Kind × Ty)) → collection_parts a ≡ x → collection_parts b ≡ y → comparable_elements metas x y ≡ true → AreLikeCollections metas a b
       by (Some p) (Some q) one other is =
-          let both = both_true (same_kind p.0 q.0) (are_related metas p.1 q.1) is in
+          let both = and_parts (same_kind p.0 q.0) (are_related metas p.1 q.1) is in
           record {
             kind = p.0;
             one = p.1;

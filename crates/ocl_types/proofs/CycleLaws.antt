@@ -21,7 +21,8 @@ use Rattle.qv_syntax.specs.Parts.{IsWithin, CallsQuery, node_parts, call_parts, 
 use Rattle.qv_syntax.specs.QueryCalls.{Calls, Reaches, AreAcyclic}
 use Rattle.ocl_environments.specs.QueryCalls.{call_step, node_step, typed_step, infix_step, postfix_step, called_by, called_in_node, called_in_call, called_behind, called_with, rows_of}
 use Rattle.ocl_environments.proofs.QueryCallLemmas.{calls_of_step, by_link}
-use Rattle.ocl_types.proofs.ConformanceLaws.{first_in, later_in, nothing_in, in_either}
+use Rattle.ocl_types.proofs.ConformanceLaws.{first_in, later_in, in_either}
+use Rattle.mof_metamodel.proofs.Facts.{nothing_in}
 use Rattle.ocl_types.proofs.NumberLaws.{mapped_there}
 
 -- ---- one layer

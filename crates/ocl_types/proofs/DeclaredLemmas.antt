@@ -2,7 +2,7 @@
 use Rattle.std.proofs.Common.{if◌then◌else◌, ◌≡◌, ◌<◌, ℕ, ◌+◌, Bool, true, false, List, [], ◌∷◌, ◌++◌, Option, None, Some, Ok, Err, Result, length, get_or, refl, sym, ◌∙◌, ap, subst, append_assoc, length-append, arith}
 use Rattle.std.specs.Prelude.{nat_lt, IsTrue, IfOk}
 use Rattle.std.specs.Option.{option_map}
-use Rattle.std.proofs.lemmas.Bool.{false≢true}
+use Rattle.std.proofs.lemmas.Bool.{false≢true, lt-ltb}
 use Rattle.std.proofs.lemmas.Bool.Decides.{nat_tests}
 use Rattle.std.proofs.lemmas.List.Quantifiers.{position-Some}
 use Rattle.mof_metamodel.specs.declared.desc.MetaDesc.{MetaDesc}
@@ -29,10 +29,7 @@ use Rattle.ocl_environments.specs.Written.{fault_in, found_type, collection_of, 
 use Rattle.ocl_environments.specs.Outcomes.{RuleResult, and_then}
 use Rattle.ocl_environments.specs.Agreement.{collection_layer}
 use Rattle.ocl_types.specs.TypingScopes.{no_collection, element, flat_by, flat, declared_type}
-use Rattle.ocl_environments.proofs.TypeLaws.{and_true}
-
-lt_true : (a b : ℕ) → a < b → nat_lt a b ≡ true
-lt_true a b below = grind (arith, nat_tests)
+use Rattle.std.proofs.lemmas.Bool.{and_from}
 
 -- ---- classifiers that are found are there
 
@@ -53,13 +50,13 @@ module _ (whole : List MetaDesc) where
   unfolding IsHere
   class_here m c inside within =
       ap (is_over whole) (sym (types.rolls-Class m (record { 0 = c }))) ∙ fold-roll-Ty Bool (is_over_step whole) (of.Class m (record { 0 = c }))
-      ∙ and_true (nat_lt m (length whole)) (nat_lt c (class_count (meta_at whole m))) (lt_true m (length whole) inside) (lt_true c (class_count (meta_at whole m)) within)
+      ∙ and_from (nat_lt m (length whole)) (nat_lt c (class_count (meta_at whole m))) (lt-ltb m (length whole) inside) (lt-ltb c (class_count (meta_at whole m)) within)
 
   enum_here : (m e : ℕ) → m < length whole → e < enum_count (meta_at whole m) → IsHere (Enum m (record { 0 = e }))
   unfolding IsHere
   enum_here m e inside within =
       ap (is_over whole) (sym (types.rolls-Enum m (record { 0 = e }))) ∙ fold-roll-Ty Bool (is_over_step whole) (of.Enum m (record { 0 = e }))
-      ∙ and_true (nat_lt m (length whole)) (nat_lt e (enum_count (meta_at whole m))) (lt_true m (length whole) inside) (lt_true e (enum_count (meta_at whole m)) within)
+      ∙ and_from (nat_lt m (length whole)) (nat_lt e (enum_count (meta_at whole m))) (lt-ltb m (length whole) inside) (lt-ltb e (enum_count (meta_at whole m)) within)
 
   module _ (m : ℕ) (meta : MetaDesc) (inside : m < length whole) (is : meta ≡ meta_at whole m) (name : List ℕ) where
     classes_here : (wanted : Wanted) (o : Option ℕ) → ((c : ℕ) → o ≡ Some c → c < class_count (meta_at whole m))
@@ -235,7 +232,7 @@ module _ (env : Environment) where
   declared_by (Ok t) sound ty h =
       let s = sound t refl in
       let o = flat_here t (out-Ty t) refl s.full ty h in
-      subst (λ u. is_type env.metas u ≡ true) o.0 (and_true (is_over env.metas t) (is_flat t) s.over o.1)
+      subst (λ u. is_type env.metas u ≡ true) o.0 (and_from (is_over env.metas t) (is_flat t) s.over o.1)
   declared_by (Err f) sound ty h = absurd (cc)
 
   pub declared_is_type : (tree : TypeTree) (ty : Ty) → declared_type env tree ≡ Ok ty → IsTrue (is_type env.metas ty)

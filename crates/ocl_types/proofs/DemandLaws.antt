@@ -25,7 +25,8 @@ use Rattle.ocl_types.specs.TypingSteps.{is_of_meta}
 use Rattle.ocl_types.specs.TypeRules.{IsReceiver, IsObjectOf, IsOfKind}
 use Rattle.ocl_types.specs.Judged.{Judged, says, taking}
 use Rattle.ocl_types.proofs.JudgedLaws.{Decides, ok_err, err_err}
-use Rattle.ocl_environments.proofs.TypeLaws.{same_is_one, same_kind_itself, and_true}
+use Rattle.ocl_environments.proofs.TypeLaws.{same_is_one, same_kind_itself}
+use Rattle.std.proofs.lemmas.Bool.{and_from}
 use Rattle.ocl_types.proofs.LayerLaws.{is_class, class_of_class, parts_of_collection, null_is}
 use Rattle.ocl_types.proofs.ConformanceLaws.{fits_conform, comparable_are}
 use Rattle.ocl_types.proofs.RangeLaws.{elements_of}
@@ -67,7 +68,7 @@ module _ (metas : List MetaDesc) (well : AreWell metas) where
       let outer : IsOver like.other = elements_of metas like.kind like.other (subst IsOver like.second other) in
       ap (λ o. comparable_elements metas o (collection_parts b)) first
       ∙ ap (comparable_elements metas (Some (like.kind, like.one))) second
-      ∙ and_true (same_kind like.kind like.kind) (are_related metas like.one like.other) (same_kind_itself like.kind) (related_where like.one like.other inner outer like.related)
+      ∙ and_from (same_kind like.kind like.kind) (are_related metas like.one like.other) (same_kind_itself like.kind) (related_where like.one like.other inner outer like.related)
 
   comparable_where : (a b : Ty) → IsOver a → IsOver b → AreComparable metas a b → are_comparable metas a b ≡ true
   comparable_where a b one other are = one_of_all (is_null a) (is_null b) (are_related metas a b) (comparable_elements metas (collection_parts a) (collection_parts b)) (by are)

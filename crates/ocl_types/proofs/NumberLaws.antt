@@ -26,10 +26,12 @@ use Rattle.ocl_environments.specs.Navigation.{value_type, values_of}
 use Rattle.ocl_types.specs.TypingSteps.{described, class_property, property_of}
 use Rattle.ocl_types.specs.TypedContext.{context_of}
 use Rattle.ocl_types.specs.TypeRules.{HasPropertyNamed}
-use Rattle.ocl_environments.proofs.TypeLaws.{both_true, and_true}
+use Rattle.std.proofs.lemmas.Bool.{and_from}
+use Rattle.std.proofs.lemmas.Bool.{and_parts}
 use Rattle.ocl_types.proofs.LayerLaws.{is_class, class_of_class}
-use Rattle.ocl_types.proofs.RangeLaws.{true_lt}
-use Rattle.ocl_types.proofs.ConformanceLaws.{first_in, nothing_in, in_either}
+use Rattle.std.proofs.lemmas.Bool.{lt-ltb}
+use Rattle.ocl_types.proofs.ConformanceLaws.{first_in, in_either}
+use Rattle.mof_metamodel.proofs.Facts.{nothing_in}
 
 -- ---- names and their places
 
@@ -131,7 +133,7 @@ class_property_is metas m c name p is = by (nat_lt m (length metas) && nat_lt c.
     by : (b : Bool) → (nat_lt m (length metas) && nat_lt c.0 (class_count (meta_at metas m))) ≡ b
         → (if b then option_and_then (described m (meta_at metas m)) (prop_number (meta_at metas m) c.0 name) else None) ≡ Some p → HasPropertyNamed metas (types.Class m c) name p
     by true both is =
-        let two = both_true (nat_lt m (length metas)) (nat_lt c.0 (class_count (meta_at metas m))) both in
+        let two = and_parts (nat_lt m (length metas)) (nat_lt c.0 (class_count (meta_at metas m))) both in
         there (prop_number (meta_at metas m) c.0 name) refl (ltb-true _ _ two.0) (ltb-true _ _ two.1) is
     by false both is = absurd (none-some p is)
 
@@ -161,7 +163,7 @@ module _ (metas : List MetaDesc) (well : AreWell metas) where
   pub property_where : (ty : Ty) (name : List ℕ) (p : PropId × Values × Ty) → HasPropertyNamed metas ty name p → property_of metas ty name ≡ Some p
   property_where ty name p h =
       ap (option_and_then (λ (c : ℕ × ClassId). class_property metas c.0 c.1 name)) (ap class_of has.is ∙ class_of_class has.m has.class)
-      ∙ ap (λ b. if b then option_and_then (described has.m meta) (prop_number meta has.class.0 name) else None) (and_true (nat_lt has.m (length metas)) (nat_lt has.class.0 (class_count meta)) (true_lt has.m (length metas) within) (true_lt has.class.0 (class_count meta) inside))
+      ∙ ap (λ b. if b then option_and_then (described has.m meta) (prop_number meta has.class.0 name) else None) (and_from (nat_lt has.m (length metas)) (nat_lt has.class.0 (class_count meta)) (lt-ltb has.m (length metas) within) (lt-ltb has.class.0 (class_count meta) inside))
       ∙ ap (option_and_then (described has.m meta)) (only_named has.m meta has.class name p.0 (well has.m no_meta within) inside named)
       ∙ ap (option_map (λ t. (p.0, values_of (prop_at meta p.0.0), value_type has.m t))) typed
       ∙ ap (λ t. Some (p.0, values_of (prop_at meta p.0.0), t)) (sym has.value)

@@ -11,7 +11,8 @@ use Rattle.ocl_environments.specs.Agreement.{joined_models}
 use Rattle.ocl_environments.specs.Parts.{with_models, one_model}
 use Rattle.ocl_types.specs.TypedContext.{typing_of}
 use Rattle.ocl_types.proofs.JudgedLaws.{ok_ok, ok_err}
-use Rattle.ocl_types.proofs.ConformanceLaws.{first_in, later_in, nothing_in, in_either}
+use Rattle.ocl_types.proofs.ConformanceLaws.{first_in, later_in, in_either}
+use Rattle.mof_metamodel.proofs.Facts.{nothing_in}
 
 -- the model of two places is that of each which has one
 record Joins (a b m : Option ℕ) : Type 0 where

@@ -29,7 +29,7 @@ use Rattle.ocl_types.specs.TypingSteps.{tested}
 use Rattle.ocl_types.specs.TypeRules.{IsReceiver, IsObjectOf, IsOfKind, GivenConforms}
 use Rattle.ocl_types.specs.OperationRows.{AreAll, IsSummed}
 use Rattle.ocl_types.specs.TypingCollections.{element_by, element_of, iterated_type}
-use Rattle.ocl_environments.proofs.TypeLaws.{both_true}
+use Rattle.std.proofs.lemmas.Bool.{and_parts}
 use Rattle.ocl_types.proofs.LayerLaws.{is_collection, no_collection_is}
 use Rattle.ocl_types.proofs.ConformanceLaws.{top_related}
 
@@ -61,7 +61,7 @@ is_called operation = true
 found_passes : {X : Type 0} (p q : X → Bool) (xs : List X) (x : X) → list_all q xs ≡ true → find p xs ≡ Some x → q x ≡ true
 found_passes p q [] x all is = absurd (none-some x is)
 found_passes p q (y ∷ ys) x all is =
-    let both = both_true (q y) (list_all q ys) all in
+    let both = and_parts (q y) (list_all q ys) all in
     by (p y) is both.0 (λ later. found_passes p q ys x both.1 later)
   where
     by : (b : Bool) → cond b (Some y) (find p ys) ≡ Some x → q y ≡ true → (find p ys ≡ Some x → q x ≡ true) → q x ≡ true

@@ -15,7 +15,8 @@ use Rattle.ocl_environments.specs.Parts.{tree_of}
 use Rattle.ocl_types.specs.QueryTyping.{with_param}
 use Rattle.ocl_types.specs.Queries.{params_judged, reached_judged, typed_query_judged, bodies_judged, AreQueries}
 use Rattle.ocl_types.specs.TypedContext.{context_of, variable_typing, variables_of, typing_of, IsTypedQuery}
-use Rattle.ocl_types.proofs.ConformanceLaws.{nothing_in, in_either}
+use Rattle.ocl_types.proofs.ConformanceLaws.{in_either}
+use Rattle.mof_metamodel.proofs.Facts.{nothing_in}
 use Rattle.ocl_types.proofs.WrittenLaws.{declared_written}
 use Rattle.ocl_types.proofs.TypedParts.{IsReady, IsPart, ready}
 use Rattle.ocl_types.proofs.TypedTrees.{tree_part}

@@ -37,11 +37,10 @@ use Rattle.qv_syntax.specs.Types.{IsClassIn, IsEnumIn, IsSingleType, IsWrittenTy
 use Rattle.qv_syntax.specs.TypeRules.{Operated, Branches, Elements, HasProperty, value_type, navigated, OperationGives, CollectionGives, JoinsElement, JoinsCollection, IteratorGives, tested}
 use Rattle.qv_syntax.specs.TypedTrees.{QueryType, Context, Typing, Variables, with_variable, types_of, IsTyped, AreTyped, IsChained, AreCalled, IsCalled}
 use Rattle.ocl_environments.specs.Environments.{no_meta, meta_at, is_over, is_over_step}
-use Rattle.ocl_environments.proofs.TypeLaws.{and_true}
-use Rattle.ocl_types.proofs.ConformanceLaws.{first_in, nothing_in, in_two, in_either, one_more}
-
-pub true_lt : (a b : ℕ) → a < b → nat_lt a b ≡ true
-true_lt a b below = grind (arith, nat_tests)
+use Rattle.std.proofs.lemmas.Bool.{and_from}
+use Rattle.ocl_types.proofs.ConformanceLaws.{first_in, in_two, in_either, one_more}
+use Rattle.mof_metamodel.proofs.Facts.{nothing_in}
+use Rattle.std.proofs.lemmas.Bool.{lt-ltb}
 
 module _ (metas : List MetaDesc) where
   abbrev IsOver : Ty → Type 0
@@ -67,14 +66,14 @@ module _ (metas : List MetaDesc) where
       let same : meta_at metas m ≡ has.meta = get_or_from_slice_get metas m has.meta no_meta has.found in
       let within : c.0 < class_count (meta_at metas m) = subst (λ d. c.0 < class_count d) (sym same) has.within in
       sym (at_layer (of.Class m c) (types.Class m c) (types.rolls-Class m c))
-      ∙ and_true (nat_lt m (length metas)) (nat_lt c.0 (class_count (meta_at metas m))) (true_lt m (length metas) (slice_get_within metas m has.meta has.found)) (true_lt c.0 (class_count (meta_at metas m)) within)
+      ∙ and_from (nat_lt m (length metas)) (nat_lt c.0 (class_count (meta_at metas m))) (lt-ltb m (length metas) (slice_get_within metas m has.meta has.found)) (lt-ltb c.0 (class_count (meta_at metas m)) within)
 
   pub over_enum : (m : ℕ) (e : EnumId) → IsEnumIn metas m e → IsOver (types.Enum m e)
   over_enum m e has =
       let same : meta_at metas m ≡ has.meta = get_or_from_slice_get metas m has.meta no_meta has.found in
       let within : e.0 < enum_count (meta_at metas m) = subst (λ d. e.0 < enum_count d) (sym same) has.within in
       sym (at_layer (of.Enum m e) (types.Enum m e) (types.rolls-Enum m e))
-      ∙ and_true (nat_lt m (length metas)) (nat_lt e.0 (enum_count (meta_at metas m))) (true_lt m (length metas) (slice_get_within metas m has.meta has.found)) (true_lt e.0 (enum_count (meta_at metas m)) within)
+      ∙ and_from (nat_lt m (length metas)) (nat_lt e.0 (enum_count (meta_at metas m))) (lt-ltb m (length metas) (slice_get_within metas m has.meta has.found)) (lt-ltb e.0 (enum_count (meta_at metas m)) within)
 
   -- a collection is of the metamodels where its elements are
   over_collection : (kind : Kind) (inner : Ty) → is_over metas inner ≡ is_over metas (types.Coll kind inner)

@@ -19,7 +19,7 @@ use Rattle.ocl_environments.specs.Conformance.{ConformsBy, TypeConforms}
 use Rattle.ocl_environments.specs.Outcomes.{wrong_type}
 use Rattle.ocl_environments.specs.Agreement.{fits, higher, all_fit, agreed, upper, IsTop}
 use Rattle.ocl_types.specs.TypeRules.{top_judged, DoNotAgree}
-use Rattle.ocl_environments.proofs.TypeLaws.{both_true}
+use Rattle.std.proofs.lemmas.Bool.{and_parts}
 use Rattle.ocl_types.proofs.UpperLaws.{fits_exactly, agreed_complete, among_scanned}
 use Rattle.ocl_types.proofs.JudgedLaws.{Decides, ok_err, err_err, says_decides}
 use Rattle.ocl_types.proofs.LayerLaws.{by_layer, is_class, class_of_class}
@@ -33,7 +33,7 @@ module _ (metas : List MetaDesc) where
       let same : roll-Ty l ≡ types.Class c.0 c.1 = is_class (roll-Ty l) c at in
       let step : (nat_lt c.0 (length metas) && nat_lt c.1.0 (class_count (meta_at metas c.0))) ≡ true =
       sym (fold-roll-Ty Bool (is_over_step metas) (of.Class c.0 c.1)) ∙ ap (is_over metas) (types.rolls-Class c.0 c.1) ∙ sym (ap (is_over metas) same) ∙ over in
-      let both = both_true (nat_lt c.0 (length metas)) (nat_lt c.1.0 (class_count (meta_at metas c.0))) step in
+      let both = and_parts (nat_lt c.0 (length metas)) (nat_lt c.1.0 (class_count (meta_at metas c.0))) step in
       (ltb-true _ _ both.0, ltb-true _ _ both.1)
 
   class_within : (ty : Ty) (c : ℕ × ClassId) → is_over metas ty ≡ true → class_of ty ≡ Some c → (c.0 < length metas) × (c.1.0 < class_count (meta_at metas c.0))

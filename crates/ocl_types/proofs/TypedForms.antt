@@ -32,7 +32,8 @@ use Rattle.ocl_types.specs.TypingOperators.{unchained, chain_part}
 use Rattle.ocl_types.specs.TypeRules.{operator_judged, linked_judged, not_judged, negated_judged, if_judged, collection_judged, let_judged, bound_judged, arguments_judged, query_judged, extent_judged}
 use Rattle.ocl_types.specs.TypedContext.{AreOver, context_of, variables_of, typing_of, query_type}
 use Rattle.ocl_types.proofs.LayerLaws.{objects_of_class, objects_of_collection, objects_of_null, kept_again, none_kept, kept_alike}
-use Rattle.ocl_types.proofs.ConformanceLaws.{first_in, later_in, nothing_in, in_either, alike}
+use Rattle.ocl_types.proofs.ConformanceLaws.{first_in, later_in, in_either, alike}
+use Rattle.mof_metamodel.proofs.Facts.{nothing_in}
 use Rattle.ocl_types.proofs.ClassifierLaws.{class_there}
 use Rattle.ocl_types.proofs.WrittenLaws.{declared_written}
 use Rattle.ocl_types.proofs.RangeLaws.{written_over, each_over, operated_over}

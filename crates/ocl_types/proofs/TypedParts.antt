@@ -29,13 +29,14 @@ use Rattle.ocl_environments.specs.Parts.{tree_of, trees_of}
 use Rattle.ocl_types.specs.Judged.{Judged, finds}
 use Rattle.ocl_types.specs.TypeRules.{names_judged, variable_judged, literal_judged}
 use Rattle.ocl_types.specs.TypedContext.{query_type, context_of, variable_typing, variables_of, typing_of}
-use Rattle.ocl_environments.proofs.TypeLaws.{both_true}
+use Rattle.std.proofs.lemmas.Bool.{and_parts}
 use Rattle.ocl_types.proofs.JudgedLaws.{ok_ok}
 use Rattle.ocl_types.proofs.RangeLaws.{AllOver, over_with, typed_over}
 use Rattle.ocl_types.proofs.LayerLaws.{is_class, objects_of_class, none_kept}
 use Rattle.ocl_types.proofs.ConformanceLaws.{one_more}
 use Rattle.ocl_types.proofs.ClassifierLaws.{literal_is_there}
 use Rattle.ocl_types.proofs.NumberLaws.{mapped_there}
+use Rattle.mof_metamodel.proofs.Facts.{contains_at}
 
 -- ---- what is shown of environments and of parts
 
@@ -78,11 +79,6 @@ pub record IsLinkedTo (env : Environment) (first : Ty) (c : Chained) : Type 0 wh
       → IsChained (context_of env) (variables_of env) first (c.links ++ rest) last
   pub over : IsTrue (is_over env.metas c.ty)
 
--- ---- environments in order are ready
-
-pub contains_at : {X : Type 0} (xs : List X) (n : ℕ) (x : X) → slice_get xs n ≡ Some x → Contains xs x
-contains_at xs n x is = (n, slice_get_within xs n x is, get_or_from_slice_get xs n x x is)
-
 never : (a b : Bool) → (a && false && b) ≡ true → ⊥
 never true b is = false≢true is
 never false b is = false≢true is
@@ -103,7 +99,7 @@ variable_kept env v is = by v.1.model is
     by (Some m) is = objects_kept v.1.ty (Some m) (by_class m (class_of v.1.ty) refl is)
 
 variable_over : (env : Environment) (v : List ℕ × Variable) → IsTrue (is_variable env v) → IsTrue (is_over env.metas v.1.ty)
-variable_over env v is = (both_true (is_over env.metas v.1.ty) (is_flat v.1.ty) (by v.1.model is)).0
+variable_over env v is = (and_parts (is_over env.metas v.1.ty) (is_flat v.1.ty) (by v.1.model is)).0
   where
     last : (a b c : Bool) → (a && b && c) ≡ true → c ≡ true
     last true true c is = is
@@ -129,8 +125,8 @@ results_over env order q n at = by (slice_get env.queries n) refl (sym (slice_ge
     by None found is = absurd (none-some q is)
     by (Some w) found is =
         let whole : IsTrue (is_query env w) = passes_each (is_query env) env.queries order.queried w (contains_at env.queries n w found) in
-        let result : is_type env.metas w.1.result ≡ true = (both_true (are_types env.metas w.1.params) (is_type env.metas w.1.result) whole).1 in
-        subst (λ (u : QueryType). IsTrue (is_over env.metas u.result)) (same_Some (query_type w) q is) (both_true (is_over env.metas w.1.result) (is_flat w.1.result) result).0
+        let result : is_type env.metas w.1.result ≡ true = (and_parts (are_types env.metas w.1.params) (is_type env.metas w.1.result) whole).1 in
+        subst (λ (u : QueryType). IsTrue (is_over env.metas u.result)) (same_Some (query_type w) q is) (and_parts (is_over env.metas w.1.result) (is_flat w.1.result) result).0
 
 pub ready : (env : Environment) → IsInOrder env → IsReady env
 ready env order = record {

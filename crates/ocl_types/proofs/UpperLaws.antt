@@ -2,7 +2,7 @@
 use Rattle.std.proofs.Common.{◌≡◌, ℕ, ◌<◌, Bool, true, false, ◌&&◌, if◌then◌else◌, List, [], ◌∷◌, ◌++◌, Option, Some, None, length, fold, refl, sym, ◌∙◌, subst, ◌⊎◌, ⊎_elim, inl, inr, arith, Ok, Err}
 use Rattle.std.specs.Prelude.{nat_eq, nat_lt, ◌==◌, Contains, IsTrue, ◌↔◌}
 use Rattle.std.specs.List.{list_any, list_all}
-use Rattle.std.proofs.lemmas.Bool.{eqb-true, false≢true, ltb-true, cond-true, cond-false}
+use Rattle.std.proofs.lemmas.Bool.{eqb-true, false≢true, ltb-true, cond-true, cond-false, lt-ltb}
 use Rattle.std.proofs.Common.{eq-eqb}
 use Rattle.std.proofs.lemmas.Bool.Decides.{nat_tests}
 use Rattle.std.proofs.lemmas.List.Elements.{Contains-append_left, Contains-append_right, Contains-append_cases, Contains-push_cases, Contains-push}
@@ -15,8 +15,11 @@ use Rattle.qv_syntax.specs.declared.ty.Ty.{Ty}
 use Rattle.ocl_environments.specs.Environments.{no_meta, meta_at, class_of, AreWell}
 use Rattle.ocl_environments.specs.Outcomes.{wrong_type}
 use Rattle.ocl_environments.specs.Agreement.{class_fits, fits_by, fits, higher, all_fit, agreed, IsTop}
-use Rattle.ocl_environments.proofs.TypeLaws.{same_types, same_is_one, both_true, and_true}
+use Rattle.ocl_environments.proofs.TypeLaws.{same_types, same_is_one}
+use Rattle.std.proofs.lemmas.Bool.{and_from}
+use Rattle.std.proofs.lemmas.Bool.{and_parts}
 use Rattle.ocl_environments.specs.Conformance.{ClassConforms, ConformsBy, TypeConforms}
+use Rattle.mof_metamodel.proofs.Facts.{nothing_in, only_one}
 
 three_true : (a b c : Bool) → (a && b && c) ≡ true → (a ≡ true) × (b ≡ true) × (c ≡ true)
 three_true true true c is = (refl, refl, is)
@@ -25,15 +28,6 @@ three_true false b c is = absurd (false≢true is)
 
 all_true : (a b c : Bool) → a ≡ true → b ≡ true → c ≡ true → (a && b && c) ≡ true
 all_true a b c x y z = rw (x, y, z) refl
-
-true_lt : (a b : ℕ) → a < b → nat_lt a b ≡ true
-true_lt a b below = grind (arith, nat_tests)
-
-no_item : {X : Type 0} (x : X) → Contains [] x → ⊥
-no_item x among = let below : among.0 < 0 = among.1 in absurd (omega arith)
-
-one_item : {X : Type 0} (y x : X) → Contains (y ∷ []) x → y ≡ x
-one_item y x among = ⊎_elim (λ (none : Contains [] x). absurd (no_item x none)) (λ (same : y ≡ x). same) (Contains-push_cases [] y x among)
 
 path_joined : (desc : MetaDesc) (a b c : ℕ) (p q : List ℕ) → IsPath desc a p b → IsPath desc b q c → IsPath desc a (p ++ q) c
 path_joined desc a b c [] q ab bc = subst (λ x. IsPath desc x q c) (sym ab) bc
@@ -56,12 +50,12 @@ module _ (metas : List MetaDesc) (well : AreWell metas) where
 
   by_joined : (a b c : Ty) (x y z : Option (ℕ × ClassId)) → fits_by metas a b x y ≡ true → fits_by metas b c y z ≡ true → (a ≡ b) ⊎ ((b ≡ c) ⊎ (fits_by metas a c x z ≡ true))
   by_joined a b c (Some x) (Some y) (Some z) ab bc =
-      let first = both_true (x.0 == y.0) (class_fits metas x.0 x.1 y.1) ab in
-      let second = both_true (y.0 == z.0) (class_fits metas y.0 y.1 z.1) bc in
+      let first = and_parts (x.0 == y.0) (class_fits metas x.0 x.1 y.1) ab in
+      let second = and_parts (y.0 == z.0) (class_fits metas y.0 y.1 z.1) bc in
       let xy : x.0 ≡ y.0 = eqb-true x.0 y.0 first.0 in
       let yz : y.0 ≡ z.0 = eqb-true y.0 z.0 second.0 in
       let joined : class_fits metas x.0 x.1 z.1 ≡ true = class_joined x.0 x.1 y.1 z.1 first.1 (subst (λ m. class_fits metas m y.1 z.1 ≡ true) (sym xy) second.1) in
-      inr (inr (and_true _ _ (eq-eqb x.0 z.0 (xy ∙ yz)) joined))
+      inr (inr (and_from _ _ (eq-eqb x.0 z.0 (xy ∙ yz)) joined))
   by_joined a b c (Some x) (Some y) None ab bc = inr (inl (same_types b c bc))
   by_joined a b c (Some x) None z ab bc = inl (same_types a b ab)
   by_joined a b c None y z ab bc = inl (same_types a b ab)
@@ -75,10 +69,10 @@ module _ (metas : List MetaDesc) (well : AreWell metas) where
   -- A type to which all conform conforms to what the scan finds.
   scanned : (t cur : Ty) (types : List Ty) → fits metas cur t ≡ true → list_all (λ ty. fits metas ty t) types ≡ true
       → (Contains types t) ⊎ (fits metas t cur ≡ true) → fits metas t (fold (higher metas) cur types) ≡ true
-  scanned t cur [] below all (inl in_none) = absurd (no_item t in_none)
+  scanned t cur [] below all (inl in_none) = absurd (nothing_in t in_none)
   scanned t cur [] below all (inr above) = above
   scanned t cur (x ∷ types) below all found =
-      let both = both_true (fits metas x t) (list_all (λ ty. fits metas ty t) types) all in
+      let both = and_parts (fits metas x t) (list_all (λ ty. fits metas ty t) types) all in
       let next : fits metas (higher metas cur x) t ≡ true = either_below t cur x (fits metas cur x) below both.0 in
       scanned t (higher metas cur x) types next both.1 (carried t cur x types below both.0 found)
     where
@@ -95,7 +89,7 @@ module _ (metas : List MetaDesc) (well : AreWell metas) where
       carried t cur x types below head (inr above) = inr (moved t cur x (fits metas cur x) refl above)
       carried t cur x types below head (inl among) = ⊎_elim
           (λ (here : Contains (x ∷ []) t).
-          let same : x ≡ t = one_item x t here in
+          let same : x ≡ t = only_one x t here in
           let up : fits metas cur x ≡ true = subst (λ u. fits metas cur u ≡ true) (sym same) below in
           let self : fits metas t x ≡ true = subst (λ u. fits metas u x ≡ true) same (subst (λ u. fits metas x u ≡ true) (sym same) head) in
           inr (subst (λ b. fits metas t (if b then x else cur) ≡ true) (sym up) self))
@@ -105,22 +99,22 @@ module _ (metas : List MetaDesc) (well : AreWell metas) where
   lifted : (t top : Ty) (types : List Ty) → fits metas t top ≡ true → list_all (λ ty. fits metas ty t) types ≡ true → list_all (λ ty. fits metas ty top) types ≡ true
   lifted t top [] up all = refl
   lifted t top (x ∷ types) up all =
-      let both = both_true (fits metas x t) (list_all (λ ty. fits metas ty t) types) all in
-      and_true _ _ (fits_joined x t top both.0 up) (lifted t top types up both.1)
+      let both = and_parts (fits metas x t) (list_all (λ ty. fits metas ty t) types) all in
+      and_from _ _ (fits_joined x t top both.0 up) (lifted t top types up both.1)
 
   all_fitting : (top : Ty) (types : List Ty) → list_all (λ ty. fits metas ty top) types ≡ true → all_fit metas top types ≡ Ok top
   all_fitting top [] all = refl
   all_fitting top (x ∷ types) all =
-      let both = both_true (fits metas x top) (list_all (λ ty. fits metas ty top) types) all in
+      let both = and_parts (fits metas x top) (list_all (λ ty. fits metas ty top) types) all in
       rw both.0 (all_fitting top types both.1)
 
   split : (ty t : Ty) (types : List Ty) → Contains (ty ∷ types) t → (Contains types t) ⊎ (ty ≡ t)
-  split ty t types among = ⊎_elim (λ (here : Contains (ty ∷ []) t). inr (one_item ty t here)) (λ (there : Contains types t). inl there) (Contains-append_cases (ty ∷ []) types t among)
+  split ty t types among = ⊎_elim (λ (here : Contains (ty ∷ []) t). inr (only_one ty t here)) (λ (there : Contains types t). inl there) (Contains-append_cases (ty ∷ []) types t among)
 
   -- where one of the types has all below it, the scan finds one, and the fault doesn't come
   pub agreed_complete : (ty t : Ty) (types : List Ty) → IsTop metas (ty ∷ types) t → agreed metas ty types ≡ Ok (fold (higher metas) ty types)
   agreed_complete ty t types top =
-      let both = both_true (fits metas ty t) (list_all (λ s. fits metas s t) types) top.above in
+      let both = and_parts (fits metas ty t) (list_all (λ s. fits metas s t) types) top.above in
       let placed : (Contains types t) ⊎ (fits metas t ty ≡ true) = ⊎_elim (λ (there : Contains types t). inl there)
       (λ (same : ty ≡ t). inr (subst (λ u. fits metas u ty ≡ true) same (subst (λ u. fits metas ty u ≡ true) (sym same) both.0))) (split ty t types top.among) in
       let up : fits metas t (fold (higher metas) ty types) ≡ true = scanned t ty types both.0 both.1 placed in
@@ -139,15 +133,15 @@ module _ (metas : List MetaDesc) (well : AreWell metas) where
 
       back : ClassConforms metas m c d → IsTrue (class_fits metas m c d)
       back is =
-          let within : nat_lt m (length metas) ≡ true = true_lt _ _ is.0 in
-          let inside : nat_lt c.0 (class_count (meta_at metas m)) ≡ true = true_lt _ _ is.1 in
+          let within : nat_lt m (length metas) ≡ true = lt-ltb _ _ is.0 in
+          let inside : nat_lt c.0 (class_count (meta_at metas m)) ≡ true = lt-ltb _ _ is.1 in
           all_true _ _ _ within inside ((conforms_exactly (meta_at metas m) (grounded_from_acyclic (meta_at metas m) (well m no_meta is.0).acyclic) c.0 d.0 is.1).1 is.2)
 
   by_exactly : (a b : Ty) (x y : Option (ℕ × ClassId)) → IsTrue (fits_by metas a b x y) ↔ ConformsBy metas a b x y
   by_exactly a b (Some c) (Some d) =
       let exact = class_fits_exactly c.0 c.1 d.1 in (
-        λ is. let both = both_true (c.0 == d.0) (class_fits metas c.0 c.1 d.1) is in (eqb-true c.0 d.0 both.0, exact.0 both.1),
-        λ is. and_true _ _ (eq-eqb c.0 d.0 is.0) (exact.1 is.1),
+        λ is. let both = and_parts (c.0 == d.0) (class_fits metas c.0 c.1 d.1) is in (eqb-true c.0 d.0 both.0, exact.0 both.1),
+        λ is. and_from _ _ (eq-eqb c.0 d.0 is.0) (exact.1 is.1),
       )
   by_exactly a b (Some c) None = same_is_one a b
   by_exactly a b None y = same_is_one a b

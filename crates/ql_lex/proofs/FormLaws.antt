@@ -6,7 +6,7 @@ use Rattle.std.specs.Option.{option_map_or}
 use Rattle.std.specs.Char.{is_ascii_digit}
 use Rattle.std.specs.Str.{all_scalars}
 use Rattle.std.specs.Cmp.Lexicographic.{bytes_decides}
-use Rattle.std.proofs.lemmas.Bool.{or_cases, false≢true}
+use Rattle.std.proofs.lemmas.Bool.{or_cases, false≢true, ltb-false, and_from}
 use Rattle.std.proofs.lemmas.Bool.Decides.{nat_tests}
 use Rattle.std.proofs.lemmas.List.{drop_at, length-take-le}
 use Rattle.std.proofs.lemmas.List.Sums.{prefix_len-le-length}
@@ -43,9 +43,6 @@ splits_if : (bs : List ℕ) (t : Bool) (x y : Result Piece LexFault) → (t ≡ 
 splits_if bs true x y one other = one refl
 splits_if bs false x y one other = other refl
 
-not_more : (a b : ℕ) → nat_lt a b ≡ false → b ≤ a
-not_more a b e = grind (arith, nat_tests)
-
 -- what begins with two bytes
 opened : (bs opening : List ℕ) → starts_with nat_eq bs opening ≡ true → take (length opening) bs ≡ opening
 opened bs opening e = sym ((bytes_decides opening (take (length opening) bs)).0 e)
@@ -80,7 +77,7 @@ splits_number : (bs : List ℕ) → 0 < length bs → is_ascii_digit (slice_inde
 splits_number bs some e =
     splits_if bs (nat_lt MAX_INTEGER (decimal 0 (take (digits_len bs) bs))) (fault BigNumber 0) (token kinds.Number (digits_len bs)) (λ big. tt)
     (λ small. splits_run is_ascii_digit bs (Some kinds.Number) some e
-    (λ first run. Digits _ _ (record { some = first; run = run; within = not_more MAX_INTEGER _ small })))
+    (λ first run. Digits _ _ (record { some = first; run = run; within = ltb-false MAX_INTEGER _ small })))
 
 -- ---- comments
 
@@ -189,9 +186,6 @@ no_more bs none =
     let still : step_len bs ≡ 0 = ap (λ t. if t then front_width bs else 0) none in
     record { others = []; rest = bs; is = refl; len = sym (name_len-end bs still); scalars = refl; all = refl; ends = none }
 
-and_true : (s t : Bool) → s ≡ true → t ≡ true → (s && t) ≡ true
-and_true s t a b = ap (λ x. x && t) a ∙ b
-
 one_more : (bs : List ℕ) (c : ℕ) → front_character bs ≡ Some c → continues_name bs ≡ true → 0 < length bs
     → ((n : ℕ) → n ≡ front_width bs → IsGoingOn (drop n bs)) → IsGoingOn bs
 unfolding front_character front_width step_len
@@ -209,8 +203,8 @@ one_more bs c found goes some later =
       is = s.bytes ∙ ap (λ xs. encode_utf8 c ++ xs) r.is ∙ sym (append_assoc (encode_utf8 c) (encode_utf8_all r.others) r.rest);
       len = length-append (encode_utf8 c) (encode_utf8_all r.others) ∙ ap (λ k. k + length (encode_utf8_all r.others)) s.width
           ∙ ap (λ k. n + k) r.len ∙ sym (name_len-step bs n step first within);
-      scalars = and_true _ _ s.scalar r.scalars;
-      all = and_true _ _ continuing r.all;
+      scalars = and_from _ _ s.scalar r.scalars;
+      all = and_from _ _ continuing r.all;
       ends = r.ends;
     }
 
@@ -250,7 +244,7 @@ splits_name bs some unquoted begins =
         let is_word : IsWord (take n bs) (drop n bs) = record {
           first = c;
           others = r.others;
-          scalars = and_true _ _ s.scalar r.scalars;
+          scalars = and_from _ _ s.scalar r.scalars;
           front_is = front_is;
           begins = starts;
           goes_on = r.all;

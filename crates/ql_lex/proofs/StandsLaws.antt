@@ -6,7 +6,7 @@ use Rattle.std.specs.Option.{option_map_or}
 use Rattle.std.specs.Char.{is_ascii_digit, is_ascii_alphabetic}
 use Rattle.std.specs.Str.{all_scalars}
 use Rattle.std.specs.Cmp.Lexicographic.{pointwise}
-use Rattle.std.proofs.lemmas.Bool.{cases_lt, and_parts, false≢true, not-true}
+use Rattle.std.proofs.lemmas.Bool.{cases_lt, and_parts, false≢true, not-true, or_from}
 use Rattle.std.proofs.lemmas.Bool.Decides.{nat_tests}
 use Rattle.std.proofs.lemmas.List.{drop_at}
 use Rattle.unicode_ident.specs.Ident.{is_xid_start, is_xid_continue}
@@ -38,9 +38,6 @@ found : {A : Type 0} (t : Bool) (x y : A) → t ≡ true → (if t then x else y
 found true x y e = refl
 found false x y e = absurd (false≢true e)
 
-neither : (s t : Bool) → s ≡ false → t ≡ false → (s || t) ≡ false
-neither s t a b = ap (λ x. x || t) a ∙ b
-
 -- ---- which forms do not begin with a byte
 
 starts_not : (s : ℕ) (more : List ℕ) (b : ℕ) (xs : List ℕ) → nat_eq s b ≡ false → starts_with nat_eq (b ∷ xs) (s ∷ more) ≡ false
@@ -48,7 +45,7 @@ starts_not s more b xs e = ap (λ t. t && pointwise nat_eq more (take (length mo
 
 no_line_comment : (b : ℕ) (xs : List ℕ) → nat_eq 45 b ≡ false → nat_eq 47 b ≡ false → begins_line_comment (b ∷ xs) ≡ false
 no_line_comment b xs dash slash =
-    neither _ _ (starts_not 45 (45 ∷ []) b xs dash) (starts_not 47 (47 ∷ []) b xs slash)
+    or_from _ _ (starts_not 45 (45 ∷ []) b xs dash) (starts_not 47 (47 ∷ []) b xs slash)
 
 -- the forms behind blanks, comments, quoted names and strings
 abbrev others : List ℕ → Result Piece LexFault

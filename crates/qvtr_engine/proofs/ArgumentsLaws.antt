@@ -8,7 +8,8 @@ use Rattle.std.proofs.lemmas.Bool.{false_from_ne_true}
 use Rattle.mof_metamodel.specs.Metamodels.{same_name}
 use Rattle.qvtr_engine.specs.Arguments.{divider, is_argument, AreArguments, undivided, divided, before_divider, behind_divider, arguments_of}
 use Rattle.qvtr_engine.specs.Reading.{when_true, nth}
-use Rattle.qvtr_engine.proofs.ReadingLaws.{when_some, when_holds, and_some, same_is, same_holds}
+use Rattle.qvtr_engine.proofs.ReadingLaws.{when_some, when_holds, same_is, same_holds}
+use Rattle.std.proofs.lemmas.Bool.{and_parts}
 
 -- words without the divider, or the divider with words before and behind it
 split : (words : List (List ℕ)) → ((before_divider words ≡ words) × (behind_divider words ≡ [])) ⊎ (words ≡ before_divider words ++ divider ∷ behind_divider words)
@@ -43,7 +44,7 @@ not_divider w h = false_from_ne_true (same_name w divider) (λ is.
 undivided_parts : (words : List (List ℕ)) → list_all is_argument words ≡ true → (before_divider words ≡ words) × (behind_divider words ≡ [])
 undivided_parts [] h = (refl, refl)
 undivided_parts (w ∷ ws) h =
-    let p = and_some _ _ h in let more = undivided_parts ws p.1 in let other = not_divider w p.0 in (
+    let p = and_parts _ _ h in let more = undivided_parts ws p.1 in let other = not_divider w p.0 in (
       ap (λ b. cond b [] (w ∷ before_divider ws)) other ∙ ap (λ xs. w ∷ xs) more.0,
       ap (λ b. cond b ws (behind_divider ws)) other ∙ more.1,
     )
@@ -55,7 +56,7 @@ divided_parts [] behind h = (
   ap (λ b. cond b behind (behind_divider behind)) (same_holds divider divider refl),
 )
 divided_parts (w ∷ ws) behind h =
-    let p = and_some _ _ h in let more = divided_parts ws behind p.1 in let other = not_divider w p.0 in (
+    let p = and_parts _ _ h in let more = divided_parts ws behind p.1 in let other = not_divider w p.0 in (
       ap (λ b. cond b [] (w ∷ before_divider (ws ++ divider ∷ behind))) other ∙ ap (λ xs. w ∷ xs) more.0,
       ap (λ b. cond b (ws ++ divider ∷ behind) (behind_divider (ws ++ divider ∷ behind))) other ∙ more.1,
     )

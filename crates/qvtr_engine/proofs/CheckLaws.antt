@@ -8,7 +8,10 @@ use Rattle.std.proofs.Math.Seq.{take-length}
 use Rattle.std.proofs.Math.ListN.{drop_of_length-le}
 use Rattle.qvtr_engine.specs.CheckWords.{Bound, bound_word, is_bound, equals_sign, is_equals_sign}
 use Rattle.qvtr_engine.specs.Reading.{when_true, name_part, path_part, parts, bound_of}
-use Rattle.qvtr_engine.proofs.ReadingLaws.{when_some, when_holds, and_some, both_true, not_true, any_false}
+use Rattle.qvtr_engine.proofs.ReadingLaws.{when_some, when_holds, any_false}
+use Rattle.std.proofs.lemmas.Bool.{not-true}
+use Rattle.std.proofs.lemmas.Bool.{and_from}
+use Rattle.std.proofs.lemmas.Bool.{and_parts}
 
 -- a word without a path, or one that is a name, `=` and a path
 split : (word : List ℕ) → (path_part word ≡ []) ⊎ (word ≡ name_part word ++ equals_sign ∷ path_part word)
@@ -47,16 +50,16 @@ pub bound_found : (word : List ℕ) (b : Bound) → bound_of word ≡ Some b →
 unfolding bound_of
 bound_found word b e =
     let w = when_some _ _ b e in
-    let t = and_some _ _ w.0 in
-    subst (λ x. (word ≡ bound_word x) × (is_bound x ≡ true)) w.1 (parts_found word t.1, both_true _ _ (both_true _ _ t.0 (name_plain word)) t.1)
+    let t = and_parts _ _ w.0 in
+    subst (λ x. (word ≡ bound_word x) × (is_bound x ≡ true)) w.1 (parts_found word t.1, and_from _ _ (and_from _ _ t.0 (name_plain word)) t.1)
 
 pub bound_again : (b : Bound) → is_bound b ≡ true → bound_of (bound_word b) ≡ Some b
 unfolding bound_of
 bound_again b h =
-    let s = and_some _ _ h in let t = and_some _ _ s.0 in
-    let again = name_again b.name b.path (not_true (list_any is_equals_sign b.name) t.1) in
+    let s = and_parts _ _ h in let t = and_parts _ _ s.0 in
+    let again = name_again b.name b.path (not-true (list_any is_equals_sign b.name) t.1) in
     let are : parts (bound_word b) ≡ b = λ i. record { name = again.0 i; path = again.1 i } in
-    ap (λ x. when_true (not (length x.name == 0) && not (length x.path == 0)) x) are ∙ when_holds _ _ (both_true _ _ t.0 s.1)
+    ap (λ x. when_true (not (length x.name == 0) && not (length x.path == 0)) x) are ∙ when_holds _ _ (and_from _ _ t.0 s.1)
 
 -- the parts of a word by the place of its first `=`
 pub name_taken : (word : List ℕ) → take (position_or_len is_equals_sign word) word ≡ name_part word

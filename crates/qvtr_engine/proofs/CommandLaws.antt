@@ -7,6 +7,7 @@ use Rattle.qvtr_engine.specs.ConvertWords.{ConvertWords, IsConvert, convert_of}
 use Rattle.qvtr_engine.specs.WholeCheckWords.{IsWholeCheck, whole_check_of}
 use Rattle.qvtr_engine.proofs.WholeCheckWordLaws.{whole_check_found, whole_check_again}
 use Rattle.qvtr_engine.proofs.ConvertLaws.{convert_found, convert_again}
+use Rattle.std.proofs.lemmas.Option.{same_Some}
 
 pub command_found : (words : List (List ℕ)) (command : Command) → command_of words ≡ Some command → IsCommand words command
 command_found words command e =
@@ -40,12 +41,9 @@ command_again words (converts c) h =
       | None ↦ λ no. ap convert_after (convert_again words c h)
     ] refl
 
-some_same : {X : Type 0} (x y : X) → Some x ≡ Some y → x ≡ y
-some_same x y e = cc
-
 -- words have one command
 pub one_command : (words : List (List ℕ)) (one other : Command) → IsCommand words one → IsCommand words other → one ≡ other
-one_command words one other a b = some_same one other (sym (command_again words one a) ∙ command_again words other b)
+one_command words one other a b = same_Some one other (sym (command_again words one a) ∙ command_again words other b)
 
 none_some : (c : Command) → None ≡ Some c → ⊥
 none_some c e = cc

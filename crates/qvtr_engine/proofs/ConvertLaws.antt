@@ -11,7 +11,9 @@ use Rattle.qvtr_engine.specs.ConvertWords.{ConvertWords, IsConvert, form_word, c
 use Rattle.qvtr_engine.specs.Paths.{is_filled, are_all_apart}
 use Rattle.qvtr_engine.specs.Reading.{◌>>=◌, when_true, nth}
 use Rattle.qvtr_engine.proofs.ArgumentsLaws.{arguments_found, arguments_again}
-use Rattle.qvtr_engine.proofs.ReadingLaws.{bind_some, when_some, when_holds, and_some, both_true, same_is, same_holds}
+use Rattle.qvtr_engine.proofs.ReadingLaws.{bind_some, when_some, when_holds, same_is, same_holds}
+use Rattle.std.proofs.lemmas.Bool.{and_from}
+use Rattle.std.proofs.lemmas.Bool.{and_parts}
 
 form_found : (word : List ℕ) (form : Form) → form_named word ≡ Some form → word ≡ form_word form
 form_found word form e =
@@ -69,7 +71,7 @@ convert_found (w ∷ ws) c e =
       | true ↦ λ is f.
           let p = bind_some (arguments_of ws) _ c f in
           let q = from_found p.0 c p.2 in
-          let good = and_some _ _ q.1 in
+          let good = and_parts _ _ q.1 in
           record {
             further = ws;
             named = ap (λ x. x ∷ ws) (same_is w (codes "convert") is);
@@ -88,4 +90,4 @@ named_again ws c e h =
 
 pub convert_again : (words : List (List ℕ)) (c : ConvertWords) → IsConvert words c → convert_of words ≡ Some c
 convert_again words c h =
-    ap convert_of h.named ∙ named_again h.further c (arguments_again h.further (convert_arguments c) h.arguments) (both_true _ _ h.filled h.apart)
+    ap convert_of h.named ∙ named_again h.further c (arguments_again h.further (convert_arguments c) h.arguments) (and_from _ _ h.filled h.apart)

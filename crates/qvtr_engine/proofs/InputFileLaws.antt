@@ -16,7 +16,7 @@ use Rattle.script_scopes.specs.Declarations.{meta_of}
 use Rattle.script_scopes.specs.Environments.{metamodel_names, slots_of}
 use Rattle.script_scopes.specs.ScriptNames.{model_names}
 use Rattle.script_scopes.specs.VariableTypes.{metamodel_numbers}
-use Rattle.script_scopes.proofs.CallRowLaws.{some_among}
+use Rattle.mof_metamodel.proofs.Facts.{contains_at}
 use Rattle.script_variables.proofs.PlaceLaws.{meta_found}
 use Rattle.qvtr_engine.specs.declared.numbering_inputs.Found.{Found}
 use Rattle.qvtr_engine.specs.declared.outcome.Stop.{Stop}
@@ -81,7 +81,7 @@ number_within s slots name number numbered same is has count =
 
 pub known_at : (s : Script) (bs : List Bound) (i : ℕ) (b : Bound) → All (λ x. Contains (model_names s.models) (name_of x)) bs → slice_get bs i ≡ Some b
     → Contains (model_names s.models) (name_of b)
-known_at s bs i b all at = All-contains (λ x. Contains (model_names s.models) (name_of x)) bs b all (some_among bs i b at)
+known_at s bs i b all at = All-contains (λ x. Contains (model_names s.models) (name_of x)) bs b all (contains_at bs i b at)
 
 -- a model that is read by the metamodel of its number
 pub model_by : (told : Option Files) (s : Script) (numbered : List MetaDesc) (b : Bound) (meta : MetaDesc) (m : ModelData) → meta ≡ meta_for s numbered b

@@ -12,7 +12,7 @@ use Rattle.ocl_environments.specs.declared.fault.TypeFault.TheVariants.{UnknownM
 use Rattle.script_scopes.specs.declared.name_fault.NameFault.{NameFault}
 use Rattle.script_scopes.specs.declared.name_fault.NameFault.TheVariants.{Target, Extra, Missing}
 use Rattle.script_scopes.specs.ScriptNames.{AreNamesOf, IsNameFault, IsFirstLacking, script_names}
-use Rattle.script_scopes.proofs.CallRowLaws.{some_among}
+use Rattle.mof_metamodel.proofs.Facts.{contains_at}
 use Rattle.script_scopes.proofs.NameLemmas.{has_name, is_same}
 use Rattle.script_scopes.proofs.SearchLemmas.{member_at}
 use Rattle.qvtr_engine.specs.declared.outcome.Stop.{Stop}
@@ -27,7 +27,7 @@ use Rattle.qvtr_engine.proofs.StopLaws.{on_stop_wider}
 
 -- a name that others lack isn't among names that they all have
 lacked : (others names : List (List ℕ)) (place : ℕ) → IsFirstLacking others names place → All (Contains others) names → ⊥
-lacked others names place h all = h.lacking (All-contains (Contains others) names h.name all (some_among names place h.name h.found))
+lacked others names place h all = h.lacking (All-contains (Contains others) names h.name all (contains_at names place h.name h.found))
 
 lacked_before : (others names : List (List ℕ)) (p q : ℕ) → IsFirstLacking others names p → IsFirstLacking others names q → p < q → ⊥
 lacked_before others names p q h k less =

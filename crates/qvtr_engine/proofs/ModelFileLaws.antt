@@ -11,7 +11,7 @@ use Rattle.qv_syntax.specs.declared.script.Script.{Script}
 use Rattle.script_scopes.specs.Declarations.{meta_of}
 use Rattle.script_scopes.specs.Environments.{metamodel_names, place_of, slot_of, slots_of}
 use Rattle.script_scopes.specs.ScriptNames.{model_names, meta_names, written_names, script_names}
-use Rattle.script_scopes.proofs.CallRowLaws.{some_among}
+use Rattle.mof_metamodel.proofs.Facts.{contains_at}
 use Rattle.script_scopes.proofs.MemberLemmas.{once_has, has_once, to_map}
 use Rattle.script_scopes.proofs.NameLemmas.{name_had}
 use Rattle.script_variables.proofs.PlaceLaws.{at_place}
@@ -36,7 +36,7 @@ meta_within s name has =
     let slot : slice_get (slots_of s) place ≡ Some (slot_of s m) = slice_get-map (slot_of s) s.models place ∙ ap (option_map (slot_of s)) found.1 in
     let is = get_or_from_slice_get (slots_of s) place (slot_of s m) (record { name = []; meta = 0 }) slot in
     let known : Contains (metamodel_names s) m.meta.text =
-    once_has (meta_names s.models) m.meta.text (to_map (λ (x : ModelTree). x.meta.text) s.models m (some_among s.models place m found.1)) in
+    once_has (meta_names s.models) m.meta.text (to_map (λ (x : ModelTree). x.meta.text) s.models m (contains_at s.models place m found.1)) in
     subst (λ (x : ModelSlot). x.meta < length (metamodel_names s)) (sym is) (place_within (metamodel_names s) m.meta.text known)
 
 -- ---- the other files of the words are those of models

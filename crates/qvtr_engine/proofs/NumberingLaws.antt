@@ -17,7 +17,8 @@ use Rattle.ocl_environments.specs.Environments.{no_meta}
 use Rattle.script_scopes.specs.Declarations.{IsRepeated, global_names, relation_names, queries_of}
 use Rattle.script_scopes.specs.Environments.{metamodel_names}
 use Rattle.script_scopes.specs.ScriptNames.{model_names, meta_names, written_names, script_names}
-use Rattle.script_scopes.proofs.CallRowLaws.{some_among, among_some}
+use Rattle.script_scopes.proofs.CallRowLaws.{among_some}
+use Rattle.mof_metamodel.proofs.Facts.{contains_at}
 use Rattle.script_scopes.proofs.MemberLemmas.{once_has, has_once}
 use Rattle.script_scopes.proofs.NameLemmas.{same_is, is_same, has_name, name_had}
 use Rattle.script_scopes.proofs.RepeatLemmas.{at_left}
@@ -142,7 +143,7 @@ module _ {A : Type 0} where
   pub not_missing : (all found : List (Found A)) (names : List (List ℕ)) (i : ℕ) (name : List ℕ) → AreApart names → slice_get names i ≡ Some name
       → Remains all found (take i names) → All (λ n. is_some (item_named all n) ≡ true) names → item_named found name ≡ None → ⊥
   not_missing all found names i name apart at h each none =
-      let has : is_some (item_named all name) ≡ true = All-contains (λ n. is_some (item_named all n) ≡ true) names name each (some_among names i name at) in
+      let has : is_some (item_named all name) ≡ true = All-contains (λ n. is_some (item_named all n) ≡ true) names name each (contains_at names i name at) in
       true≢false (sym has ∙ ap is_some (sym (still_named all found names i name apart at h) ∙ none))
 
 -- ---- the files of the words have the names of the script

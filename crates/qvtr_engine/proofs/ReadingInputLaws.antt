@@ -19,7 +19,8 @@ use Rattle.qvtr_engine.specs.Reply.{Reply}
 use Rattle.qvtr_engine.specs.Stops.{StoppedBy}
 use Rattle.qvtr_engine.proofs.FirstLaws.{stop_at, one_more}
 use Rattle.qvtr_engine.proofs.RequestLaws.{mapped_more, take_at}
-use Rattle.qvtr_engine.proofs.StopLaws.{rose_from, among_front, or_right, stopped_wider}
+use Rattle.qvtr_engine.proofs.StopLaws.{rose_from, among_front, stopped_wider}
+use Rattle.std.proofs.lemmas.Bool.{or_right}
 
 abbrev pub paths_of : List Bound → List (List ℕ)
 paths_of bs = map (λ b. b.path) bs

@@ -7,6 +7,7 @@ use Rattle.std.specs.List.{list_any}
 use Rattle.std.specs.Cmp.Lexicographic.{bytes_decides}
 use Rattle.mof_metamodel.specs.Metamodels.{same_name}
 use Rattle.qvtr_engine.specs.Reading.{◌>>=◌, when_true, behind}
+use Rattle.std.proofs.lemmas.Bool.{and_parts, and_from, not-true, or_parts}
 
 -- a step of a reading that went well
 pub bind_some : {A B : Type 0} (o : Option A) (f : A → Option B) (y : B) → (o >>= f) ≡ Some y → (x : A) × (o ≡ Some x) × (f x ≡ Some y)
@@ -19,13 +20,6 @@ when_some false x y e = cc
 
 pub when_holds : {A : Type 0} (b : Bool) (x : A) → b ≡ true → when_true b x ≡ Some x
 when_holds b x e = ap (λ t. when_true t x) e
-
-pub and_some : (a b : Bool) → (a && b) ≡ true → (a ≡ true) × (b ≡ true)
-and_some true b e = (refl, e)
-and_some false b e = cc
-
-pub both_true : (a b : Bool) → a ≡ true → b ≡ true → (a && b) ≡ true
-both_true a b p q = ap (λ t. t && b) p ∙ q
 
 pub same_is : (xs ys : List ℕ) → same_name xs ys ≡ true → xs ≡ ys
 same_is xs ys = (bytes_decides xs ys).0
@@ -45,13 +39,5 @@ unfolding behind
 behind_again text rest =
     when_holds _ _ ((bytes_decides text (take (length text) (text ++ rest))).1 (sym (take-append_seam text rest))) ∙ ap Some (drop-append_seam text rest)
 
-pub not_true : (b : Bool) → not b ≡ true → b ≡ false
-not_true true e = sym e
-not_true false e = refl
-
-or_false : (a b : Bool) → (a || b) ≡ false → (a ≡ false) × (b ≡ false)
-or_false true b e = cc
-or_false false b e = (refl, e)
-
 pub any_false : {X : Type 0} (p : X → Bool) (x : X) (xs : List X) → list_any p (x ∷ xs) ≡ false → (p x ≡ false) × (list_any p xs ≡ false)
-any_false p x xs h = or_false (p x) (list_any p xs) h
+any_false p x xs h = or_parts (p x) (list_any p xs) h

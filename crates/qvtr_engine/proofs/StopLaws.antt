@@ -10,6 +10,7 @@ use Rattle.qvtr_engine.specs.Names.{is_among}
 use Rattle.qvtr_engine.specs.Reply.{Reply, unread, faulty, too_long, chained}
 use Rattle.qvtr_engine.specs.Stops.{StoppedBy, OnStop}
 use Rattle.qvtr_engine.proofs.ReadingLaws.{same_holds}
+use Rattle.std.proofs.lemmas.Bool.{or_right}
 
 -- a count that rose later rose before
 pub rose_from : (before mid after : ℕ) → before ≤ mid → Rose mid after → Rose before after
@@ -52,10 +53,6 @@ on_stop_wider (stop.TooLong path) P Q w h = h
 on_stop_wider (stop.Faulty is_limit line) P Q w h = w (faulty is_limit line) h
 on_stop_wider (stop.Chained text) P Q w h = w (chained text) h
 on_stop_wider stop.NoMemory P Q w h = tt
-
-pub or_right : (a b : Bool) → b ≡ true → (a || b) ≡ true
-or_right true b h = refl
-or_right false b h = h
 
 or_false_right : (a : Bool) → (a || false) ≡ true → a ≡ true
 or_false_right true h = refl

@@ -8,18 +8,16 @@ use Rattle.qvtr_engine.specs.Question.{Question}
 use Rattle.qvtr_engine.specs.CheckReply.{failing_text}
 use Rattle.qvtr_engine.specs.CheckedRelations.{IsVerdict, yes, no}
 use Rattle.qvtr_engine.specs.Reply.{Reply, fails}
+use Rattle.std.proofs.lemmas.Option.{same_Some}
 
 abbrev pub HaveOneLeast : Question → Type 0
 HaveOneLeast q = (n : ℕ) (b c : Values) → LeastFailing q.program q.models n b → LeastFailing q.program q.models n c → b ≡ c
-
-some_same : {X : Type 0} (x y : X) → Some x ≡ Some y → x ≡ y
-some_same x y e = cc
 
 -- two least failing bindings are of one relation, and one
 one_text : (q : Question) → HaveOneLeast q → (n m : ℕ) (b c : Values) (x : LeastFailing q.program q.models n b) (y : LeastFailing q.program q.models m c)
     → n ≡ m → fails (failing_text q x.failing.rel b) ≡ fails (failing_text q y.failing.rel c)
 one_text q one n m b c x y same =
-    let rel : x.failing.rel ≡ y.failing.rel = some_same x.failing.rel y.failing.rel (sym x.failing.top.is ∙ ap (λ k. slice_get q.program.rels k) same ∙ y.failing.top.is) in
+    let rel : x.failing.rel ≡ y.failing.rel = same_Some x.failing.rel y.failing.rel (sym x.failing.top.is ∙ ap (λ k. slice_get q.program.rels k) same ∙ y.failing.top.is) in
     let values : b ≡ c = one n b c x (subst (λ k. LeastFailing q.program q.models k c) (sym same) y) in
     λ i. fails (failing_text q (rel i) (values i))
 

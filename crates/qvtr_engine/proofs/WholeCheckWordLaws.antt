@@ -11,7 +11,9 @@ use Rattle.qvtr_engine.specs.Reading.{◌>>=◌, when_true, parts, bound_of}
 use Rattle.qvtr_engine.specs.WholeCheckWords.{IsWholeCheck, check_arguments, has_parts, is_good, check_in, check_from, whole_check_of}
 use Rattle.qvtr_engine.proofs.ArgumentsLaws.{arguments_found, arguments_again}
 use Rattle.qvtr_engine.proofs.CheckLaws.{bound_found, bound_again}
-use Rattle.qvtr_engine.proofs.ReadingLaws.{bind_some, when_some, when_holds, and_some, both_true, same_is, same_holds}
+use Rattle.qvtr_engine.proofs.ReadingLaws.{bind_some, when_some, when_holds, same_is, same_holds}
+use Rattle.std.proofs.lemmas.Bool.{and_from}
+use Rattle.std.proofs.lemmas.Bool.{and_parts}
 
 -- ---- words that bind names to paths
 
@@ -23,10 +25,10 @@ bounds_found : (words : List (List ℕ)) → list_all has_parts (map parts words
     → (words ≡ map bound_word (map parts words)) × (list_all is_bound (map parts words) ≡ true)
 bounds_found [] h = (refl, refl)
 bounds_found (word ∷ words) h =
-    let p = and_some _ _ h in
+    let p = and_parts _ _ h in
     let one = bound_found word (parts word) (bound_read word p.0) in
     let more = bounds_found words p.1 in
-    (λ i. one.0 i ∷ more.0 i, both_true _ _ one.1 more.1)
+    (λ i. one.0 i ∷ more.0 i, and_from _ _ one.1 more.1)
 
 one_again : (b : Bound) → is_bound b ≡ true → (parts (bound_word b) ≡ b) × (has_parts b ≡ true)
 unfolding bound_of
@@ -37,16 +39,16 @@ one_again b h =
 bounds_again : (bs : List Bound) → list_all is_bound bs ≡ true → (map parts (map bound_word bs) ≡ bs) × (list_all has_parts bs ≡ true)
 bounds_again [] h = (refl, refl)
 bounds_again (b ∷ bs) h =
-    let p = and_some _ _ h in
+    let p = and_parts _ _ h in
     let one = one_again b p.0 in
     let more = bounds_again bs p.1 in
-    (λ i. one.0 i ∷ more.0 i, both_true _ _ one.1 more.1)
+    (λ i. one.0 i ∷ more.0 i, and_from _ _ one.1 more.1)
 
 -- their paths aren't empty
 paths_filled : (bs : List Bound) → list_all has_parts bs ≡ true → list_all is_filled (map (λ b. b.path) bs) ≡ true
 paths_filled [] h = refl
 paths_filled (b ∷ bs) h =
-    let p = and_some _ _ h in both_true _ _ (and_some _ _ p.0).1 (paths_filled bs p.1)
+    let p = and_parts _ _ h in and_from _ _ (and_parts _ _ p.0).1 (paths_filled bs p.1)
 
 -- ---- what is read is spelled
 
@@ -59,9 +61,9 @@ found_in further [] args l good = absurd (true≢false l)
 found_in further (a ∷ []) args l good = absurd (true≢false l)
 found_in further (a ∷ b ∷ []) args l good = absurd (true≢false l)
 found_in further (a ∷ b ∷ c ∷ cs) args l good =
-    let apart = and_some _ _ good in
-    let filled = and_some _ _ apart.0 in
-    let names = and_some _ _ filled.0 in
+    let apart = and_parts _ _ good in
+    let filled = and_parts _ _ apart.0 in
+    let names = and_parts _ _ filled.0 in
     let bound = bounds_found (c ∷ cs) names.0 in
     record {
       further = further;
@@ -70,7 +72,7 @@ found_in further (a ∷ b ∷ c ∷ cs) args l good =
       some = some_file (parts c) (map parts cs);
       bound = bound.1;
       names = names.1;
-      filled = both_true _ _ filled.1 (paths_filled (map parts (c ∷ cs)) names.0);
+      filled = and_from _ _ filled.1 (paths_filled (map parts (c ∷ cs)) names.0);
       apart = apart.1;
     }
 
@@ -108,7 +110,7 @@ read_again w h = let files = (bounds_again w.files h).0 in λ i. record { script
 
 all_good : (words : List (List ℕ)) (w : CheckWords) → IsWholeCheck words w → is_good w ≡ true
 all_good words w h =
-    both_true _ _ (both_true _ _ (both_true _ _ (bounds_again w.files h.bound).1 h.names) (and_some _ _ h.filled).0) h.apart
+    and_from _ _ (and_from _ _ (and_from _ _ (bounds_again w.files h.bound).1 h.names) (and_parts _ _ h.filled).0) h.apart
 
 from_again : (words : List (List ℕ)) (w : CheckWords) → IsWholeCheck words w → check_from (check_arguments w) ≡ Some w
 unfolding check_from

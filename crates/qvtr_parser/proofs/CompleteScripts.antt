@@ -33,6 +33,7 @@ use Rattle.qvtr_parser.proofs.CompleteLists.{IsReadFrom, Loop, any_reads, before
 use Rattle.qvtr_parser.proofs.Complete.{all_vars_complete, domains_complete, key_begins, key_complete, model_complete, param_complete, word_within}
 use Rattle.qvtr_parser.proofs.CompleteTemplates.{brace_follows}
 use Rattle.ocl_parser.proofs.ReadingComplete.{Follows, Reads, braced, expr_reads, name_reads, sign_reads, type_reads, word_reads}
+use Rattle.mof_metamodel.proofs.Facts.{first_true}
 
 abbrev Anything : ℕ → Type 0
 Anything j = Unit {0}
@@ -58,10 +59,6 @@ no_brace ts e n i j h f = by (is_sign_at ts (codes "}") i) refl
 
 abbrev behind_semicolon : List Lexeme → Expr → Piece
 behind_semicolon ts e = sign ts (codes ";") ▸ expr ts e
-
-first_true : (a b : Bool) → (a && b) ≡ true → a ≡ true
-first_true true b e = refl
-first_true false b e = cc
 
 conjunct_loop : (ts : List Lexeme) (n : ℕ) → Loop ts (goes_on ts) (Follower ts) (behind_semicolon ts) n
 unfolding spelled

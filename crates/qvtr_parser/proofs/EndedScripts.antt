@@ -22,7 +22,8 @@ use Rattle.qvtr_parser.proofs.ApartLaws.{apart_at, sign_no_word, signs_apart}
 use Rattle.qvtr_parser.proofs.Told.{Reading, Same, Told, choice, followed, itself, number_of, same_span, same_stands, sequence, whole}
 use Rattle.qvtr_parser.proofs.ToldLists.{ends_at, test_of_token}
 use Rattle.qvtr_parser.proofs.ToldTypes.{brace_opens, parenthesis_opens}
-use Rattle.qvtr_parser.proofs.ToldScripts.{behind_semicolon, conjuncts_listed, conjuncts_told, declaration_told, declaration_test, domain_told, domain_test, end_told, first_true, mark_same, mark_there, marked_same, query_told, relation_told, word_same}
+use Rattle.qvtr_parser.proofs.ToldScripts.{behind_semicolon, conjuncts_listed, conjuncts_told, declaration_told, declaration_test, domain_told, domain_test, end_told, mark_same, mark_there, marked_same, query_told, relation_told, word_same}
+use Rattle.mof_metamodel.proofs.Facts.{first_true}
 use Rattle.qvtr_parser.proofs.Complete.{word_within}
 use Rattle.qvtr_parser.proofs.Ended.{Anything, Ending, Meets, Next, NoNext, Part, done_part, meets_end, meets_first, meets_free, one_token, then_part, token_part, tuned}
 use Rattle.qvtr_parser.proofs.EndedParts.{braced_part, lowered_part, name_part, optional_part, skip_part, token_choice_ended}

@@ -31,6 +31,7 @@ use Rattle.qvtr_parser.specs.Lists.{any_read, each_read, left, some_read}
 use Rattle.qvtr_parser.specs.ScriptReadings.{all_vars_read, begins_declaration, begins_domain, behind_if, block_read, body_read, clause_read, conjunct_read, conjuncts_from, conjuncts_read, declaration_read, declarations_read, domain_read, domains_read, goes_on, is_marked, is_name_at, is_sign_at, is_word_at, key_read, mark_at, model_read, models_read, names_read, param_read, params_read, pattern_read, primitive_read, props_read, query_body_read, query_read, relation_read, script_read, template_read, vars_read}
 use Rattle.qvtr_parser.proofs.ListLaws.{any_found, commas_found, each_found}
 use Rattle.qvtr_parser.proofs.TemplateFound.{template_found}
+use Rattle.mof_metamodel.proofs.Facts.{first_true}
 
 -- ---- names, parameters, models and keys
 
@@ -183,10 +184,6 @@ all_vars_found ts n i x e =
 expr_spelled : (ts : List Lexeme) (n i : ℕ) (x : Expr × ℕ) → expr_read ts n i ≡ Ok x → expr ts x.0 n i ≡ Some x.1
 unfolding spelled
 expr_spelled ts n i x e = expr_found ts n i x e
-
-first_true : (a b : Bool) → (a && b) ≡ true → a ≡ true
-first_true true b e = refl
-first_true false b e = cc
 
 conjuncts_found : (ts : List Lexeme) (n i : ℕ) (x : List Expr × ℕ) → conjuncts_read ts n i ≡ Ok x → conjuncts ts x.0 n i ≡ Some x.1
 unfolding conjuncts_read separated

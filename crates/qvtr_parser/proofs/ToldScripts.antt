@@ -19,6 +19,7 @@ use Rattle.qvtr_parser.proofs.CompleteScripts.{declaration_loop}
 use Rattle.qvtr_parser.proofs.Told.{Reading, Same, Told, braced_told, choice, loosen, lower, name_told, number_of, optional_told, restricted, same_less, same_span, same_stands, sequence, skip_told, token_told, whole}
 use Rattle.qvtr_parser.proofs.ToldLists.{Listed, Test, any_told, each_told, ends_at, expr_told, listed_told, path_told, some_told, test_of_token}
 use Rattle.qvtr_parser.proofs.ToldTypes.{brace_opens, parenthesis_opens, template_told, type_told}
+use Rattle.mof_metamodel.proofs.Facts.{first_true}
 
 -- a reading where a level less is left, behind what opened one
 lowered : {Y : Type 0} {Is : ℕ → Type 0} {at : Y → ℕ} {step i : ℕ} {m : Reading Y} → Told (λ n. Unit {0}) at step i m → Told (λ n. (1 ≤ n) × Is n) at step i (λ ts n. m ts (n - 1))
@@ -121,10 +122,6 @@ all_vars_told i = each_told is_name_at (test_of_token is_any_name) 0 (omega arit
 
 abbrev pub behind_semicolon : List Lexeme → ℕ → ℕ
 behind_semicolon ts j = behind_if (is_sign_at ts (codes ";") j) j
-
-pub first_true : (a b : Bool) → (a && b) ≡ true → a ≡ true
-first_true true b e = refl
-first_true false b e = cc
 
 pub conjuncts_listed : {Is : ℕ → Type 0} → Listed Is goes_on 1 behind_semicolon (λ ts n j. conjunct_read ts n j)
 conjuncts_listed = record {

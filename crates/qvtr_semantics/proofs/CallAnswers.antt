@@ -9,7 +9,8 @@ use Rattle.qvtr_semantics.specs.Calls.{Match, calls_of, free}
 use Rattle.qvtr_semantics.specs.Chains.{CallsWhere, ReachedFrom, IsTopCall, as_top, CyclicChain}
 use Rattle.qvtr_semantics.specs.SmallModels.{package_call, begins, again, looping, again_call, class, program, models, package_to_schema, text, object}
 use Rattle.qvtr_semantics.proofs.RowParts.{named_template, bare_template, call_by_variables}
-use Rattle.qvtr_semantics.proofs.RowAnswers.{some_is_not_none, nothing_free}
+use Rattle.qvtr_semantics.proofs.RowAnswers.{nothing_free}
+use Rattle.std.proofs.lemmas.Option.{none-some}
 
 -- ---- a call in a when clause matches
 
@@ -17,7 +18,7 @@ abbrev a_bound : Values
 a_bound = text (codes "a") ∷ object 0 0 ∷ object 1 0 ∷ []
 
 roots_kept : (v : ℕ) (d : Datum) → value_at package_call.roots v ≡ Some d → value_at a_bound v ≡ Some d
-roots_kept zero d e = absurd (some_is_not_none d e)
+roots_kept zero d e = absurd (none-some d e)
 roots_kept (suc zero) d e = e
 roots_kept (suc (suc zero)) d e = e
 roots_kept (suc (suc (suc v))) d e = e
@@ -72,18 +73,18 @@ nothing_free_two v d e = absurd (nothing_free 2 v d e)
 
 only_package : (v : ℕ) (d : Datum) → value_at (object 0 0 ∷ None ∷ []) v ≡ Some d → Contains begins.universal v ⊎ (value_at (free begins) v ≡ Some d)
 only_package zero d e = inl (0, omega arith, refl)
-only_package (suc zero) d e = absurd (some_is_not_none d e)
-only_package (suc (suc v)) d e = absurd (some_is_not_none d e)
+only_package (suc zero) d e = absurd (none-some d e)
+only_package (suc (suc v)) d e = absurd (none-some d e)
 
 package_kept : (v : ℕ) (d : Datum) → value_at (object 0 0 ∷ None ∷ []) v ≡ Some d → value_at a_pair v ≡ Some d
 package_kept zero d e = e
-package_kept (suc zero) d e = absurd (some_is_not_none d e)
-package_kept (suc (suc v)) d e = absurd (some_is_not_none d e)
+package_kept (suc zero) d e = absurd (none-some d e)
+package_kept (suc (suc v)) d e = absurd (none-some d e)
 
 schema_or_kept : (v : ℕ) (d : Datum) → value_at a_pair v ≡ Some d → Contains begins.existential v ⊎ (value_at (object 0 0 ∷ None ∷ []) v ≡ Some d)
 schema_or_kept zero d e = inr e
 schema_or_kept (suc zero) d e = inl (0, omega arith, refl)
-schema_or_kept (suc (suc v)) d e = absurd (some_is_not_none d e)
+schema_or_kept (suc (suc v)) d e = absurd (none-some d e)
 
 begins_calls : CallsWhere looping models (record { rel = 0; roots = free begins }) again_call
 begins_calls = record {

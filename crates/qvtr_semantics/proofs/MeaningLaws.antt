@@ -16,11 +16,7 @@ use Rattle.qvtr_semantics.specs.declared.out.Out.{Out}
 use Rattle.qvtr_semantics.specs.Objects.{Setting}
 use Rattle.qvtr_semantics.specs.Expressions.{Meaning, Operated, Called, Queries, node_meaning, typed_meaning, infix_meaning, call_meaning, postfix_meaning, meaning}
 use Rattle.qvtr_semantics.proofs.ExpressionLaws.{node_of}
-
--- ---- lists
-
-contains_first : {X : Type 0} (x : X) (xs : List X) → Contains (x ∷ xs) x
-contains_first x xs = (0, omega arith, refl)
+use Rattle.mof_metamodel.proofs.Facts.{contains_first}
 
 contains_later : {X : Type 0} (x y : X) (ys : List X) → Contains ys x → Contains (y ∷ ys) x
 contains_later x y ys c = let (k, within, is) = c in (suc k, omega arith, is)

@@ -14,7 +14,10 @@ use Rattle.qvtr_semantics.specs.Bindings.{have_values, meets_source, meets_targe
 use Rattle.qvtr_semantics.specs.Calls.{SourceMatches, TargetHolds, Match, Holds, free}
 use Rattle.qvtr_semantics.specs.Satisfaction.{Failing, Satisfied, IsLess, LeastFailing}
 use Rattle.qvtr_semantics.specs.SmallModels.{packages, two_schemas, one_schema, both, one_only, b_alone, text, object, program, package_to_schema, class_to_table}
-use Rattle.qvtr_semantics.proofs.RowParts.{first_holds, second_holds, sets, named, matching, named_template, text_value, object_value, text_among}
+use Rattle.qvtr_semantics.proofs.RowParts.{sets, named, matching, named_template, text_value, object_value, text_among}
+use Rattle.mof_metamodel.proofs.Facts.{second_true}
+use Rattle.mof_metamodel.proofs.Facts.{first_true}
+use Rattle.std.proofs.lemmas.Option.{none-some}
 
 -- ---- values of bindings
 
@@ -22,13 +25,9 @@ is_none : {X : Type 0} → Option X → Bool
 is_none None = true
 is_none (Some x) = false
 
-pub some_is_not_none : {X : Type 0} (x : X) → None ≡ Some x → ⊥
-unfolding is_none
-some_is_not_none x e = true≢false (ap is_none e)
-
 pub nothing_free : (n v : ℕ) (d : Datum) → value_at (replicate n None) v ≡ Some d → ⊥
-nothing_free zero v d e = some_is_not_none d e
-nothing_free (suc n) zero d e = some_is_not_none d e
+nothing_free zero v d e = none-some d e
+nothing_free (suc n) zero d e = none-some d e
 nothing_free (suc n) (suc v) d e = nothing_free n v d e
 
 -- three values, since there are three variables
@@ -62,9 +61,9 @@ module _ (schemas : ModelData) where
   package_named : (s : List ℕ) (o : ℕ) (z : Option Datum) → is_of_class (sets program models) 1 (Obj 0 (record { 0 = o })) ≡ true
       → (matching program models 1 1 (named program models 0 ∷ [])).matches (text s ∷ object 0 o ∷ z ∷ []) ≡ true → IsPackage (text s) (object 0 o)
   package_named s zero z c m =
-      subst (λ t. IsPackage (text t) (object 0 0)) (sym (text_among s (codes "a") (first_holds (is_among (Val 0 (values.Str s)) (Val 0 (values.Str (codes "a")) ∷ [])) true m))) IsPackage.first
+      subst (λ t. IsPackage (text t) (object 0 0)) (sym (text_among s (codes "a") (first_true (is_among (Val 0 (values.Str s)) (Val 0 (values.Str (codes "a")) ∷ [])) true m))) IsPackage.first
   package_named s (suc zero) z c m =
-      subst (λ t. IsPackage (text t) (object 0 1)) (sym (text_among s (codes "b") (first_holds (is_among (Val 0 (values.Str s)) (Val 0 (values.Str (codes "b")) ∷ [])) true m))) IsPackage.second
+      subst (λ t. IsPackage (text t) (object 0 1)) (sym (text_among s (codes "b") (first_true (is_among (Val 0 (values.Str s)) (Val 0 (values.Str (codes "b")) ∷ [])) true m))) IsPackage.second
   package_named s (suc (suc o)) z c m = absurd (true≢false (sym c))
 
   pub source_is : (x y z : Option Datum) → meets_source program models package_to_schema (x ∷ y ∷ z ∷ []) ≡ true → IsPackage x y
@@ -74,11 +73,11 @@ module _ (schemas : ModelData) where
       let h : source_by p models b ≡ true = sym (ap (λ q. source_by q models b) (named_template program models 1 1 0)) ∙ meets in
       let one = is_value_for (sets program models) (slice_get package_to_schema.vars 0) x in
       let two = is_value_for (sets program models) (slice_get package_to_schema.vars 1) y in
-      let both = first_holds ((one && (two && true)) && (p.matches b && true)) true h in
-      let values_hold = first_holds (one && (two && true)) (p.matches b && true) both in
-      let matches = first_holds (p.matches b) true (second_holds (one && (two && true)) (p.matches b && true) both) in
-      let (s, is_text) = text_value program models (codes "pn") x (first_holds one (two && true) values_hold) in
-      let (o, is_object, of_class) = object_value program models (codes "p") 0 1 y (first_holds two true (second_holds one (two && true) values_hold)) in
+      let both = first_true ((one && (two && true)) && (p.matches b && true)) true h in
+      let values_hold = first_true (one && (two && true)) (p.matches b && true) both in
+      let matches = first_true (p.matches b) true (second_true (one && (two && true)) (p.matches b && true) both) in
+      let (s, is_text) = text_value program models (codes "pn") x (first_true one (two && true) values_hold) in
+      let (o, is_object, of_class) = object_value program models (codes "p") 0 1 y (first_true two true (second_true one (two && true) values_hold)) in
       subst (λ v. IsPackage v y) (sym is_text)
       (subst (λ v. IsPackage (text s) v) (sym is_object)
       (package_named s o.0 z of_class (subst (λ v. p.matches (text s ∷ v ∷ z ∷ []) ≡ true) is_object (subst (λ v. p.matches (v ∷ y ∷ z ∷ []) ≡ true) is_text matches))))
@@ -96,21 +95,21 @@ module _ (schemas : ModelData) where
       let two = is_value_for (sets program models) (slice_get class_to_table.vars 1) (value_at b 1) in
       let three = is_value_for (sets program models) (slice_get class_to_table.vars 2) (value_at b 2) in
       let four = is_value_for (sets program models) (slice_get class_to_table.vars 4) (value_at b 4) in
-      let (o, is_object, of_class) = object_value program models (codes "c") 0 2 (value_at b 1) (first_holds two (three && (four && true)) (second_holds one (two && (three && (four && true))) h)) in
+      let (o, is_object, of_class) = object_value program models (codes "c") 0 2 (value_at b 1) (first_true two (three && (four && true)) (second_true one (two && (three && (four && true))) h)) in
       no_class o.0 of_class
 
   class_has_no_source : (roots b : Values) → Source program models class_to_table roots b → ⊥
   class_has_no_source roots b source =
       let h = have_values program models class_to_table class_to_table.universal b in
-      class_of_values b (first_holds h _ (first_holds _ _ source.meets))
+      class_of_values b (first_true h _ (first_true _ _ source.meets))
 
 -- ---- partners
 
 no_extension : (x y z w : Option Datum) (v : ℕ) (d : Datum) → z ≡ None → value_at (x ∷ y ∷ z ∷ []) v ≡ Some d → value_at (x ∷ y ∷ w ∷ []) v ≡ Some d
 no_extension x y z w zero d n e = e
 no_extension x y z w (suc zero) d n e = e
-no_extension x y z w (suc (suc zero)) d n e = absurd (some_is_not_none d (sym n ∙ e))
-no_extension x y z w (suc (suc (suc v))) d n e = absurd (some_is_not_none d e)
+no_extension x y z w (suc (suc zero)) d n e = absurd (none-some d (sym n ∙ e))
+no_extension x y z w (suc (suc (suc v))) d n e = absurd (none-some d e)
 
 -- the target root of a source binding with free roots has no value
 third_is_free : (ms : List ModelData) (x y z : Option Datum) → Source program ms package_to_schema (free package_to_schema) (x ∷ y ∷ z ∷ []) → z ≡ None
@@ -126,7 +125,7 @@ others : (x y w : Option Datum) (v : ℕ) (d : Datum) → value_at (x ∷ y ∷ 
 others x y w zero d e = inr e
 others x y w (suc zero) d e = inr e
 others x y w (suc (suc zero)) d e = inl (0, omega arith, refl)
-others x y w (suc (suc (suc v))) d e = absurd (some_is_not_none d e)
+others x y w (suc (suc (suc v))) d e = absurd (none-some d e)
 
 partner : (ms : List ModelData) (x y w : Option Datum) → IsTrue (meets_target program ms package_to_schema (x ∷ y ∷ w ∷ [])) → TargetHolds (Holds program ms) program ms package_to_schema (x ∷ y ∷ None ∷ []) (x ∷ y ∷ w ∷ [])
 partner ms x y w meets = record {
@@ -163,7 +162,7 @@ packages_and_schemas_are_satisfied zero b f =
 packages_and_schemas_are_satisfied (suc zero) b f =
     subst (λ rel. (c : Values) → SourceMatches (Match program both) program both rel (free rel) c → ⊥)
     (relation_is class_to_table f.rel f.top.is) (λ c m. class_has_no_source two_schemas (free class_to_table) c m.source) b f.source
-packages_and_schemas_are_satisfied (suc (suc n)) b f = some_is_not_none f.rel f.top.is
+packages_and_schemas_are_satisfied (suc (suc n)) b f = none-some f.rel f.top.is
 
 -- ---- row 2: the package `b` fails, and no binding before it does
 
@@ -178,9 +177,9 @@ no_partner w meets =
     let p : Pattern = matching program one_only 2 1 (named program one_only 0 ∷ []) in
     let h : target_by p one_only g ≡ true = sym (ap (λ q. target_by q one_only g) (named_template program one_only 2 1 0)) ∙ meets in
     let has = is_value_for (sets program one_only) (slice_get package_to_schema.vars 2) w in
-    let found = first_holds ((has && true) && (p.matches g && true)) true h in
-    let (o, is_object, of_class) = object_value program one_only (codes "s") 1 1 w (first_holds has true (first_holds (has && true) (p.matches g && true) found)) in
-    let matches = first_holds (p.matches g) true (second_holds (has && true) (p.matches g && true) found) in
+    let found = first_true ((has && true) && (p.matches g && true)) true h in
+    let (o, is_object, of_class) = object_value program one_only (codes "s") 1 1 w (first_true has true (first_true (has && true) (p.matches g && true) found)) in
+    let matches = first_true (p.matches g) true (second_true (has && true) (p.matches g && true) found) in
     no_schema_b o.0 of_class (subst (λ v. p.matches (text (codes "b") ∷ object 0 1 ∷ v ∷ []) ≡ true) is_object matches)
 
 no_partner_of_b : (g : Values) → IsThree g → Target program one_only package_to_schema b_alone g → ⊥
@@ -192,8 +191,8 @@ some_universal : (x y : Option Datum) (v : ℕ) (d : Datum) → value_at (x ∷ 
     → Contains package_to_schema.universal v ⊎ (value_at (free package_to_schema) v ≡ Some d)
 some_universal x y zero d e = inl (0, omega arith, refl)
 some_universal x y (suc zero) d e = inl (1, omega arith, refl)
-some_universal x y (suc (suc zero)) d e = absurd (some_is_not_none d e)
-some_universal x y (suc (suc (suc v))) d e = absurd (some_is_not_none d e)
+some_universal x y (suc (suc zero)) d e = absurd (none-some d e)
+some_universal x y (suc (suc (suc v))) d e = absurd (none-some d e)
 
 abbrev b_fails : Failing program one_only 0 b_alone
 b_fails = record {

@@ -25,16 +25,7 @@ use Rattle.qvtr_semantics.specs.Calls.{call_of, call_with}
 use Rattle.qvtr_semantics.proofs.TemplateLaws.{item_of, template_is, item_is, slot_expr}
 use Rattle.qvtr_semantics.proofs.ExpressionLaws.{typed_is, variable_is}
 use Rattle.qvtr_semantics.specs.SmallModels.{var, name_item, template, data_var, object_var}
-
--- ---- Booleans and numbers
-
-pub first_holds : (a b : Bool) → (a && b) ≡ true → a ≡ true
-first_holds true b e = refl
-first_holds false b e = e
-
-pub second_holds : (a b : Bool) → (a && b) ≡ true → b ≡ true
-second_holds true b e = e
-second_holds false b e = absurd (true≢false (sym e))
+use Rattle.mof_metamodel.proofs.Facts.{first_true, second_true}
 
 pub same_number : (a b : ℕ) → (a == b) ≡ true → a ≡ b
 same_number a b e = grind (arith, nat_tests)
@@ -87,22 +78,22 @@ module _ (program : Program) (models : List ModelData) where
   pub text_value : (name : List ℕ) (x : Option Datum) → is_value_for sets (Some (data_var name)) x ≡ true → (s : List ℕ) × (x ≡ Some (Val 0 (values.Str s)))
   text_value name None e = absurd (true≢false (sym e))
   text_value name (Some (Obj m o)) e = absurd (true≢false (sym e))
-  text_value name (Some (Val m (values.Str s))) e = (s, ap (λ n. Some (Val n (values.Str s))) (same_number m 0 (first_holds (m == 0) true e)))
-  text_value name (Some (Val m (values.Int i))) e = absurd (true≢false (sym (second_holds (m == 0) false e)))
-  text_value name (Some (Val m (values.Bool c))) e = absurd (true≢false (sym (second_holds (m == 0) false e)))
-  text_value name (Some (Val m (values.Lit f n))) e = absurd (true≢false (sym (second_holds (m == 0) false e)))
+  text_value name (Some (Val m (values.Str s))) e = (s, ap (λ n. Some (Val n (values.Str s))) (same_number m 0 (first_true (m == 0) true e)))
+  text_value name (Some (Val m (values.Int i))) e = absurd (true≢false (sym (second_true (m == 0) false e)))
+  text_value name (Some (Val m (values.Bool c))) e = absurd (true≢false (sym (second_true (m == 0) false e)))
+  text_value name (Some (Val m (values.Lit f n))) e = absurd (true≢false (sym (second_true (m == 0) false e)))
 
   -- an object variable has a live object of its model and class
   pub object_value : (name : List ℕ) (model c : ℕ) (y : Option Datum) → is_value_for sets (Some (object_var name model c)) y ≡ true
       → (o : ObjId) × (y ≡ Some (Obj model o)) × (is_of_class sets c (Obj model o) ≡ true)
   object_value name model c None e = absurd (true≢false (sym e))
-  object_value name model c (Some (Val m (values.Str s))) e = absurd (true≢false (sym (second_holds (m == 0) false e)))
-  object_value name model c (Some (Val m (values.Int i))) e = absurd (true≢false (sym (second_holds (m == 0) false e)))
-  object_value name model c (Some (Val m (values.Bool b))) e = absurd (true≢false (sym (second_holds (m == 0) false e)))
-  object_value name model c (Some (Val m (values.Lit f n))) e = absurd (true≢false (sym (second_holds (m == 0) false e)))
+  object_value name model c (Some (Val m (values.Str s))) e = absurd (true≢false (sym (second_true (m == 0) false e)))
+  object_value name model c (Some (Val m (values.Int i))) e = absurd (true≢false (sym (second_true (m == 0) false e)))
+  object_value name model c (Some (Val m (values.Bool b))) e = absurd (true≢false (sym (second_true (m == 0) false e)))
+  object_value name model c (Some (Val m (values.Lit f n))) e = absurd (true≢false (sym (second_true (m == 0) false e)))
   object_value name model c (Some (Obj m o)) e =
-      let is : model ≡ m = same_number model m (first_holds (model == m) (is_of_class sets c (Obj m o)) e) in
-      (o, ap (λ n. Some (Obj n o)) (sym is), subst (λ n. is_of_class sets c (Obj n o) ≡ true) (sym is) (second_holds (model == m) (is_of_class sets c (Obj m o)) e))
+      let is : model ≡ m = same_number model m (first_true (model == m) (is_of_class sets c (Obj m o)) e) in
+      (o, ap (λ n. Some (Obj n o)) (sym is), subst (λ n. is_of_class sets c (Obj n o) ≡ true) (sym is) (second_true (model == m) (is_of_class sets c (Obj m o)) e))
 
 -- a slot of one text holds a text only where they are the same
 pub text_among : (s t : List ℕ) → is_among (Val 0 (values.Str s)) (Val 0 (values.Str t) ∷ []) ≡ true → s ≡ t

@@ -42,12 +42,9 @@ use Rattle.qv_syntax.specs.QueryCalls.{Reaches}
 use Rattle.qv_syntax.specs.Keys.{IsKey, AreKeys}
 use Rattle.qv_syntax.specs.WellFormed.{IsWellFormed}
 use Rattle.qvtr_semantics.specs.SmallModels.{cls, rdb, name_item, template, var, data_var, object_var, class, package_to_schema, packages_alone, metas}
-use Rattle.qvtr_semantics.proofs.RowAnswers.{some_is_not_none}
-
--- ---- lists
-
-nothing_in : {X : Type 0} (x : X) → Contains [] x → ⊥
-nothing_in x c = let (k, within, is) = c in absurd (omega arith)
+use Rattle.std.proofs.lemmas.Option.{none-some}
+use Rattle.mof_metamodel.proofs.Facts.{nothing_in}
+use Rattle.std.proofs.lemmas.Option.{same_Some}
 
 one_of_one : {X : Type 0} (P : X → Type 0) (a : X) → P a → (x : X) → Contains (a ∷ []) x → P x
 one_of_one P a p x (zero, within, is) = subst P is p
@@ -57,9 +54,6 @@ one_of_two : {X : Type 0} (P : X → Type 0) (a b : X) → P a → P b → (x : 
 one_of_two P a b p q x (zero, within, is) = subst P is p
 one_of_two P a b p q x (suc zero, within, is) = subst P is q
 one_of_two P a b p q x (suc (suc k), within, is) = absurd (omega (arith, within))
-
-some_same : {X : Type 0} (a b : X) → Some a ≡ Some b → a ≡ b
-some_same a b e = ap (λ o. unwrap_or o a) e
 
 -- ---- expressions that are a variable
 
@@ -80,7 +74,7 @@ names_itself m v ty (other, within) =
     let mine : number_layer (out-Node (roll-Node (of.Variable m))) ≡ Some m = ap number_layer (out-roll-Node (of.Variable m)) in
     let theirs : number_layer (out-Node (nodes.Variable v)) ≡ Some v =
     ap (λ n. number_layer (out-Node n)) (sym (nodes.rolls-Variable v)) ∙ ap number_layer (out-roll-Node (of.Variable v)) in
-    some_same v m (sym theirs ∙ ap (λ e. number_layer (out-Node e.node)) (sym same) ∙ mine)
+    same_Some v m (sym theirs ∙ ap (λ e. number_layer (out-Node e.node)) (sym same) ∙ mine)
 
 -- ---- templates with one item, a name
 
@@ -116,7 +110,7 @@ only_item n c m item has =
 
 not_nested : (n c m : ℕ) (prop : PropId) (part : Tmpl) → HasItem (bare n c m) (record { prop = prop; value = items.Nested part }) → ⊥
 not_nested n c m prop part has =
-    some_is_not_none (var m types.Str)
+    none-some (var m types.Str)
     (sym (nested_expression part) ∙ ap (λ i. expression_of i.value) (sym (only_item n c m (record { prop = prop; value = items.Nested part }) has)) ∙ name_expression m)
 
 alone_by : (root t : Tmpl) → ((prop : PropId) (part : Tmpl) → HasItem root (record { prop = prop; value = items.Nested part }) → ⊥) → IsNested root t → root ≡ t
@@ -131,14 +125,14 @@ second_dom = record { model = Some 1; marker = Enforce; root = 2; template = Som
 
 template_is_root : (n c m : ℕ) (dom : Dom) → dom.template ≡ Some (bare n c m) → (t : Tmpl) → IsTemplateOf dom t → bare n c m ≡ t
 template_is_root n c m dom e t h =
-    let root : bare n c m ≡ h.root = some_same (bare n c m) h.root (sym e ∙ h.has) in
+    let root : bare n c m ≡ h.root = same_Some (bare n c m) h.root (sym e ∙ h.has) in
     root ∙ alone_by h.root t (λ prop part has. not_nested n c m prop part (subst (λ r. HasItem r (record { prop = prop; value = items.Nested part })) (sym root) has)) h.nested
 
 item_is_variable : (n c m : ℕ) (dom : Dom) → dom.template ≡ Some (bare n c m) → (e : Typed) → IsItemExpression dom e → var m types.Str ≡ e
 item_is_variable n c m dom d e h =
     let t : bare n c m ≡ h.of.template = template_is_root n c m dom d h.of.template h.of.of in
     let same : name_item m ≡ h.item = only_item n c m h.item (subst (λ x. HasItem x h.item) (sym t) h.of.has) in
-    some_same (var m types.Str) e (sym (name_expression m) ∙ ap (λ i. expression_of i.value) same ∙ ap expression_of h.is ∙ written_expression e)
+    same_Some (var m types.Str) e (sym (name_expression m) ∙ ap (λ i. expression_of i.value) same ∙ ap expression_of h.is ∙ written_expression e)
 
 variable_of : (n c m : ℕ) → (out-Tmpl (bare n c m)).var ≡ n
 variable_of n c m = ap (λ t. t.var) (out-roll-Tmpl (tree_of n c m))
@@ -167,7 +161,7 @@ abbrev some_number : ℕ → Option ℕ
 some_number n = Some n
 
 zero_is_not_one : some_number 0 ≡ some_number 1 → ⊥
-zero_is_not_one e = let n : 0 ≡ 1 = some_same 0 1 e in absurd (omega (arith, n))
+zero_is_not_one e = let n : 0 ≡ 1 = same_Some 0 1 e in absurd (omega (arith, n))
 
 first_is_source : IsSourceDomain packages_alone package_to_schema first_dom
 first_is_source = record { is = (0, omega arith, refl); source = zero_is_not_one }
@@ -205,8 +199,8 @@ is_primitive_mark Enforce = false
 shaped : (n c m model : ℕ) (mark : Marker) → is_primitive_mark mark ≡ false → IsDomainShaped (record { model = Some model; marker = mark; root = n; template = Some (bare n c m) })
 unfolding is_primitive_mark
 shaped n c m model mark e = record {
-  primitive = (λ is. absurd (true≢false (sym (ap is_primitive_mark is) ∙ e)), λ none. absurd (some_is_not_none model (sym none)));
-  bare = λ none. absurd (some_is_not_none model (sym none));
+  primitive = (λ is. absurd (true≢false (sym (ap is_primitive_mark is) ∙ e)), λ none. absurd (none-some model (sym none)));
+  bare = λ none. absurd (none-some model (sym none));
   shaped = λ other is. (bare n c m, refl, variable_of n c m);
 }
 
@@ -230,8 +224,8 @@ of_domain : (P : ℕ → ℕ → Tmpl → Type 0) (n c m model : ℕ) (slot : Mo
     → dom.template ≡ Some (bare n c m) → P model slot.meta (bare n c m)
     → (d : IsModelDomain packages_alone package_to_schema dom) (t : Tmpl) → IsTemplateOf dom t → P d.model d.slot.meta t
 of_domain P n c m model slot dom is found has p d t h =
-    let same : model ≡ d.model = some_same model d.model (sym is ∙ d.of_model) in
-    let same_slot : slot ≡ d.slot = some_same slot d.slot (sym found ∙ ap (λ x. slice_get packages_alone.models x) same ∙ d.found) in
+    let same : model ≡ d.model = same_Some model d.model (sym is ∙ d.of_model) in
+    let same_slot : slot ≡ d.slot = same_Some slot d.slot (sym found ∙ ap (λ x. slice_get packages_alone.models x) same ∙ d.found) in
     subst (λ x. P d.model d.slot.meta x) (template_is_root n c m dom has t h)
     (subst (λ s. P d.model s.meta (bare n c m)) same_slot (subst (λ x. P x slot.meta (bare n c m)) same p))
 
@@ -287,14 +281,14 @@ class_meta ty = None
 text_in_model : (name : List ℕ) → IsInModel packages_alone (data_var name)
 unfolding class_meta
 text_in_model name = record {
-  object = λ meta c is. absurd (some_is_not_none meta (ap class_meta is));
+  object = λ meta c is. absurd (none-some meta (ap class_meta is));
   data_value = λ none. refl;
 }
 
 object_in_model : (name : List ℕ) (model c : ℕ) (slot : ModelSlot) → slice_get packages_alone.models model ≡ Some slot → slot.meta ≡ model → IsInModel packages_alone (object_var name model c)
 unfolding class_meta
 object_in_model name model c slot found same = record {
-  object = λ meta other is. (model, slot, refl, found, same ∙ some_same model meta (ap class_meta is));
+  object = λ meta other is. (model, slot, refl, found, same ∙ same_Some model meta (ap class_meta is));
   data_value = λ none. absurd (none model (record { 0 = c }) refl);
 }
 
@@ -309,13 +303,13 @@ left_over : (v : ℕ) (x : Var) → slice_get package_to_schema.vars v ≡ Some 
 left_over zero x found none = absurd (none name_is_universal)
 left_over (suc zero) x found none = absurd (none package_is_universal)
 left_over (suc (suc zero)) x found none = (0, omega arith, refl)
-left_over (suc (suc (suc v))) x found none = absurd (some_is_not_none x found)
+left_over (suc (suc (suc v))) x found none = absurd (none-some x found)
 
 bound : (v : ℕ) → IsDataVariable package_to_schema v → IsBound packages_alone package_to_schema v
 bound zero data_variable = IsBound.source_item 0 first_dom name_is_universal first_is_source name_alone
-bound (suc zero) data_variable = absurd (data_variable.data_type 0 (record { 0 = 1 }) (ap (λ x. x.ty) (sym (some_same (object_var (codes "p") 0 1) data_variable.var data_variable.found))))
-bound (suc (suc zero)) data_variable = absurd (data_variable.data_type 1 (record { 0 = 1 }) (ap (λ x. x.ty) (sym (some_same (object_var (codes "s") 1 1) data_variable.var data_variable.found))))
-bound (suc (suc (suc v))) data_variable = absurd (some_is_not_none data_variable.var data_variable.found)
+bound (suc zero) data_variable = absurd (data_variable.data_type 0 (record { 0 = 1 }) (ap (λ x. x.ty) (sym (same_Some (object_var (codes "p") 0 1) data_variable.var data_variable.found))))
+bound (suc (suc zero)) data_variable = absurd (data_variable.data_type 1 (record { 0 = 1 }) (ap (λ x. x.ty) (sym (same_Some (object_var (codes "s") 1 1) data_variable.var data_variable.found))))
+bound (suc (suc (suc v))) data_variable = absurd (none-some data_variable.var data_variable.found)
 
 in_order_two : AllPairs (λ (v w : ℕ). v < w) (0 ∷ 1 ∷ [])
 in_order_two zero zero d before within = absurd (omega (arith, before))
@@ -341,20 +335,20 @@ variables = record {
 
 no_equations : (Sought : ℕ → Type 0) → HasEquations package_to_schema Sought []
 no_equations Sought = record {
-  are = λ place v e found. absurd (some_is_not_none (conjuncts.Equation v e) found);
-  all = λ place v c e found says data_variable sought free. absurd (some_is_not_none (conjuncts.Cond c) found);
+  are = λ place v e found. absurd (none-some (conjuncts.Equation v e) found);
+  all = λ place v c e found says data_variable sought free. absurd (none-some (conjuncts.Cond c) found);
 }
 
 no_call_in : (number : ℕ) → CallsIn [] number → ⊥
 no_call_in number c = nothing_in (conjuncts.Call number c.0) c.1
 
 no_when : (number called : ℕ) (rel : Rel) → slice_get packages_alone.rels number ≡ Some rel → CallsIn rel.whens called → ⊥
-no_when zero called rel found = subst (λ r. CallsIn r.whens called → ⊥) (some_same package_to_schema rel found) (no_call_in called)
-no_when (suc n) called rel found = absurd (some_is_not_none rel found)
+no_when zero called rel found = subst (λ r. CallsIn r.whens called → ⊥) (same_Some package_to_schema rel found) (no_call_in called)
+no_when (suc n) called rel found = absurd (none-some rel found)
 
 no_where : (number called : ℕ) (rel : Rel) → slice_get packages_alone.rels number ≡ Some rel → CallsIn rel.wheres called → ⊥
-no_where zero called rel found = subst (λ r. CallsIn r.wheres called → ⊥) (some_same package_to_schema rel found) (no_call_in called)
-no_where (suc n) called rel found = absurd (some_is_not_none rel found)
+no_where zero called rel found = subst (λ r. CallsIn r.wheres called → ⊥) (same_Some package_to_schema rel found) (no_call_in called)
+no_where (suc n) called rel found = absurd (none-some rel found)
 
 no_calls : (number count : ℕ) → IsCallPath packages_alone number count → count ≤ 0
 no_calls _ _ (IsCallPath.end _) = omega arith
@@ -373,8 +367,8 @@ meant = record {
 }
 
 pub all_meant : AreMeant packages_alone
-all_meant zero rel found = subst (IsMeant packages_alone 0) (some_same package_to_schema rel found) meant
-all_meant (suc n) rel found = absurd (some_is_not_none rel found)
+all_meant zero rel found = subst (IsMeant packages_alone 0) (same_Some package_to_schema rel found) meant
+all_meant (suc n) rel found = absurd (none-some rel found)
 
 -- ---- numbers
 
@@ -411,7 +405,7 @@ variables_in_range = record {
   types = one_of_three (λ x. IsSingleType metas x.ty) (data_var (codes "pn")) (object_var (codes "p") 0 1) (object_var (codes "s") 1 1) tt class_in_cls class_in_rdb;
   models = λ x m has of_model.
       one_of_three (λ y. y.model ≡ Some m → m < 2) (data_var (codes "pn")) (object_var (codes "p") 0 1) (object_var (codes "s") 1 1)
-      (λ e. absurd (some_is_not_none m e)) (λ e. let is = some_same 0 m e in omega (arith, is)) (λ e. let is = some_same 1 m e in omega (arith, is)) x has of_model;
+      (λ e. absurd (none-some m e)) (λ e. let is = same_Some 0 m e in omega (arith, is)) (λ e. let is = same_Some 1 m e in omega (arith, is)) x has of_model;
   universal = one_of_two (λ (v : ℕ). v < 3) 0 1 (omega arith) (omega arith);
   existential = one_of_one (λ (v : ℕ). v < 3) 2 (omega arith);
 }
@@ -421,7 +415,7 @@ relation_in_range = record {
   vars = variables_in_range;
   roots = one_of_two (λ (d : Dom). d.root < 3) first_dom second_dom (omega arith) (omega arith);
   models = λ dom m has of_model.
-      one_of_two (λ (d : Dom). d.model ≡ Some m → m < 2) first_dom second_dom (λ e. let is = some_same 0 m e in omega (arith, is)) (λ e. let is = some_same 1 m e in omega (arith, is)) dom has of_model;
+      one_of_two (λ (d : Dom). d.model ≡ Some m → m < 2) first_dom second_dom (λ e. let is = same_Some 0 m e in omega (arith, is)) (λ e. let is = same_Some 1 m e in omega (arith, is)) dom has of_model;
   templates = each_domain (λ model meta x. IsTemplateInRange metas package_to_schema meta x) (in_range 1 0 class_in_cls (omega arith) name_in_cls) (in_range 2 1 class_in_rdb (omega arith) name_in_rdb);
   when_calls = λ number c. absurd (no_call_in number c);
   where_calls = λ number c. absurd (no_call_in number c);
@@ -478,8 +472,8 @@ typed = record {
 -- ---- queries and keys
 
 no_query : (a b : ℕ) → Reaches [] a b → ⊥
-no_query a b (Reaches.call _ _ c) = some_is_not_none c.query c.found
-no_query a b (Reaches.more _ m _ c r) = some_is_not_none c.query c.found
+no_query a b (Reaches.call _ _ c) = none-some c.query c.found
+no_query a b (Reaches.more _ m _ c r) = none-some c.query c.found
 
 keys : AreKeys metas packages_alone
 keys = record {

@@ -10,7 +10,8 @@ use Rattle.qvtr_semantics.specs.Bindings.{meets_target, Source, Target}
 use Rattle.qvtr_semantics.specs.Calls.{Asked, SourceMatches, TargetHolds, Match, Holds}
 use Rattle.qvtr_semantics.specs.SmallModels.{package_to_schema, program, both, two_schemas, text, object, package_call, other_call}
 use Rattle.qvtr_semantics.proofs.RowParts.{matching, named, named_template}
-use Rattle.qvtr_semantics.proofs.RowAnswers.{some_is_not_none, IsThree, three_of, IsPackage, source_is, source_by, target_by, schema_named}
+use Rattle.qvtr_semantics.proofs.RowAnswers.{IsThree, three_of, IsPackage, source_is, source_by, target_by, schema_named}
+use Rattle.std.proofs.lemmas.Option.{none-some}
 
 object_number : Option Datum → ℕ
 object_number None = 0
@@ -45,7 +46,7 @@ abbrev a_and_second : Values
 a_and_second = text (codes "a") ∷ object 0 0 ∷ object 1 1 ∷ []
 
 roots_kept : (v : ℕ) (d : Datum) → value_at other_call.roots v ≡ Some d → value_at a_and_second v ≡ Some d
-roots_kept zero d e = absurd (some_is_not_none d e)
+roots_kept zero d e = absurd (none-some d e)
 roots_kept (suc v) d e = e
 
 universal_or_root : (v : ℕ) (d : Datum) → value_at a_and_second v ≡ Some d → Contains package_to_schema.universal v ⊎ (value_at other_call.roots v ≡ Some d)

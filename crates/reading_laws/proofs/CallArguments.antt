@@ -12,7 +12,8 @@ use Rattle.qv_syntax.specs.declared.program.Dom.{Dom}
 use Rattle.qv_syntax.specs.declared.program.Conj.{Conj}
 use Rattle.qv_syntax.specs.declared.program.Conj.TheVariants as conjuncts
 use Rattle.qvtr_semantics.specs.Outs.{all_given}
-use Rattle.template_match.proofs.ListLaws.{contains_first, contains_later}
+use Rattle.template_match.proofs.ListLaws.{contains_later}
+use Rattle.mof_metamodel.proofs.Facts.{contains_first}
 use Rattle.repair_semantics.specs.declared.term.TermValue.{TermValue}
 use Rattle.repair_semantics.specs.declared.entry.Entry.{Entry}
 use Rattle.repair_semantics.specs.declared.entry.EntryName.{EntryName}
@@ -21,7 +22,8 @@ use Rattle.repair_semantics.specs.Making.{entry_known}
 use Rattle.repair_semantics.specs.Unmet.{is_unmet}
 use Rattle.repair_semantics.specs.Entries.{bound_roots, call_to, named_call, calls_in, calls_where, entry_calls}
 use Rattle.reading_laws.proofs.CallRoots.{put_both, put_long, put_there}
-use Rattle.reading_laws.proofs.MeetingValues.{nothing_some, one_some, within_terms}
+use Rattle.reading_laws.proofs.MeetingValues.{nothing_some, within_terms}
+use Rattle.std.proofs.lemmas.Option.{same_Some}
 
 -- ---- roots
 
@@ -56,7 +58,7 @@ later_put dom doms z zs v x p = record { place = suc p.place; dom = p.dom; at = 
     last (suc later) other y less a g = p.last later other y (omega (arith, less)) a g
 
 none_more : (dom : Dom) (doms : List Dom) (z : TermValue) (zs : List TermValue) (v : ℕ) → dom.root ≢ v → IsNoRoot doms zs v → IsNoRoot (dom ∷ doms) (z ∷ zs) v
-none_more dom doms z zs v other_root none zero other y a g = λ is. other_root (ap (λ (d : Dom). d.root) (one_some dom other a) ∙ is)
+none_more dom doms z zs v other_root none zero other y a g = λ is. other_root (ap (λ (d : Dom). d.root) (same_Some dom other a) ∙ is)
 none_more dom doms z zs v other_root none (suc later) other y a g = none later other y a g
 
 pub comes : (b : TermValues) (doms : List Dom) (xs : List TermValue) (v : ℕ) (x : TermValue) → value_of (with_roots b doms xs) v ≡ Some x → Comes b doms xs v x
@@ -68,7 +70,7 @@ comes b (dom ∷ doms) (z ∷ zs) v x at = by (comes (slice_set b dom.root (Some
     of_root true is there none =
         let root : dom.root ≡ v = eqb-true dom.root v is in
         let below : dom.root < length b = subst (λ n. n < length b) (sym root) (subst (λ n. v < n) (put_long b dom.root z) (within_terms (slice_set b dom.root (Some z)) v x there)) in
-        Comes.put (first_put dom doms z zs v x root (one_some z x (sym (put_there b dom.root z below) ∙ ap (value_of (slice_set b dom.root (Some z))) root ∙ there)) none)
+        Comes.put (first_put dom doms z zs v x root (same_Some z x (sym (put_there b dom.root z below) ∙ ap (value_of (slice_set b dom.root (Some z))) root ∙ there)) none)
     of_root false is there none = elim (put_both b b dom.root v z z refl) [
       | inl here ↦ absurd (true≢false (sym (eq-eqb dom.root v here.0) ∙ is))
       | inr keeps ↦ Comes.kept (sym keeps.0 ∙ there) (none_more dom doms z zs v (λ same. true≢false (sym (eq-eqb dom.root v same) ∙ is)) none)
@@ -94,15 +96,15 @@ module _ (f : Typed → Option TermValue) where
       by : (o : Option TermValue) (os : Option (List TermValue)) → f e ≡ o → all_given (map f es) ≡ os → all_given (o ∷ map f es) ≡ Some xs → AreGivenFirst e es xs
       by None os is others h = absurd (nothing_some xs h)
       by (Some x) None is others h = absurd (nothing_some xs (sym (ap (option_map (λ zs. x ∷ zs)) others) ∙ h))
-      by (Some x) (Some zs) is others h = record { first = x; rest = zs; given = is; others = others; are = sym (one_some (x ∷ zs) xs (sym (ap (option_map (λ rs. x ∷ rs)) others) ∙ h)) }
+      by (Some x) (Some zs) is others h = record { first = x; rest = zs; given = is; others = others; are = sym (same_Some (x ∷ zs) xs (sym (ap (option_map (λ rs. x ∷ rs)) others) ∙ h)) }
 
   pub given_long : (es : List Typed) (xs : List TermValue) → all_given (map f es) ≡ Some xs → length xs ≡ length es
-  given_long [] xs h = ap length (sym (one_some [] xs h))
+  given_long [] xs h = ap length (sym (same_Some [] xs h))
   given_long (e ∷ es) xs h = let g = first_given e es xs h in ap length g.are ∙ ap suc (given_long es g.rest g.others)
 
   pub argument_of : (es : List Typed) (xs : List TermValue) → all_given (map f es) ≡ Some xs → (j : ℕ) (x : TermValue) → slice_get xs j ≡ Some x
       → (e : Typed) × (slice_get es j ≡ Some e) × (f e ≡ Some x)
-  argument_of [] xs h j x at = absurd (nothing_some x (subst (λ zs. slice_get zs j ≡ Some x) (sym (one_some [] xs h)) at))
+  argument_of [] xs h j x at = absurd (nothing_some x (subst (λ zs. slice_get zs j ≡ Some x) (sym (same_Some [] xs h)) at))
   argument_of (e ∷ es) xs h zero x at =
       let g = first_given e es xs h in (e, refl, g.given ∙ subst (λ zs. slice_get zs 0 ≡ Some x) g.are at)
   argument_of (e ∷ es) xs h (suc j) x at =
@@ -140,7 +142,7 @@ module _ (program : Program) (sources : List ModelData) (k : Known) (c : EntryNa
       by None (Some xs) found given is = absurd (nothing_some c is)
       by (Some called) (Some xs) found given is =
           let made : EntryName = record { rel = n; roots = bound_roots called xs } in
-          let same : made ≡ c = one_some made c is in
+          let same : made ≡ c = same_Some made c is in
           let number : n ≡ c.rel = ap (λ (x : EntryName). x.rel) same in
           record {
             args = args;

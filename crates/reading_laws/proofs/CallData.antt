@@ -12,7 +12,8 @@ use Rattle.qvtr_semantics.specs.Outs.{datum_of, all_given}
 use Rattle.qvtr_semantics.specs.Expressions.{value_for}
 use Rattle.qvtr_semantics.specs.Templates.{Values, value_at}
 use Rattle.qvtr_semantics.specs.Calls.{RelationCall, free, with_roots, call_with, call_of}
-use Rattle.reading_laws.proofs.CallValues.{some_inner, none_some}
+use Rattle.reading_laws.proofs.CallValues.{none_some}
+use Rattle.std.proofs.lemmas.Option.{same_Some}
 use Rattle.reading_laws.proofs.CallRoots.{none_long}
 
 put_value : (c : Values) (r : ℕ) (d : Datum) → r < length c → value_at (slice_set c r (Some d)) r ≡ Some d
@@ -76,12 +77,12 @@ given_at f (x ∷ args) ds i e all at = by (f x) (all_given (map f args)) refl r
     by None p is others h rest i at = absurd (none_some ds h)
     by (Some d) None is others h rest i at = absurd (none_some ds (sym (ap (option_map (λ ys. d ∷ ys)) others) ∙ h))
     by (Some d) (Some ys) is others h rest i at =
-        from d ys (some_inner (d ∷ ys) ds (sym (ap (option_map (λ zs. d ∷ zs)) others) ∙ h)) is (λ j there. rest ys j others there) i at
+        from d ys (same_Some (d ∷ ys) ds (sym (ap (option_map (λ zs. d ∷ zs)) others) ∙ h)) is (λ j there. rest ys j others there) i at
 
 -- each datum is that of an argument
 given_from : (f : Typed → Option Datum) (args : List Typed) (ds : List Datum) (i : ℕ) (d : Datum) → all_given (map f args) ≡ Some ds → slice_get ds i ≡ Some d
     → (e : Typed) × (slice_get args i ≡ Some e)
-given_from f [] ds i d all at = absurd (none_some d (ap (λ zs. slice_get zs i) (some_inner [] ds all) ∙ at))
+given_from f [] ds i d all at = absurd (none_some d (ap (λ zs. slice_get zs i) (same_Some [] ds all) ∙ at))
 given_from f (x ∷ args) ds i d all at = by (f x) (all_given (map f args)) refl all (λ ys j others there. given_from f args ys j d others there) i at
   where
     from : (y : Datum) (ys : List Datum) → y ∷ ys ≡ ds → ((j : ℕ) → slice_get ys j ≡ Some d → (e : Typed) × (slice_get args j ≡ Some e)) → (i : ℕ) → slice_get ds i ≡ Some d
@@ -95,7 +96,7 @@ given_from f (x ∷ args) ds i d all at = by (f x) (all_given (map f args)) refl
     by None p others h rest i at = absurd (none_some ds h)
     by (Some y) None others h rest i at = absurd (none_some ds (sym (ap (option_map (λ ys. y ∷ ys)) others) ∙ h))
     by (Some y) (Some ys) others h rest i at =
-        from y ys (some_inner (y ∷ ys) ds (sym (ap (option_map (λ zs. y ∷ zs)) others) ∙ h)) (λ j there. rest ys j others there) i at
+        from y ys (same_Some (y ∷ ys) ds (sym (ap (option_map (λ zs. y ∷ zs)) others) ∙ h)) (λ j there. rest ys j others there) i at
 
 -- the root of a domain has the datum of its argument
 pub root_datum : (program : Program) (models : List ModelData) (c : Values) (n : ℕ) (args : List Typed) (to : RelationCall) (called : Rel) → call_of program models c n args ≡ Some to
@@ -111,7 +112,7 @@ root_datum program models c n args to called made found i dom e at given last le
     by None all h = absurd (none_some to h)
     by (Some ds) all h =
         let y = given_at (λ x. datum_of (value_for program models x c)) args ds i e all given in
-        ap (λ (t : RelationCall). value_at t.roots dom.root) (sym (some_inner (record { rel = n; roots = with_roots (free called) called.domains ds }) to h))
+        ap (λ (t : RelationCall). value_at t.roots dom.root) (sym (same_Some (record { rel = n; roots = with_roots (free called) called.domains ds }) to h))
         ∙ data_root (free called) called.domains ds i dom y.0 at y.2
         (λ j x w more there has is. let arg = given_from (λ z. datum_of (value_for program models z c)) args ds j w all has in last j x arg.0 more there arg.1 is)
         (subst (λ k. dom.root < k) (sym (none_long (length called.vars) None)) less) ∙ sym y.1

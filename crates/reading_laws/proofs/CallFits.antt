@@ -23,14 +23,15 @@ use Rattle.qvtr_semantics.specs.declared.out.Out.{Out}
 use Rattle.qvtr_semantics.specs.Outs.{datum_of, all_given}
 use Rattle.qvtr_semantics.specs.Expressions.{variable, value}
 use Rattle.template_match.specs.Sources.{is_of_target, is_target_variable}
-use Rattle.template_match.proofs.ListLaws.{contains_first, contains_later}
+use Rattle.template_match.proofs.ListLaws.{contains_later}
+use Rattle.mof_metamodel.proofs.Facts.{contains_first}
 use Rattle.source_laws.specs.SourceValues.{IsOfSources, HasNoTarget}
 use Rattle.source_laws.specs.SourceRelations.{IsPlainArgument}
 use Rattle.source_laws.specs.TargetRule.{HasConjunct, HandsTargetOn}
 use Rattle.source_laws.proofs.OperationLaws.{datum_apart}
 use Rattle.source_laws.proofs.QueryLaws.{scope_alike}
 use Rattle.source_laws.proofs.RelationLaws.{datum_by}
-use Rattle.source_laws.proofs.BindingLaws.{among}
+use Rattle.mof_metamodel.proofs.Facts.{contains_at}
 use Rattle.source_laws.proofs.RuleLaws.{rule_plain}
 use Rattle.source_laws.proofs.RootLaws.{alone_given, typed_call}
 use Rattle.repair_semantics.specs.declared.term.Term.{Term}
@@ -38,7 +39,8 @@ use Rattle.repair_semantics.specs.declared.term.TermValue.{TermValue}
 use Rattle.repair_semantics.specs.declared.entry.EntryName.{EntryName}
 use Rattle.repair_semantics.specs.EntryValues.{TermValues, Known, value_of, no_values, with_roots, root_values, variable_at, variable_alone, given_by, given_value}
 use Rattle.repair_semantics.specs.Entries.{bound_roots, call_to, named_call, calls_in}
-use Rattle.reading_laws.proofs.CallValues.{some_inner, none_some, val_term, same_val, IsFit, AreFit}
+use Rattle.reading_laws.proofs.CallValues.{none_some, val_term, same_val, IsFit, AreFit}
+use Rattle.std.proofs.lemmas.Option.{same_Some}
 use Rattle.reading_laws.proofs.CallRoots.{put_both, bound_same, bound_back}
 use Rattle.qv_syntax.specs.declared.typed.Call.TheOpen as of
 use Rattle.qv_syntax.specs.declared.typed.Node.TheVariants as nodes
@@ -48,7 +50,7 @@ use Rattle.repair_semantics.specs.declared.term.TermValue.TheVariants as values
 -- ---- a variable alone
 
 some_layer : (d : of.Node-F Call Node Typed TypedInfix TypedPostfix) (v : ℕ) → variable_at d ≡ Some v → d ≡ of.Variable v
-some_layer (of.Variable n) v h = ap of.Variable (some_inner n v h)
+some_layer (of.Variable n) v h = ap of.Variable (same_Some n v h)
 some_layer d v h = absurd (none_some v h)
 
 pub alone_is : (e : Typed) (v : ℕ) → variable_alone e ≡ Some v → e ≡ record { ty = e.ty; node = nodes.Variable v }
@@ -102,7 +104,7 @@ module _ (program : Program) (terms : List Term) (called : Rel) where
     where
       by : ((r ≡ v) × (value_of (slice_set b r (Some y)) v ≡ Some y)) ⊎ ((value_of (slice_set b r (Some y)) v ≡ value_of b v) × (value_of (slice_set b r (Some y)) v ≡ value_of b v))
           → IsFit program terms called v x
-      by (inl (is, there)) = subst (λ z. IsFit program terms called v z) (some_inner y x (sym there ∙ at)) (subst (λ n. IsFit program terms called n y) is here)
+      by (inl (is, there)) = subst (λ z. IsFit program terms called v z) (same_Some y x (sym there ∙ at)) (subst (λ n. IsFit program terms called n y) is here)
       by (inr (same, again)) = before v x (sym same ∙ at)
 
   -- each argument may stand at the root of its domain
@@ -144,7 +146,7 @@ module _ (program : Program) (terms : List Term) (called : Rel) where
 
 pub given_val : (o : Option Datum) (x : TermValue) → option_map (λ d. values.Val d) o ≡ Some x → (d : Datum) × (o ≡ Some d) × (x ≡ values.Val d)
 given_val None x h = absurd (none_some x h)
-given_val (Some d) x h = (d, refl, sym (some_inner (values.Val d) x h))
+given_val (Some d) x h = (d, refl, sym (same_Some (values.Val d) x h))
 
 module _ (metas : List MetaDesc) (program : Program) (formed : IsWellFormed metas program) (sources : List ModelData) (terms : List Term) (place : ℕ) (rel : Rel)
     (found : slice_get program.rels place ≡ Some rel) (rule : HandsTargetOn program rel) (k : Known) (fits : AreFit program terms rel k.values)
@@ -184,7 +186,7 @@ module _ (metas : List MetaDesc) (program : Program) (formed : IsWellFormed meta
   arguments_fit : (called : Rel) (doms : List Dom) (args : List Typed) (xs : List TermValue) → AreGiven metas program rel called doms args
       → ((e : Typed) → Contains args e → IsPlainArgument program rel e) → all_given (map one args) ≡ Some xs → AllFit program terms called doms xs
   unfolding AllFit
-  arguments_fit called [] [] xs given plain all = subst (AllFit program terms called []) (some_inner [] xs all) tt
+  arguments_fit called [] [] xs given plain all = subst (AllFit program terms called []) (same_Some [] xs all) tt
   arguments_fit called [] (e ∷ es) xs given plain all = absurd given
   arguments_fit called (dom ∷ doms) [] xs given plain all = absurd given
   arguments_fit called (dom ∷ doms) (e ∷ es) xs given plain all =
@@ -196,11 +198,11 @@ module _ (metas : List MetaDesc) (program : Program) (formed : IsWellFormed meta
       by None p is others h rest = absurd (none_some xs h)
       by (Some x) None is others h rest = absurd (none_some xs (sym (ap (option_map (λ ys. x ∷ ys)) others) ∙ h))
       by (Some x) (Some ys) is others h rest =
-          subst (AllFit program terms called (dom ∷ doms)) (some_inner (x ∷ ys) xs (sym (ap (option_map (λ zs. x ∷ zs)) others) ∙ h))
+          subst (AllFit program terms called (dom ∷ doms)) (same_Some (x ∷ ys) xs (sym (ap (option_map (λ zs. x ∷ zs)) others) ∙ h))
           (argument_fit called dom.root given.0.0 e given.0.1 given.0.2 (plain e (contains_first e es)) x is, rest ys others)
 
   pub range_of : (n : ℕ) (called : Rel) → slice_get program.rels n ≡ Some called → (dom : Dom) → Contains called.domains dom → dom.root < length called.vars
-  range_of n called is = (formed.numbers.relations called (among program.rels n called is)).roots
+  range_of n called is = (formed.numbers.relations called (contains_at program.rels n called is)).roots
 
   pub record CallFits (from : EntryName) : Type 0 where
     pub called : Rel
@@ -216,7 +218,7 @@ module _ (metas : List MetaDesc) (program : Program) (formed : IsWellFormed meta
       by None all h = absurd (none_some from h)
       by (Some xs) all h =
           let made : EntryName = record { rel = n; roots = bound_roots typed.called xs } in
-          subst CallFits (some_inner made from h) (record {
+          subst CallFits (same_Some made from h) (record {
             called = typed.called;
             at = typed.found;
             roots_fit = bound_fit program terms typed.called n xs (range_of n typed.called typed.found) (arguments_fit typed.called typed.called.domains args xs typed.given plain all);

@@ -12,12 +12,14 @@ use Rattle.qvtr_semantics.specs.Outs.{datum_of, all_given}
 use Rattle.qvtr_semantics.specs.Expressions.{value_for}
 use Rattle.qvtr_semantics.specs.Templates.{Values, value_at}
 use Rattle.qvtr_semantics.specs.Calls.{RelationCall, Asked, AllAsked, free, call_with, call_of, calls_of}
-use Rattle.template_match.proofs.ListLaws.{contains_first, contains_later}
+use Rattle.template_match.proofs.ListLaws.{contains_later}
+use Rattle.mof_metamodel.proofs.Facts.{contains_first}
 use Rattle.source_laws.proofs.RootLaws.{put, none_free}
 use Rattle.repair_semantics.specs.declared.entry.EntryName.{EntryName}
 use Rattle.repair_semantics.specs.EntryValues.{Known}
 use Rattle.repair_semantics.specs.Entries.{named_call, calls_in}
-use Rattle.reading_laws.proofs.CallValues.{some_inner, none_some}
+use Rattle.reading_laws.proofs.CallValues.{none_some}
+use Rattle.std.proofs.lemmas.Option.{same_Some}
 use Rattle.qv_syntax.specs.declared.program.Conj.TheVariants as conjuncts
 use Rattle.qvtr_semantics.specs.Calls as calls
 
@@ -28,7 +30,7 @@ to_rel program models c n args to is = by (slice_get program.rels n) (all_given 
     by : (q : Option Rel) (o : Option (List Datum)) → call_with n q o ≡ Some to → to.rel ≡ n
     by None o h = absurd (none_some to h)
     by (Some called) None h = absurd (none_some to h)
-    by (Some called) (Some ds) h = sym (ap (λ (t : RelationCall). t.rel) (some_inner (record { rel = n; roots = calls.with_roots (free called) called.domains ds }) to h))
+    by (Some called) (Some ds) h = sym (ap (λ (t : RelationCall). t.rel) (same_Some (record { rel = n; roots = calls.with_roots (free called) called.domains ds }) to h))
 
 -- the roots of a call have values at roots of domains alone
 root_from : (c : Values) (doms : List Dom) (ds : List Datum) (v : ℕ) (d : Datum) → value_at (calls.with_roots c doms ds) v ≡ Some d
@@ -58,7 +60,7 @@ to_root program models c n args to called is found v d at =
     by None h = absurd (none_some to h)
     by (Some ds) h =
         end (root_from (free called) called.domains ds v d
-        (ap (λ (t : RelationCall). value_at t.roots v) (some_inner (record { rel = n; roots = calls.with_roots (free called) called.domains ds }) to h) ∙ at))
+        (ap (λ (t : RelationCall). value_at t.roots v) (same_Some (record { rel = n; roots = calls.with_roots (free called) called.domains ds }) to h) ∙ at))
 
 -- the call that a conjunct makes
 abbrev call_in : Program → List ModelData → Values → Conj → Option RelationCall

@@ -18,7 +18,8 @@ use Rattle.qvtr_semantics.specs.Expressions.{variable, value, value_for, scope_o
 use Rattle.qvtr_semantics.specs.Templates.{Values, value_at}
 use Rattle.qvtr_semantics.specs.Calls.{free, call_with, call_of, calls_of}
 use Rattle.template_match.specs.Sources.{is_target_variable}
-use Rattle.template_match.proofs.ListLaws.{contains_first, contains_later}
+use Rattle.template_match.proofs.ListLaws.{contains_later}
+use Rattle.mof_metamodel.proofs.Facts.{contains_first}
 use Rattle.source_laws.specs.Agreement.{AgreeBut}
 use Rattle.source_laws.specs.SourceValues.{HasNoTarget}
 use Rattle.source_laws.specs.SourceRelations.{IsPlainArgument}

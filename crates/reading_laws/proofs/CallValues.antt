@@ -18,6 +18,7 @@ use Rattle.repair_semantics.specs.EntryValues.{TermValues, value_of, term_of, da
 use Rattle.template_match.specs.Sources.{is_target_variable}
 use Rattle.source_laws.specs.SourceValues.{IsOfSources}
 use Rattle.reading_laws.specs.Readings.{Numbering, IsReading, read_part, read_value, Reads}
+use Rattle.std.proofs.lemmas.Option.{same_Some}
 
 -- ---- what a value is
 
@@ -46,9 +47,6 @@ term_of_term t = ap term_part (out_term t)
 pub term_of_val : (d : Datum) → term_in (values.Val d) ≡ None
 term_of_val d = ap term_part (out_val d)
 
-pub some_inner : {X : Type 0} (x y : X) → Some x ≡ Some y → x ≡ y
-some_inner x y h = cc
-
 pub none_some : {X : Type 0} (x : X) → ◌≡◌ {A = Option X} None (Some x) → ⊥
 none_some x h = cc
 
@@ -57,7 +55,7 @@ pub val_from : (x : TermValue) (d : Datum) → datum_in x ≡ Some d → x ≡ v
 val_from x d is = by (val_or_term x)
   where
     by : ((e : Datum) × (x ≡ values.Val e)) ⊎ ((t : Term) × (x ≡ values.Term t)) → x ≡ values.Val d
-    by (inl (e, same)) = same ∙ ap (λ z. values.Val z) (some_inner e d (sym (datum_of_val e) ∙ sym (ap datum_in same) ∙ is))
+    by (inl (e, same)) = same ∙ ap (λ z. values.Val z) (same_Some e d (sym (datum_of_val e) ∙ sym (ap datum_in same) ∙ is))
     by (inr (t, same)) = absurd (none_some d (sym (datum_of_term t) ∙ sym (ap datum_in same) ∙ is))
 
 pub term_from : (x : TermValue) (t : Term) → term_in x ≡ Some t → x ≡ values.Term t
@@ -65,17 +63,17 @@ term_from x t is = by (val_or_term x)
   where
     by : ((e : Datum) × (x ≡ values.Val e)) ⊎ ((u : Term) × (x ≡ values.Term u)) → x ≡ values.Term t
     by (inl (e, same)) = absurd (none_some t (sym (term_of_val e) ∙ sym (ap term_in same) ∙ is))
-    by (inr (u, same)) = same ∙ ap (λ z. values.Term z) (some_inner u t (sym (term_of_term u) ∙ sym (ap term_in same) ∙ is))
+    by (inr (u, same)) = same ∙ ap (λ z. values.Term z) (same_Some u t (sym (term_of_term u) ∙ sym (ap term_in same) ∙ is))
 
 -- no value is both
 pub val_term : (d : Datum) (t : Term) → values.Val d ≡ values.Term t → ⊥
 val_term d t h = none_some d (sym (datum_of_term t) ∙ ap datum_in (sym h) ∙ datum_of_val d)
 
 pub same_val : (a b : Datum) → values.Val a ≡ values.Val b → a ≡ b
-same_val a b h = some_inner a b (sym (datum_of_val a) ∙ ap datum_in h ∙ datum_of_val b)
+same_val a b h = same_Some a b (sym (datum_of_val a) ∙ ap datum_in h ∙ datum_of_val b)
 
 pub same_term : (t u : Term) → values.Term t ≡ values.Term u → t ≡ u
-same_term t u h = some_inner t u (sym (term_of_term t) ∙ ap term_in h ∙ term_of_term u)
+same_term t u h = same_Some t u (sym (term_of_term t) ∙ ap term_in h ∙ term_of_term u)
 
 -- ---- the data of a binding
 
@@ -170,7 +168,7 @@ module _ (program : Program) (number : Numbering) where
   number_of : (t : Term) (d : Datum) (o : Option ℕ) → number t ≡ o → option_map (λ n. object_datum program.target n) o ≡ Some d
       → (n : ℕ) × (number t ≡ Some n) × (d ≡ object_datum program.target n)
   number_of t d None is h = absurd (none_some d h)
-  number_of t d (Some n) is h = (n, is, sym (some_inner (object_datum program.target n) d h))
+  number_of t d (Some n) is h = (n, is, sym (same_Some (object_datum program.target n) d h))
 
   pub term_number : (t : Term) (d : Datum) → read_value program number (values.Term t) ≡ Some d → (n : ℕ) × (number t ≡ Some n) × (d ≡ object_datum program.target n)
   term_number t d h = number_of t d (number t) refl (sym (term_read t) ∙ h)
@@ -185,16 +183,16 @@ module _ (program : Program) (number : Numbering) where
     where
       by : ((a : Datum) × (x ≡ values.Val a)) ⊎ ((t : Term) × (x ≡ values.Term t)) → ((a : Datum) × (y ≡ values.Val a)) ⊎ ((t : Term) × (y ≡ values.Term t)) → x ≡ y
       by (inl (a, is)) (inl (b, at)) =
-          let here_is : a ≡ d = some_inner a d (sym (val_read a) ∙ sym (ap (read_value program number) is) ∙ here) in
-          let there_is : b ≡ d = some_inner b d (sym (val_read b) ∙ sym (ap (read_value program number) at) ∙ there) in
+          let here_is : a ≡ d = same_Some a d (sym (val_read a) ∙ sym (ap (read_value program number) is) ∙ here) in
+          let there_is : b ≡ d = same_Some b d (sym (val_read b) ∙ sym (ap (read_value program number) at) ∙ there) in
           is ∙ ap (λ z. values.Val z) (here_is ∙ sym there_is) ∙ sym at
       by (inl (a, is)) (inr (u, at)) =
           let n = term_number u d (sym (ap (read_value program number) at) ∙ there) in
-          let here_is : a ≡ d = some_inner a d (sym (val_read a) ∙ sym (ap (read_value program number) is) ∙ here) in
+          let here_is : a ≡ d = same_Some a d (sym (val_read a) ∙ sym (ap (read_value program number) is) ∙ here) in
           absurd (not_source n.0 a (here_is ∙ n.2) (one.data_value a is))
       by (inr (t, is)) (inl (b, at)) =
           let n = term_number t d (sym (ap (read_value program number) is) ∙ here) in
-          let there_is : b ≡ d = some_inner b d (sym (val_read b) ∙ sym (ap (read_value program number) at) ∙ there) in
+          let there_is : b ≡ d = same_Some b d (sym (val_read b) ∙ sym (ap (read_value program number) at) ∙ there) in
           absurd (not_source n.0 b (there_is ∙ n.2) (other.data_value b at))
       by (inr (t, is)) (inr (u, at)) =
           let n = term_number t d (sym (ap (read_value program number) is) ∙ here) in

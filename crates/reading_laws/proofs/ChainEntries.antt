@@ -24,7 +24,8 @@ use Rattle.repair_semantics.specs.Making.{entry_known}
 use Rattle.repair_semantics.specs.Entries.{calls_in, entry_of, entry_calls, IsEntry}
 use Rattle.repair_semantics.specs.EntryChains.{BeginsEntries, CallsNext, CyclicEntries, DeepEntries}
 use Rattle.reading_laws.specs.Readings.{Numbering, Reads, ReadsCall}
-use Rattle.reading_laws.proofs.CallValues.{some_inner, none_some, one_value}
+use Rattle.reading_laws.proofs.CallValues.{none_some, one_value}
+use Rattle.std.proofs.lemmas.Option.{same_Some}
 use Rattle.reading_laws.proofs.CallFits.{RootsFit}
 use Rattle.reading_laws.proofs.EntryFacts.{map_same_in, call_where, called_fit, roots_given}
 use Rattle.reading_laws.proofs.EntryGround.{Ground}
@@ -81,7 +82,7 @@ all_inner (x ∷ xs) [] h = absurd (none_left (map (λ x. Some x) xs) (Some x) h
     none_left os o k = cc
 all_inner (x ∷ xs) (y ∷ ys) h =
     let both = parts (Some x) (Some y) (map (λ z. Some z) xs) (map (λ z. Some z) ys) h in
-    ap (λ z. z ∷ xs) (some_inner x y both.0) ∙ ap (λ zs. y ∷ zs) (all_inner xs ys both.1)
+    ap (λ z. z ∷ xs) (same_Some x y both.0) ∙ ap (λ zs. y ∷ zs) (all_inner xs ys both.1)
   where
     parts : (a b : Option TermValue) (os ps : List (Option TermValue)) → a ∷ os ≡ b ∷ ps → (a ≡ b) × (os ≡ ps)
     parts a b os ps k = (cc, cc)
@@ -187,7 +188,7 @@ module _ (metas : List MetaDesc) (program : Program) (sources models : List Mode
           let e = (other.reads.roots r.called b_at).given dom.root z.0 z.1 in
           y.1 ∙ ap (λ w. Some w)
           (one_value program number m terms ground.reading y.0 z.0 d.0 (a_fit.fit dom.root y.0 y.1).told (b_fit.fit dom.root z.0 z.1).told d.2
-          (e.2 ∙ ap (λ w. Some w) (some_inner e.0 d.0 (sym e.1 ∙ d.1)))) ∙ sym z.1
+          (e.2 ∙ ap (λ w. Some w) (same_Some e.0 d.0 (sym e.1 ∙ d.1)))) ∙ sym z.1
 
       same : map (λ dom. value_of (root_values r.called a.roots) dom.root) r.called.domains ≡ map (λ dom. value_of (root_values r.called b.roots) dom.root) r.called.domains
       same = map_same_in (λ dom. value_of (root_values r.called a.roots) dom.root) (λ dom. value_of (root_values r.called b.roots) dom.root) r.called.domains each

@@ -21,9 +21,10 @@ use Rattle.qvtr_semantics.specs.Templates.{Values}
 use Rattle.qvtr_semantics.specs.Bindings.{Target}
 use Rattle.qvtr_semantics.specs.Calls.{RelationCall, Asked, AllAsked, calls_of}
 use Rattle.template_match.specs.Sources.{is_target_variable}
-use Rattle.template_match.proofs.ListLaws.{contains_first, contains_later, any_at}
+use Rattle.template_match.proofs.ListLaws.{contains_later, any_at}
+use Rattle.mof_metamodel.proofs.Facts.{contains_first}
 use Rattle.source_laws.specs.SourceValues.{HasNoTarget}
-use Rattle.source_laws.proofs.BindingLaws.{among}
+use Rattle.mof_metamodel.proofs.Facts.{contains_at}
 use Rattle.source_laws.proofs.RootLaws.{typed_call, same_called}
 use Rattle.repair_semantics.specs.declared.term.Term.{Term}
 use Rattle.repair_semantics.specs.declared.term.TermValue.{TermValue}
@@ -37,7 +38,8 @@ use Rattle.repair_semantics.specs.Unmet.{is_lacking, item_places, is_conjunct_un
 use Rattle.repair_semantics.specs.Entries.{bound_roots, call_to, named_call, calls_in, IsEntry}
 use Rattle.reading_laws.specs.Readings.{Numbering, Reads, ReadsCall}
 use Rattle.reading_laws.specs.ReadCalls.{AreReadCalls}
-use Rattle.reading_laws.proofs.CallValues.{some_inner, none_some, data_long, one_at, AreFit}
+use Rattle.reading_laws.proofs.CallValues.{none_some, data_long, one_at, AreFit}
+use Rattle.std.proofs.lemmas.Option.{same_Some}
 use Rattle.reading_laws.proofs.CallReads.{clause_read, clause_reads, scope_at}
 use Rattle.reading_laws.proofs.EntryKnown.{scope_fit, binding_fit}
 use Rattle.reading_laws.proofs.EntryFacts.{EntryFacts, rule_of}
@@ -108,7 +110,7 @@ module _ (metas : List MetaDesc) (program : Program) (sources models : List Mode
   Facts e = EntryFacts metas program formed ground.over.enforceable sources m terms ground.among e
 
   abbrev range : (n : ℕ) (called : Rel) → slice_get program.rels n ≡ Some called → (dom : Dom) → Contains called.domains dom → dom.root < length called.vars
-  range n called is = (formed.numbers.relations called (among program.rels n called is)).roots
+  range n called is = (formed.numbers.relations called (contains_at program.rels n called is)).roots
 
   values_fit : (e : Entry) (f : Facts e) → IsEntry program sources e → AreFit program terms f.rel e.values
   values_fit e f is = binding_fit metas program formed ground.over.enforceable sources e.rel f.rel f.found f.is_towards f.roots e.values f.source m terms (ground.among e f.rel is f.found) f.roots_fit
@@ -232,7 +234,7 @@ read_call program number (None ∷ os) (None ∷ ps) reads to (zero, less, is) =
 read_call program number (None ∷ os) (Some p ∷ ps) reads to (zero, less, is) = absurd reads.0
 read_call program number (Some from ∷ os) (None ∷ ps) reads to (zero, less, is) = absurd reads.0
 read_call program number (Some from ∷ os) (Some p ∷ ps) reads to (zero, less, is) =
-    (from, contains_first (Some from) os, subst (ReadsCall program number from) (some_inner p to is) reads.0)
+    (from, contains_first (Some from) os, subst (ReadsCall program number from) (same_Some p to is) reads.0)
 read_call program number (o ∷ os) (p ∷ ps) reads to (suc i, less, is) =
     let more = read_call program number os ps reads.1 to (i, omega (arith, less), is) in
     (more.0, contains_later (Some more.0) o os more.1, more.2)

@@ -13,7 +13,8 @@ use Rattle.qv_syntax.specs.declared.program.Conj.{Conj}
 use Rattle.qv_syntax.specs.Relations.{CallsIn}
 use Rattle.qv_syntax.specs.WellFormed.{IsWellFormed}
 use Rattle.qvtr_semantics.specs.Outs.{all_given}
-use Rattle.template_match.proofs.ListLaws.{contains_first, contains_later}
+use Rattle.template_match.proofs.ListLaws.{contains_later}
+use Rattle.mof_metamodel.proofs.Facts.{contains_first}
 use Rattle.enforcement_rules.specs.Rules.{IsEnforceable}
 use Rattle.source_laws.specs.TargetRule.{HandsTargetOn}
 use Rattle.source_laws.proofs.RootLaws.{same_called}
@@ -27,7 +28,8 @@ use Rattle.repair_semantics.specs.Making.{entry_known, made_values}
 use Rattle.repair_semantics.specs.Unmet.{is_unmet}
 use Rattle.repair_semantics.specs.Entries.{TermSource, call_to, named_call, calls_in, entry_of, entry_values, calls_where, entry_calls, IsEntry}
 use Rattle.reading_laws.specs.Readings.{HasTermsAmong}
-use Rattle.reading_laws.proofs.CallValues.{some_inner, none_some, AreFit}
+use Rattle.reading_laws.proofs.CallValues.{none_some, AreFit}
+use Rattle.std.proofs.lemmas.Option.{same_Some}
 use Rattle.reading_laws.proofs.CallFits.{none_fit, RootsFit, rooted_at, clause_fits}
 use Rattle.reading_laws.proofs.EntryKnown.{variables_at, known_extends, known_fit, scope_fit}
 use Rattle.qv_syntax.specs.declared.program.Conj.TheVariants as conjuncts
@@ -47,7 +49,7 @@ named_rel program sources k n args from is = by (slice_get program.rels n) (all_
     by (Some called) (Some xs) h = sym (ap (λ (c : EntryName). c.rel) (some_name h))
       where
         some_name : {a : EntryName} → Some a ≡ Some from → a ≡ from
-        some_name {a} k = some_inner a from k
+        some_name {a} k = same_Some a from k
 
 pub clause_calls : (program : Program) (sources : List ModelData) (k : Known) (clause : List Conj) (from : EntryName) → Contains (calls_in program sources k clause) (Some from) → CallsIn clause from.rel
 clause_calls program sources k [] from (i, less, is) = absurd (omega (arith, less))
@@ -72,7 +74,7 @@ pub in_made : (os : List (Option EntryName)) (c : EntryName) → Contains os (So
 in_made [] c (i, less, is) = absurd (omega (arith, less))
 in_made (None ∷ os) c (zero, less, is) = absurd (none_some c is)
 in_made (None ∷ os) c (suc i, less, is) = in_made os c (i, omega (arith, less), is)
-in_made (Some d ∷ os) c (zero, less, is) = subst (λ z. Contains (d ∷ filter_map (λ o. o) os) z) (some_inner d c is) (contains_first d (filter_map (λ o. o) os))
+in_made (Some d ∷ os) c (zero, less, is) = subst (λ z. Contains (d ∷ filter_map (λ o. o) os) z) (same_Some d c is) (contains_first d (filter_map (λ o. o) os))
 in_made (Some d ∷ os) c (suc i, less, is) = contains_later c d (filter_map (λ o. o) os) (in_made os c (i, omega (arith, less), is))
 
 module _ (program : Program) (sources : List ModelData) where

@@ -46,7 +46,8 @@ use Rattle.repair_semantics.specs.TargetItems.{TargetItem, target_items, class_i
 use Rattle.repair_semantics.specs.Making.{variables, entry_scope, key_value, keyed, term_by, made_term, value_or_datum, values_within, entry_known}
 use Rattle.repair_semantics.specs.Entries.{IsUniversalTarget, TermSource}
 use Rattle.reading_laws.specs.Readings.{HasTermsAmong}
-use Rattle.reading_laws.proofs.CallValues.{some_inner, none_some, val_term, same_val, data_at, term_at, datum_from, datum_there, IsFit, AreFit}
+use Rattle.reading_laws.proofs.CallValues.{none_some, val_term, same_val, data_at, term_at, datum_from, datum_there, IsFit, AreFit}
+use Rattle.std.proofs.lemmas.Option.{same_Some}
 use Rattle.reading_laws.proofs.CallFits.{given_val}
 use Rattle.qv_syntax.specs.declared.ty.Ty.TheVariants as types
 use Rattle.repair_semantics.specs.declared.term.TermValue.TheVariants as values
@@ -72,7 +73,7 @@ made_is program sources rel items k v x is = by (class_of_variable rel v) refl i
   where
     keyed_is : (class : ℕ) (o : Option (List TermValue)) → option_map (keyed class) o ≡ Some x → (t : Term) × (x ≡ values.Term t)
     keyed_is class None h = absurd (none_some x h)
-    keyed_is class (Some xs) h = (roll-Term (record { class = record { 0 = class }; keys = xs }), sym (some_inner (keyed class xs) x h))
+    keyed_is class (Some xs) h = (roll-Term (record { class = record { 0 = class }; keys = xs }), sym (same_Some (keyed class xs) x h))
 
     key_is : (class : ℕ) (o : Option (List PropId)) → option_and_then (λ props. option_map (keyed class) (all_given (map (key_value program sources items k v) props))) o ≡ Some x
         → (t : Term) × (x ≡ values.Term t)

@@ -13,11 +13,12 @@ use Rattle.qvtr_semantics.specs.declared.datum.Datum.{Datum}
 use Rattle.qvtr_semantics.specs.Templates.{Values, value_at}
 use Rattle.qvtr_semantics.specs.Bindings.{Extends, have_values}
 use Rattle.qvtr_semantics.specs.Calls.{RelationCall, call_of}
-use Rattle.template_match.proofs.ListLaws.{contains_first, contains_later}
+use Rattle.template_match.proofs.ListLaws.{contains_later}
+use Rattle.mof_metamodel.proofs.Facts.{contains_first}
 use Rattle.enforcement_rules.specs.Calls.{IsTaken}
 use Rattle.source_laws.specs.SourceValues.{IsOfSources}
 use Rattle.source_laws.proofs.RootLaws.{alone_datum, same_called}
-use Rattle.source_laws.proofs.BindingLaws.{among}
+use Rattle.mof_metamodel.proofs.Facts.{contains_at}
 use Rattle.repair_semantics.specs.declared.term.Term.{Term}
 use Rattle.repair_semantics.specs.declared.term.TermValue.{TermValue}
 use Rattle.repair_semantics.specs.declared.entry.Entry.{Entry}
@@ -27,7 +28,8 @@ use Rattle.repair_semantics.specs.Making.{entry_known, made_values}
 use Rattle.repair_semantics.specs.Entries.{IsUniversalTarget, named_call, calls_in, entry_values, roots_in, IsMatchFor, AreMatches, IsEntry}
 use Rattle.reading_laws.specs.Readings.{Numbering, read_value, Reads, ReadsCall}
 use Rattle.reading_laws.specs.ReadCalls.{IsReadCall}
-use Rattle.reading_laws.proofs.CallValues.{some_inner, val_or_term, val_read, ReadsOne, one_at, read_some, one_value, IsFit, AreFit}
+use Rattle.reading_laws.proofs.CallValues.{val_or_term, val_read, ReadsOne, one_at, read_some, one_value, IsFit, AreFit}
+use Rattle.std.proofs.lemmas.Option.{same_Some}
 use Rattle.reading_laws.proofs.CallFits.{RootsFit}
 use Rattle.reading_laws.proofs.CallData.{root_datum}
 use Rattle.reading_laws.proofs.EntryFacts.{map_same_in, values_known, EntryFacts, facts, facts_known, roots_given}
@@ -95,7 +97,7 @@ module _ (metas : List MetaDesc) (program : Program) (sources models : List Mode
         root =
             root_datum program models c k.argument.number k.argument.args x.to k.called x.made k.argument.found k.argument.place k.dom k.e k.argument.of k.argument.argument
             (λ j z more after at has is. k.argument.last j z more after at has is)
-            ((formed.numbers.relations k.called (among program.rels k.argument.number k.called k.argument.found)).roots k.dom (among k.called.domains k.argument.place k.dom k.argument.of))
+            ((formed.numbers.relations k.called (contains_at program.rels k.argument.number k.called k.argument.found)).roots k.dom (contains_at k.called.domains k.argument.place k.dom k.argument.of))
             ∙ alone_datum program models c k.e k.alone.0 v k.alone.1 ∙ d.1
 
         y : (y : TermValue) × (value_of (entry_known program sources x.rel (x.e).values).values k.dom.root ≡ Some y) × (read_value program number y ≡ Some d.0)
@@ -109,9 +111,9 @@ module _ (metas : List MetaDesc) (program : Program) (sources models : List Mode
         by : ((a : Datum) × (y.0 ≡ values.Val a)) ⊎ ((t : Term) × (y.0 ≡ values.Term t))
             → (t : Term) × Contains terms t × ((d : Datum) → value_at c v ≡ Some d → read_value program number (values.Term t) ≡ Some d)
         by (inl (a, same)) =
-            let one : a ≡ d.0 = some_inner a d.0 (sym (val_read program number a) ∙ sym (ap (read_value program number) same) ∙ y.2) in
+            let one : a ≡ d.0 = same_Some a d.0 (sym (val_read program number a) ∙ sym (ap (read_value program number) same) ∙ y.2) in
             absurd (d.2 (subst (IsOfSources program.target) one (fit.told.data_value a same)))
-        by (inr (t, same)) = (t, fit.told.term t same, λ z at. sym (ap (read_value program number) same) ∙ y.2 ∙ ap (λ w. Some w) (some_inner d.0 z (sym d.1 ∙ at)))
+        by (inr (t, same)) = (t, fit.told.term t same, λ z at. sym (ap (read_value program number) same) ∙ y.2 ∙ ap (λ w. Some w) (same_Some d.0 z (sym d.1 ∙ at)))
 
     -- ---- the matches of a binding of terms
 
@@ -125,7 +127,7 @@ module _ (metas : List MetaDesc) (program : Program) (sources models : List Mode
           values_known program sources x.e x.rel made long dom.root less ∙ y.1 ∙ ap (λ w. Some w) (sym same) ∙ sym z.1
         where
           less : dom.root < length x.rel.vars
-          less = (formed.numbers.relations x.rel (among program.rels (x.e).rel x.rel x.found)).roots dom there
+          less = (formed.numbers.relations x.rel (contains_at program.rels (x.e).rel x.rel x.found)).roots dom there
 
           z : (z : TermValue) × (value_of (root_values x.rel from.roots) dom.root ≡ Some z)
           z = roots_given metas program formed ground.over.enforceable sources m terms ground.among x.rel from fits dom there

@@ -21,12 +21,14 @@ use Rattle.qvtr_semantics.specs.Bindings.{is_value_for, have_values, source_meet
 use Rattle.template_match.specs.Sources.{is_target_variable, source_variables, meets_without_target}
 use Rattle.template_match.proofs.ListLaws.{any_from, any_at}
 use Rattle.template_match.proofs.SideLaws.{Valued, valued}
-use Rattle.enforcement_rules.proofs.ListLaws.{and_both, all_each, all_from}
+use Rattle.enforcement_rules.proofs.ListLaws.{all_each, all_from}
+use Rattle.std.proofs.lemmas.Bool.{and_from}
 use Rattle.source_laws.specs.Agreement.{AgreeBut}
 use Rattle.source_laws.specs.SourceValues.{IsOfSources}
 use Rattle.source_laws.specs.TargetRule.{HandsTargetOn}
 use Rattle.source_laws.proofs.RuleLaws.{rule_keeps}
-use Rattle.source_laws.proofs.BindingLaws.{among, had, meets_same}
+use Rattle.source_laws.proofs.BindingLaws.{had, meets_same}
+use Rattle.mof_metamodel.proofs.Facts.{contains_at}
 use Rattle.repair_semantics.specs.declared.term.Term.{Term}
 use Rattle.repair_semantics.specs.declared.term.TermValue.{TermValue}
 use Rattle.repair_semantics.specs.Terms.{datum_in}
@@ -34,7 +36,8 @@ use Rattle.repair_semantics.specs.EntryValues.{TermValues, value_of, data_in}
 use Rattle.repair_semantics.specs.Making.{variables}
 use Rattle.repair_semantics.specs.Entries.{IsUniversalTarget, TermSource}
 use Rattle.reading_laws.specs.Readings.{Numbering, read_value}
-use Rattle.reading_laws.proofs.CallValues.{some_inner, none_some, val_term, same_val, same_term, datum_of_val, val_or_term, datum_from, datum_there, data_at, data_long, val_read, ReadsOne, some_read, IsFit, AreFit}
+use Rattle.reading_laws.proofs.CallValues.{none_some, val_term, same_val, same_term, datum_of_val, val_or_term, datum_from, datum_there, data_at, data_long, val_read, ReadsOne, some_read, IsFit, AreFit}
+use Rattle.std.proofs.lemmas.Option.{same_Some}
 use Rattle.reading_laws.proofs.EntryKnown.{variables_at, variables_within, within_long}
 use Rattle.repair_semantics.specs.declared.term.TermValue.TheVariants as values
 use Rattle.reading_laws.proofs.EntryTargets.{target_value}
@@ -89,8 +92,8 @@ module _ (metas : List MetaDesc) (program : Program) (formed : IsWellFormed meta
 
   without_target : meets_without_target program models rel c ≡ true
   without_target =
-      and_both (have_values program models rel (source_variables program rel) c && list_all (source_meets program models c) rel.domains) (list_all (conjunct_holds program models c) rel.whens)
-      (and_both (have_values program models rel (source_variables program rel) c) (list_all (source_meets program models c) rel.domains) have_sources inner.1) outer.1
+      and_from (have_values program models rel (source_variables program rel) c && list_all (source_meets program models c) rel.domains) (list_all (conjunct_holds program models c) rel.whens)
+      (and_from (have_values program models rel (source_variables program rel) c) (list_all (source_meets program models c) rel.domains) have_sources inner.1) outer.1
 
   -- ---- one variable
 
@@ -105,15 +108,15 @@ module _ (metas : List MetaDesc) (program : Program) (formed : IsWellFormed meta
 
       by : ((a : Datum) × (x ≡ values.Val a)) ⊎ ((t : Term) × (x ≡ values.Term t)) → (t : Term) × (Some x ≡ Some (values.Term t))
       by (inl (a, same)) =
-          let read : a ≡ y.0 = some_inner a y.0 (sym (val_read program number a) ∙ sym (ap (read_value program number) same) ∙ y.2) in
-          let one : a ≡ d.0 = read ∙ some_inner y.0 d.0 (sym y.1 ∙ d.1) in
+          let read : a ≡ y.0 = same_Some a y.0 (sym (val_read program number a) ∙ sym (ap (read_value program number) same) ∙ y.2) in
+          let one : a ≡ d.0 = read ∙ same_Some y.0 d.0 (sym y.1 ∙ d.1) in
           absurd (d.2 (subst (IsOfSources program.target) one ((roots_fit v x is).told.data_value a same)))
       by (inr (t, same)) = (t, ap (λ z. Some z) same)
 
   picked_root : (v : ℕ) (x : TermValue) → value_of roots v ≡ Some x → Pick v (Some x)
   picked_root v x is = record {
     reads = λ asked. roots_read v x is;
-    fit = λ y same. subst (λ z. IsFit program terms rel v z) (some_inner x y same) (roots_fit v x is);
+    fit = λ y same. subst (λ z. IsFit program terms rel v z) (same_Some x y same) (roots_fit v x is);
     from = λ y same. inl (is ∙ same);
     keeps = λ y at. sym is ∙ at;
     term = λ u. root_term v x is u;
@@ -139,12 +142,12 @@ module _ (metas : List MetaDesc) (program : Program) (formed : IsWellFormed meta
         reads = λ asked. subst (λ o. ReadsOne program number (Some (values.Term t)) o) (sym d.1) (read d.0 d.1);
         fit = λ y same. record {
           told = record {
-            data_value = λ a is_a. absurd (val_term a t (sym (some_inner (values.Term t) y same ∙ is_a)));
-            term = λ w is_w. subst (Contains terms) (same_term t w (some_inner (values.Term t) y same ∙ is_w)) there;
+            data_value = λ a is_a. absurd (val_term a t (sym (same_Some (values.Term t) y same ∙ is_a)));
+            term = λ w is_w. subst (Contains terms) (same_term t w (same_Some (values.Term t) y same ∙ is_w)) there;
           };
           target = λ w is_w. u.target;
         };
-        from = λ y same. inr (FromUniversal.target_one u.universal u.target t (sym (some_inner (values.Term t) y same)));
+        from = λ y same. inr (FromUniversal.target_one u.universal u.target t (sym (same_Some (values.Term t) y same)));
         keeps = λ y at. absurd (none_some y (sym is ∙ at));
         term = λ w. (t, refl);
       }
@@ -154,13 +157,13 @@ module _ (metas : List MetaDesc) (program : Program) (formed : IsWellFormed meta
     reads = λ asked. subst (λ o. ReadsOne program number (Some (values.Val d)) o) (sym at) (val_read program number d);
     fit = λ y same. record {
       told = record {
-        data_value = λ a is_a. subst (IsOfSources program.target) (same_val d a (some_inner (values.Val d) y same ∙ is_a))
+        data_value = λ a is_a. subst (IsOfSources program.target) (same_val d a (same_Some (values.Val d) y same ∙ is_a))
             (had program models models (λ n other. refl) rel c v d have_sources (Contains-to_filter (λ w. not (is_target_variable program rel w)) rel.universal v (ap not outside) universal) at);
-        term = λ w is_w. absurd (val_term d w (some_inner (values.Val d) y same ∙ is_w));
+        term = λ w is_w. absurd (val_term d w (same_Some (values.Val d) y same ∙ is_w));
       };
-      target = λ w is_w. absurd (val_term d w (some_inner (values.Val d) y same ∙ is_w));
+      target = λ w is_w. absurd (val_term d w (same_Some (values.Val d) y same ∙ is_w));
     };
-    from = λ y same. inr (FromUniversal.source_one universal outside d (sym (some_inner (values.Val d) y same)));
+    from = λ y same. inr (FromUniversal.source_one universal outside d (sym (same_Some (values.Val d) y same)));
     keeps = λ y there. absurd (none_some y (sym is ∙ there));
     term = λ u. absurd (true≢false (sym u.target ∙ outside));
   }
@@ -202,7 +205,7 @@ module _ (metas : List MetaDesc) (program : Program) (formed : IsWellFormed meta
   less_root v x at = subst (λ n. v < n) roots_long (within_long roots v x at)
 
   less_universal : (v : ℕ) → Contains rel.universal v → v < length rel.vars
-  less_universal v there = ((formed.numbers.relations rel (among program.rels place rel found)).vars).universal v there
+  less_universal v there = ((formed.numbers.relations rel (contains_at program.rels place rel found)).vars).universal v there
 
   pub binding_long : length binding ≡ length rel.vars
   unfolding binding

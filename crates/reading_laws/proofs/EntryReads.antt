@@ -23,7 +23,8 @@ use Rattle.enforcement_rules.specs.Calls.{HasUnmatchedCall}
 use Rattle.enforcement_rules.specs.Rules.{Breaks}
 use Rattle.source_laws.proofs.RuleLaws.{target_is}
 use Rattle.source_laws.proofs.RootLaws.{typed_call}
-use Rattle.source_laws.proofs.BindingLaws.{among, found_within}
+use Rattle.source_laws.proofs.BindingLaws.{found_within}
+use Rattle.mof_metamodel.proofs.Facts.{contains_at}
 use Rattle.repair_semantics.specs.declared.term.Term.{Term}
 use Rattle.repair_semantics.specs.declared.term.TermValue.{TermValue}
 use Rattle.repair_semantics.specs.declared.entry.Entry.{Entry}
@@ -145,7 +146,7 @@ module _ (metas : List MetaDesc) (program : Program) (sources models : List Mode
           absurd (true≢false (sym (target_root metas program formed ground.over.enforceable sources n rel top.is top.in_direction dom (record { is = there; target = target_is program.target dom.model target }))
           ∙ ap (is_target_variable program rel) is ∙ outside))
       root_universal v dom there is outside false other =
-          universal_at v (subst (λ k. k < length rel.vars) is ((formed.numbers.relations rel (among program.rels n rel top.is)).roots dom there))
+          universal_at v (subst (λ k. k < length rel.vars) is ((formed.numbers.relations rel (contains_at program.rels n rel top.is)).roots dom there))
           (IsUniversal.domain dom (record { is = there; source = λ same. true≢false (sym (eq-eqb program.target program.target refl) ∙ ap (λ p. is_model p program.target) (sym same) ∙ other) }) (OccursInTemplates.root is))
 
       others : (v : ℕ) (d : Datum) → value_at c v ≡ Some d → is_target_variable program rel v ≡ false → IsAsked program number terms rel (no_values rel) c v

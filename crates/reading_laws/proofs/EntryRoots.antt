@@ -24,7 +24,7 @@ use Rattle.enforcement_rules.specs.Rules.{Breaks, IsEnforceable}
 use Rattle.evaluation_laws.specs.Evaluable.{IsEvaluable}
 use Rattle.evaluation_laws.specs.Scopes.{HasValueOfType}
 use Rattle.evaluation_laws.proofs.CallLaws.{where_argument}
-use Rattle.evaluation_laws.proofs.ProgramLaws.{contained}
+use Rattle.mof_metamodel.proofs.Facts.{contains_at}
 use Rattle.source_laws.proofs.CallLaws.{alone_meaning}
 use Rattle.source_laws.proofs.RootLaws.{same_called, alone_given, typed_call}
 use Rattle.source_laws.proofs.RuleLaws.{target_is}
@@ -37,7 +37,8 @@ use Rattle.repair_semantics.specs.EntryValues.{TermValues, Known, value_of, data
 use Rattle.repair_semantics.specs.Making.{entry_scope, entry_known}
 use Rattle.repair_semantics.specs.Entries.{TermSource, calls_where, entry_calls, IsEntry}
 use Rattle.reading_laws.specs.Roots.{HasRootsOf}
-use Rattle.reading_laws.proofs.MeetingValues.{nothing_some, one_some, KindOf, kind_of, no_term, one_datum, datum_to}
+use Rattle.reading_laws.proofs.MeetingValues.{nothing_some, KindOf, kind_of, no_term, one_datum, datum_to}
+use Rattle.std.proofs.lemmas.Option.{same_Some}
 use Rattle.reading_laws.proofs.MeetingTypes.{target_root_is, entry_typed}
 use Rattle.reading_laws.proofs.PartnerKeys.{alone_is, is_alone, datum_given}
 use Rattle.reading_laws.proofs.CallRoots.{root_given, bound_same, none_long}
@@ -70,7 +71,7 @@ given_at metas program rel called [] (x ∷ es) given place dom e at there = abs
 given_at metas program rel called (d ∷ doms) [] given place dom e at there = absurd given
 given_at metas program rel called (d ∷ doms) (x ∷ es) given zero dom e at there =
     let first : IsForRoot metas program rel called d x = record { root = given.0.0; found = given.0.1; given = given.0.2 } in
-    subst (λ y. IsForRoot metas program rel called dom y) (one_some x e there) (subst (λ y. IsForRoot metas program rel called y x) (one_some d dom at) first)
+    subst (λ y. IsForRoot metas program rel called dom y) (same_Some x e there) (subst (λ y. IsForRoot metas program rel called y x) (same_Some d dom at) first)
 given_at metas program rel called (d ∷ doms) (x ∷ es) given (suc place) dom e at there = given_at metas program rel called doms es given.1 place dom e at there
 
 as_many : (metas : List MetaDesc) (program : Program) (rel called : Rel) (doms : List Dom) (es : List Typed) → AreGiven metas program rel called doms es → length es ≡ length doms
@@ -103,7 +104,7 @@ module _ (metas : List MetaDesc) (program : Program) (sources : List ModelData) 
       long = given_long one m.args m.xs m.given ∙ as_many metas program rel m.called m.called.domains m.args typed
 
       range : (dom : Dom) → Contains m.called.domains dom → dom.root < length m.called.vars
-      range = (over.well.numbers.relations m.called (contained program.rels c.rel m.called m.found)).roots
+      range = (over.well.numbers.relations m.called (contains_at program.rels c.rel m.called m.found)).roots
 
       abbrev handed : TermValues
       handed = root_values m.called c.roots
@@ -204,7 +205,7 @@ module _ (metas : List MetaDesc) (program : Program) (sources : List ModelData) 
           outside : is_target_variable program m.called dom.root ≡ false
           outside =
               ap (is_of_target program) is_data.found
-              ∙ ap (λ y. is_model y program.target) (((over.well.relations c.rel m.called m.found).variables.models is_data.var (contained m.called.vars dom.root is_data.var is_data.found)).data_value is_data.data_type)
+              ∙ ap (λ y. is_model y program.target) (((over.well.relations c.rel m.called m.found).variables.models is_data.var (contains_at m.called.vars dom.root is_data.var is_data.found)).data_value is_data.data_type)
 
           of_datum : (d : Datum) → value_of handed dom.root ≡ Some (values.Val d) → HasValueOfType metas (setting program sources) m.called (data_in handed) dom.root
           of_datum d at =
@@ -214,7 +215,7 @@ module _ (metas : List MetaDesc) (program : Program) (sources : List ModelData) 
                 found = is_data.found;
                 datum = d;
                 at = datum_to handed dom.root d at;
-                is = where_argument metas program sources over.kept over.well over.texts rel [] (contained program.rels place rel found) c.rel m.args m.there m.called m.found a.index a.dom a.e a.at a.argument
+                is = where_argument metas program sources over.kept over.well over.texts rel [] (contains_at program.rels place rel found) c.rel m.args m.there m.called m.found a.index a.dom a.e a.at a.argument
                     (subst (IsDataVariable m.called) (sym a.root) is_data) scope (entry_typed metas program sources over place rel found (keeps metas program sources over enforceable place rel found direction roots b source has) roots b source has a.e) is_data.var
                     (ap (slice_get m.called.vars) a.root ∙ is_data.found) d (datum_argument a.e d (variable_alone a.e) refl a.given);
               }
@@ -225,7 +226,7 @@ module _ (metas : List MetaDesc) (program : Program) (sources : List ModelData) 
 
       pub call_roots : HasRootsOf metas program sources m.called handed
       call_roots = record {
-        of_domains = λ v x at. let a = last_of v x at in (a.dom, contained m.called.domains a.index a.dom a.at, a.root);
+        of_domains = λ v x at. let a = last_of v x at in (a.dom, contains_at m.called.domains a.index a.dom a.at, a.root);
         data_values = λ v d at. by v d at (is_target_variable program m.called v) refl;
         terms = terms_target;
         given = λ not_top dom there is_data. data_typed dom there is_data;

@@ -24,7 +24,7 @@ use Rattle.template_match.specs.Sources.{is_target_variable}
 use Rattle.source_laws.specs.SourceValues.{HasNoTarget}
 use Rattle.source_laws.proofs.RuleLaws.{mapped}
 use Rattle.source_laws.proofs.RootLaws.{same_called, typed_call}
-use Rattle.source_laws.proofs.BindingLaws.{among}
+use Rattle.mof_metamodel.proofs.Facts.{contains_at}
 use Rattle.repair_semantics.specs.declared.term.Term.{Term}
 use Rattle.repair_semantics.specs.declared.term.TermValue.{TermValue}
 use Rattle.repair_semantics.specs.declared.entry.Entry.{Entry}
@@ -156,7 +156,7 @@ module _ (metas : List MetaDesc) (program : Program) (sources models : List Mode
     calls_read =
         clause_read metas program formed sources models ground.over.others number place rel given.found rule (known b) c (λ v. Contains rel.universal v) (λ v there. b_reads v (inl there))
         (scope_long (data_in b) ∙ data_long b ∙ b_source.places ∙ sym (scope_long c ∙ given.long)) scope rel.whens conjunct
-        (λ n called is. (formed.numbers.relations called (among program.rels n called is)).roots) (asked_alone place rel given.found)
+        (λ n called is. (formed.numbers.relations called (contains_at program.rels n called is)).roots) (asked_alone place rel given.found)
 
     calls_fit : (from : EntryName) → Contains (calls_in program sources (known b) rel.whens) (Some from) → (called : Rel) → slice_get program.rels from.rel ≡ Some called → RootsFit program terms called from
     calls_fit from there called at =

@@ -14,16 +14,19 @@ use Rattle.qv_syntax.specs.Relations.{IsUniversal}
 use Rattle.qv_syntax.specs.WellFormed.{IsWellFormed}
 use Rattle.qvtr_semantics.specs.Bindings.{is_model}
 use Rattle.template_match.specs.Sources.{is_of_target}
-use Rattle.template_match.proofs.ListLaws.{contains_first, contains_later}
+use Rattle.template_match.proofs.ListLaws.{contains_later}
+use Rattle.mof_metamodel.proofs.Facts.{contains_first}
 use Rattle.enforcement_rules.specs.TargetParts.{IsTargetVariable}
 use Rattle.enforcement_rules.specs.Calls.{IsVariable, IsTaken, HasUnmatchedCall}
 use Rattle.enforcement_rules.specs.Rules.{Breaks, IsEnforceable}
 use Rattle.source_laws.proofs.RuleLaws.{target_is}
 use Rattle.source_laws.proofs.RootLaws.{same_called}
-use Rattle.source_laws.proofs.BindingLaws.{among, found_within}
+use Rattle.source_laws.proofs.BindingLaws.{found_within}
+use Rattle.mof_metamodel.proofs.Facts.{contains_at}
 use Rattle.repair_semantics.specs.EntryValues.{variable_alone}
 use Rattle.repair_semantics.specs.Entries.{IsUniversalTarget}
-use Rattle.reading_laws.proofs.CallValues.{some_inner, none_some}
+use Rattle.reading_laws.proofs.CallValues.{none_some}
+use Rattle.std.proofs.lemmas.Option.{same_Some}
 use Rattle.reading_laws.proofs.CallFits.{alone_is, alone_there}
 
 -- ---- what can be decided
@@ -34,7 +37,7 @@ alone_or_not e v = by (variable_alone e) refl
     number_by : (w : ℕ) → variable_alone e ≡ Some w → (b : Bool) → (w == v) ≡ b → IsVariable e v ⊎ ¬ IsVariable e v
     number_by w is true same = inl (e.ty, alone_is e v (is ∙ ap (λ n. Some n) (eqb-true w v same)))
     number_by w is false other =
-        inr (λ alone. true≢false (sym (eq-eqb w v (some_inner w v (sym is ∙ alone_there e alone.0 v alone.1))) ∙ other))
+        inr (λ alone. true≢false (sym (eq-eqb w v (same_Some w v (sym is ∙ alone_there e alone.0 v alone.1))) ∙ other))
 
     by : (o : Option ℕ) → variable_alone e ≡ o → IsVariable e v ⊎ ¬ IsVariable e v
     by None is = inr (λ alone. none_some v (sym is ∙ alone_there e alone.0 v alone.1))
@@ -47,7 +50,7 @@ target_or_not program rel v = by (slice_get rel.vars v) refl
     model_by var found true is = inl (record { var = var; found = found; target = target_is program.target var.model is })
     model_by var found false other =
         inr (λ t. true≢false (sym (eq-eqb program.target program.target refl) ∙ ap (λ m. is_model m program.target) (sym t.target)
-        ∙ ap (λ (x : Var). is_model x.model program.target) (some_inner t.var var (sym t.found ∙ found)) ∙ other))
+        ∙ ap (λ (x : Var). is_model x.model program.target) (same_Some t.var var (sym t.found ∙ found)) ∙ other))
 
     by : (o : Option Var) → slice_get rel.vars v ≡ o → IsTargetVariable program rel v ⊎ ¬ IsTargetVariable program rel v
     by None none = inr (λ t. none_some t.var (sym none ∙ t.found))
@@ -69,7 +72,7 @@ again_or_not (d ∷ doms) (a ∷ args) r = by (d.root == r) refl (again_or_not d
   where
     at_head : (k : ℕ) (x : Dom) (e : Typed) → slice_get (d ∷ doms) k ≡ Some x → slice_get (a ∷ args) k ≡ Some e → x.root ≡ r → (d.root == r) ≡ false → ¬ RootAgain doms args r → ⊥
     at_head zero x e of arg root other none =
-        true≢false (sym (eq-eqb d.root r (ap (λ (z : Dom). z.root) (some_inner d x of) ∙ root)) ∙ other)
+        true≢false (sym (eq-eqb d.root r (ap (λ (z : Dom). z.root) (same_Some d x of) ∙ root)) ∙ other)
     at_head (suc k) x e of arg root other none = none (record { place = k; dom = x; e = e; of = of; argument = arg; root = root })
 
     by : (b : Bool) → (d.root == r) ≡ b → RootAgain doms args r ⊎ ¬ RootAgain doms args r → RootAgain (d ∷ doms) (a ∷ args) r ⊎ ¬ RootAgain (d ∷ doms) (a ∷ args) r
@@ -109,8 +112,8 @@ module _ (program : Program) (called : Rel) (v : ℕ) where
           → slice_get (a ∷ args) k ≡ Some e → IsVariable e v → (TakenAt doms args → ⊥)
           → (IsTargetVariable program called d.root → IsVariable a v → (RootAgain doms args d.root → ⊥) → ⊥) → ⊥
       behind zero x e of target last argument alone none head =
-          let same : d ≡ x = some_inner d x of in
-          head (subst (λ (z : Dom). IsTargetVariable program called z.root) (sym same) target) (subst (λ z. IsVariable z v) (sym (some_inner a e argument)) alone)
+          let same : d ≡ x = same_Some d x of in
+          head (subst (λ (z : Dom). IsTargetVariable program called z.root) (sym same) target) (subst (λ z. IsVariable z v) (sym (same_Some a e argument)) alone)
           (λ again. last (suc again.place) again.dom again.e (omega arith) again.of again.argument (again.root ∙ ap (λ (z : Dom). z.root) same))
       behind (suc k) x e of target last argument alone none head =
           none (record {
@@ -226,7 +229,7 @@ module _ (metas : List MetaDesc) (program : Program) (formed : IsWellFormed meta
     (found : slice_get program.rels place ≡ Some rel) (towards : rel.in_direction ≡ true) (v : ℕ) (u : IsUniversalTarget program rel v) where
   universal : IsUniversal program rel v
   universal =
-      let less : v < length rel.vars = ((formed.numbers.relations rel (among program.rels place rel found)).vars).universal v u.universal in
+      let less : v < length rel.vars = ((formed.numbers.relations rel (contains_at program.rels place rel found)).vars).universal v u.universal in
       let var = found_within rel.vars v less in
       ((formed.relations place rel found).variables.universal v var.0 var.1).0 u.universal
 

@@ -21,7 +21,7 @@ use Rattle.template_match.specs.Sources.{is_of_target, is_target_variable}
 use Rattle.template_match.proofs.SideLaws.{Valued, valued}
 use Rattle.source_laws.specs.SourceValues.{IsOfSources}
 use Rattle.source_laws.proofs.RuleLaws.{target_is}
-use Rattle.source_laws.proofs.BindingLaws.{among}
+use Rattle.mof_metamodel.proofs.Facts.{contains_at}
 use Rattle.repair_semantics.specs.TargetItems.{class_in}
 use Rattle.repair_semantics.specs.Making.{variables}
 use Rattle.reading_laws.proofs.CallValues.{none_some}
@@ -49,7 +49,7 @@ module _ (metas : List MetaDesc) (program : Program) (formed : IsWellFormed meta
 
       by : (o : Option ℕ) → class_in var.ty ≡ o → (m : ℕ) × (class : ClassId) × (var.ty ≡ types.Class m class)
       by None none =
-          absurd (no_model var.model target (((formed.relations place rel found).variables.models var (among rel.vars v var at)).data_value
+          absurd (no_model var.model target (((formed.relations place rel found).variables.models var (contains_at rel.vars v var at)).data_value
           (λ m class is. none_some class.0 (sym none ∙ ap class_in is))))
       by (Some c) is = class_from var.ty c is
 

@@ -16,9 +16,10 @@ use Rattle.qv_syntax.specs.ProgramTypes.{AreGiven, IsCallTyped}
 use Rattle.qv_syntax.specs.WellFormed.{IsWellFormed}
 use Rattle.qvtr_semantics.specs.declared.limits.TheConstants.{MAX_CALLS}
 use Rattle.qvtr_semantics.specs.Outs.{all_given}
-use Rattle.template_match.proofs.ListLaws.{contains_first, contains_later}
+use Rattle.template_match.proofs.ListLaws.{contains_later}
+use Rattle.mof_metamodel.proofs.Facts.{contains_first}
 use Rattle.source_laws.proofs.RootLaws.{typed_call, same_called}
-use Rattle.source_laws.proofs.BindingLaws.{among}
+use Rattle.mof_metamodel.proofs.Facts.{contains_at}
 use Rattle.repair_semantics.specs.declared.term.TermValue.{TermValue}
 use Rattle.repair_semantics.specs.declared.entry.Entry.{Entry}
 use Rattle.repair_semantics.specs.declared.entry.EntryName.{EntryName}
@@ -27,7 +28,8 @@ use Rattle.repair_semantics.specs.Making.{entry_known}
 use Rattle.repair_semantics.specs.Unmet.{is_unmet}
 use Rattle.repair_semantics.specs.Entries.{bound_roots, call_to, named_call, calls_in, entry_values, roots_in, HasRoots, entry_calls, IsEntry}
 use Rattle.repair_semantics.specs.EntryChains.{BeginsEntries, CallsNext, GoesOnEntries, EntryChain, CyclicEntries, DeepEntries, IsCalledInTime, IsUnmet}
-use Rattle.reading_laws.proofs.CallValues.{some_inner, none_some}
+use Rattle.reading_laws.proofs.CallValues.{none_some}
+use Rattle.std.proofs.lemmas.Option.{same_Some}
 use Rattle.reading_laws.proofs.CallRoots.{bound_same, bound_back}
 use Rattle.reading_laws.proofs.CallFits.{map_same, rooted_at}
 use Rattle.reading_laws.proofs.EntryKnown.{variables_at, within_long}
@@ -133,14 +135,14 @@ module _ (metas : List MetaDesc) (program : Program) (formed : IsWellFormed meta
   given_long rel called (dom ∷ doms) (e ∷ es) given = ap suc (given_long rel called doms es given.1)
 
   all_long : (f : Typed → Option TermValue) (args : List Typed) (xs : List TermValue) → all_given (map f args) ≡ Some xs → length xs ≡ length args
-  all_long f [] xs all = ap length (sym (some_inner [] xs all))
+  all_long f [] xs all = ap length (sym (same_Some [] xs all))
   all_long f (e ∷ es) xs all = by (f e) (all_given (map f es)) refl all (λ ys others. all_long f es ys others)
     where
       by : (o : Option TermValue) (p : Option (List TermValue)) → all_given (map f es) ≡ p → all_given (o ∷ map f es) ≡ Some xs
           → ((ys : List TermValue) → all_given (map f es) ≡ Some ys → length ys ≡ length es) → length xs ≡ suc (length es)
       by None p others h rest = absurd (none_some xs h)
       by (Some x) None others h rest = absurd (none_some xs (sym (ap (option_map (λ ys. x ∷ ys)) others) ∙ h))
-      by (Some x) (Some ys) others h rest = ap length (sym (some_inner (x ∷ ys) xs (sym (ap (option_map (λ zs. x ∷ zs)) others) ∙ h))) ∙ ap suc (rest ys others)
+      by (Some x) (Some ys) others h rest = ap length (sym (same_Some (x ∷ ys) xs (sym (ap (option_map (λ zs. x ∷ zs)) others) ∙ h))) ∙ ap suc (rest ys others)
 
   pub record CallRooted (from : EntryName) : Type 0 where
     pub called : Rel
@@ -157,8 +159,8 @@ module _ (metas : List MetaDesc) (program : Program) (formed : IsWellFormed meta
         by (Some xs) all h =
             let made : EntryName = record { rel = n; roots = bound_roots typed.called xs } in
             let long : length xs ≡ length typed.called.domains = all_long (given_value program sources k) args xs all ∙ given_long rel typed.called typed.called.domains args typed.given in
-            let range = (formed.numbers.relations typed.called (among program.rels n typed.called typed.found)).roots in
-            subst CallRooted (some_inner made from h) (record {
+            let range = (formed.numbers.relations typed.called (contains_at program.rels n typed.called typed.found)).roots in
+            subst CallRooted (same_Some made from h) (record {
               called = typed.called;
               at = typed.found;
               rooted = map_same (λ dom. value_of (root_values typed.called (bound_roots typed.called xs)) dom.root) (λ dom. value_of (root_values typed.called xs) dom.root) typed.called.domains

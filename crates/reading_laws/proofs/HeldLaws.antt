@@ -17,16 +17,7 @@ use Rattle.ocl_eval.specs.OrderLaws.{same_decides}
 use Rattle.repair_semantics.specs.TargetItems.{target_meta_number}
 use Rattle.repair_semantics.specs.Claims.{Held, is_one, same_held}
 use Rattle.repair_semantics.specs.Images.{same_number, held_in}
-
--- ---- Booleans
-
-pub first_holds : (a b : Bool) → (a && b) ≡ true → a ≡ true
-first_holds true b e = refl
-first_holds false b e = e
-
-pub second_holds : (a b : Bool) → (a && b) ≡ true → b ≡ true
-second_holds true b e = e
-second_holds false b e = absurd (true≢false (sym e))
+use Rattle.mof_metamodel.proofs.Facts.{first_true, second_true}
 
 alone_holds : (a : Bool) → (a || false) ≡ true → a ≡ true
 alone_holds true e = refl

@@ -2,7 +2,7 @@
 use Rattle.std.specs.Prelude.{◌≡◌, ◌⊎◌, ℕ, zero, suc, Bool, true, ◌&&◌, List, [], ◌∷◌, map, Option, None, Some, Contains}
 use Rattle.std.specs.List.{flat_map, list_all}
 use Rattle.std.proofs.Common.{refl, sym, ap, subst, ◌∙◌, arith, inl, inr}
-use Rattle.std.proofs.lemmas.Bool.{and_parts, true≢false}
+use Rattle.std.proofs.lemmas.Bool.{and_parts, true≢false, and_from}
 use Rattle.std.proofs.lemmas.List.Elements.{Contains-append_cases}
 use Rattle.mof_metamodel.specs.declared.desc.PropId.{PropId}
 use Rattle.object_tables.specs.Models.{ModelData}
@@ -21,20 +21,14 @@ use Rattle.qvtr_semantics.specs.Templates.{Values, SlotMeaning, ItemMeaning, Pat
 use Rattle.qvtr_semantics.proofs.TemplateLaws.{slot_of, item_of as meaning_of}
 use Rattle.repair_semantics.specs.TargetItems.{Content, TargetItem, ContentPart, TemplatePart, ItemPart, content_part, item_part, template_part, parts}
 use Rattle.repair_semantics.proofs.ItemLaws.{content_of, item_of}
-use Rattle.template_match.proofs.ListLaws.{contains_first, contains_later, contains_left, contains_right}
+use Rattle.template_match.proofs.ListLaws.{contains_later, contains_left, contains_right}
+use Rattle.mof_metamodel.proofs.Facts.{contains_first}
 use Rattle.reading_laws.specs.Matching.{slot_holds, content_holds, item_holds, HasObject, HoldsThroughout}
-
--- ---- lists and Booleans
-
-pub both_true : (x y : Bool) → x ≡ true → y ≡ true → (x && y) ≡ true
-both_true x y h k = ap (λ a. a && y) h ∙ k
-
-nothing_in : {X : Type 0} (x : X) → Contains [] x → ⊥
-nothing_in x (k, below, is) = omega (arith, below)
+use Rattle.mof_metamodel.proofs.Facts.{nothing_in}
 
 pub all_from : {X : Type 0} (p : X → Bool) (xs : List X) → ((x : X) → Contains xs x → p x ≡ true) → list_all p xs ≡ true
 all_from p [] h = refl
-all_from p (x ∷ xs) h = both_true (p x) (list_all p xs) (h x (contains_first x xs)) (all_from p xs (λ y c. h y (contains_later y x xs c)))
+all_from p (x ∷ xs) h = and_from (p x) (list_all p xs) (h x (contains_first x xs)) (all_from p xs (λ y c. h y (contains_later y x xs c)))
 
 one_template : (s t : Tmpl) → items.Nested s ≡ items.Nested t → s ≡ t
 one_template s t h = by (sym (out-roll-ItemValue (layers.Nested s)) ∙ ap out-ItemValue (items.rolls-Nested s ∙ h ∙ sym (items.rolls-Nested t)) ∙ out-roll-ItemValue (layers.Nested t))
@@ -128,7 +122,7 @@ module _ (program : Program) (models : List ModelData) (g : Values) where
             };
         back = λ held fits.
             ap (λ (m : SlotMeaning). m g held) (slot_rolls (layers.Nested t))
-            ∙ both_true (has held (value_at g (pattern program models t).var)) (meets program models t g)
+            ∙ and_from (has held (value_at g (pattern program models t).var)) (meets program models t g)
             (ap (has held) (sym variable) ∙ sym (ap (λ (p : ContentPart). slot_holds program models g held p.content) part) ∙ fits.own)
             (z.1.back (record {
               objects = λ inner nested. fits.objects t inner (items.rolls-Nested t) nested;
@@ -216,7 +210,7 @@ module _ (program : Program) (models : List ModelData) (g : Values) where
 
   hold_each : (is : List I) (d : Datum) → ((item : Item) → Contains (items_in is) item → meaning_of program models item g d ≡ true) → all_hold is d ≡ true
   hold_each [] d h = refl
-  hold_each (x ∷ is) d h = both_true (meaning_of program models x.0 g d) (all_hold is d) (h x.0 (contains_first x.0 (items_in is))) (hold_each is d (λ item c. h item (contains_later item x.0 (items_in is) c)))
+  hold_each (x ∷ is) d h = and_from (meaning_of program models x.0 g d) (all_hold is d) (h x.0 (contains_first x.0 (items_in is))) (hold_each is d (λ item c. h item (contains_later item x.0 (items_in is) c)))
 
   record ObjectFits (u class : ℕ) (is : List I) : Type 0 where
     datum : Datum
@@ -235,7 +229,7 @@ module _ (program : Program) (models : List ModelData) (g : Values) where
       → object_matches (setting program models) class (map (meaning_of program models) (items_in is)) g (value_at g u) ≡ true
   object_back u class is fits =
       ap (object_matches (setting program models) class (map (meaning_of program models) (items_in is)) g) fits.at
-      ∙ both_true (is_of_class (setting program models) class fits.datum) (all_hold is fits.datum) fits.of_class
+      ∙ and_from (is_of_class (setting program models) class fits.datum) (all_hold is fits.datum) fits.of_class
       (hold_each is fits.datum (λ item c. (told_at is item c).back u fits.datum fits.at (fits.all item c)))
 
   -- a template within is the whole, or stands within one of the items

@@ -36,7 +36,8 @@ use Rattle.repair_semantics.specs.TargetItems.{target_items, class_of_variable, 
 use Rattle.repair_semantics.specs.Making.{variables, equation_of, entry_scope, value_or_datum, entry_known}
 use Rattle.repair_semantics.specs.Entries.{TermSource}
 use Rattle.reading_laws.specs.Roots.{HasRootsOf}
-use Rattle.reading_laws.proofs.MeetingValues.{nothing_some, one_some, no_term, one_datum, data_at, datum_to, within_terms}
+use Rattle.reading_laws.proofs.MeetingValues.{nothing_some, no_term, one_datum, data_at, datum_to, within_terms}
+use Rattle.std.proofs.lemmas.Option.{same_Some}
 use Rattle.reading_laws.proofs.MeetingEntries.{term_is_target, datum_is_source}
 use Rattle.reading_laws.proofs.MeetingTypes.{equation_found, length_variables, length_map, target_root_is, have, datum_universal}
 use Rattle.reading_laws.proofs.MeetingKnown.{at_variable, value_stays, length_round, made_later}
@@ -101,7 +102,7 @@ module _ (metas : List MetaDesc) (program : Program) (sources : List ModelData) 
           let m = made_later program sources rel (target_items program rel) scope begin (length rel.vars) v x below is at in
           IsKnownBy.made (none_before v below is) m.t m.is m.class m.class_is
       by below (Some y) is =
-          let same : y ≡ x = one_some y x (sym (value_stays program sources rel (target_items program rel) scope begin (length rel.vars) v y below is) ∙ at) in
+          let same : y ≡ x = same_Some y x (sym (value_stays program sources rel (target_items program rel) scope begin (length rel.vars) v y below is) ∙ at) in
           begin_by v x below (is ∙ ap (λ z. Some z) same)
 
   -- ---- variables for objects of the target have terms, and others data

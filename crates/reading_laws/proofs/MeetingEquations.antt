@@ -16,7 +16,7 @@ use Rattle.qv_syntax.specs.Directions.{IsMeant}
 use Rattle.qvtr_semantics.specs.declared.out.Out.TheVariants as outs
 use Rattle.qvtr_semantics.specs.Expressions.{Scope, value, variable, scope_of}
 use Rattle.evaluation_laws.specs.Evaluable.{IsEvaluable}
-use Rattle.evaluation_laws.proofs.ProgramLaws.{contained}
+use Rattle.mof_metamodel.proofs.Facts.{contains_at}
 use Rattle.enforcement_rules.specs.KnownVariables.{IsKnown}
 use Rattle.enforcement_rules.specs.Rules.{Breaks, IsEnforceable}
 use Rattle.repair_semantics.specs.EntryValues.{TermValues, data_in}
@@ -30,7 +30,8 @@ use Rattle.source_laws.specs.TargetRule.{IsExpressionOf, HandsTargetOn}
 use Rattle.source_laws.proofs.QueryLaws.{scope_alike}
 use Rattle.source_laws.proofs.RuleLaws.{rule_keeps}
 use Rattle.reading_laws.specs.Roots.{HasRootsOf}
-use Rattle.reading_laws.proofs.MeetingValues.{nothing_some, one_some}
+use Rattle.reading_laws.proofs.MeetingValues.{nothing_some}
+use Rattle.std.proofs.lemmas.Option.{same_Some}
 use Rattle.reading_laws.proofs.MeetingTypes.{at_scope, below_vars, equation_found, scope_apart, length_within}
 use Rattle.reading_laws.proofs.MeetingRounds.{IsPath, next_cycle, enough}
 
@@ -127,7 +128,7 @@ module _ (metas : List MetaDesc) (program : Program) (sources : List ModelData) 
       let (r, edge, rest) = next_cycle IsNext q path in
       let (i, placed) = place_of rel.wheres (conjuncts.Equation v x) there in
       let (same, one) = one_equation v edge.v e edge.e (sym at ∙ edge.at) in
-      let other : x ≡ e = one_some x e (sym (equation_is i v x placed) ∙ equation_is q v e at) in
+      let other : x ≡ e = same_Some x e (sym (equation_is i v x placed) ∙ equation_is q v e at) in
       let names : Names x edge.w = subst (λ y. Names y edge.w) (sym (other ∙ one)) edge.names in
       no_cycle edge.w (all edge.w (record { own = own_variable r edge.w edge.f edge.next; names = names })) r edge.f edge.next rest
 
@@ -174,7 +175,7 @@ module _ (metas : List MetaDesc) (program : Program) (sources : List ModelData) 
       next_round n v (own_variable q v e at)
       ∙ ap (by_equation program sources (round n) (variable before v)) (equation_is q v e at)
       ∙ (scope_alike program sources sources e (round n) (round (suc n)) (λ m other. refl)
-      (rule.speaks e (IsExpressionOf.conjunct (conjuncts.Equation v e) (inr (contained rel.wheres q (conjuncts.Equation v e) at)) refl))
+      (rule.speaks e (IsExpressionOf.conjunct (conjuncts.Equation v e) (inr (contains_at rel.wheres q (conjuncts.Equation v e) at)) refl))
       (long n ∙ sym (long (suc n))) (λ w names. (same_named n q v e at all w names, fine n w))).0
 
   -- each equation of the where clause holds

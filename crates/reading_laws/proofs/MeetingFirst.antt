@@ -16,9 +16,14 @@ use Rattle.enforcement_rules.specs.TargetParts.{Stands}
 use Rattle.repair_semantics.specs.TargetItems.{Content, TargetItem, ContentPart, TemplatePart, ItemPart, content_part, item_part, template_part, parts}
 use Rattle.repair_semantics.specs.Making.{is_item_at}
 use Rattle.repair_semantics.proofs.ItemLaws.{content_of, item_of, item_is, template_is, of_nothing, of_expression, of_template}
-use Rattle.template_match.proofs.ListLaws.{contains_first, contains_later, contains_map, find_none}
-use Rattle.reading_laws.proofs.MeetingValues.{nothing_some, one_some, both_hold}
+use Rattle.template_match.proofs.ListLaws.{contains_later, find_none}
+use Rattle.mof_metamodel.proofs.Facts.{contains_map}
+use Rattle.mof_metamodel.proofs.Facts.{contains_first}
+use Rattle.reading_laws.proofs.MeetingValues.{nothing_some}
+use Rattle.std.proofs.lemmas.Option.{same_Some}
+use Rattle.std.proofs.lemmas.Bool.{and_from}
 use Rattle.reading_laws.proofs.MeetingPlaces.{IsContentOf, var_of_parts}
+use Rattle.mof_metamodel.proofs.Facts.{contains_at}
 
 -- ---- contents
 
@@ -152,7 +157,7 @@ item_layer y owner v p i h =
         inl (record {
           owned = eqb-true owner v both.0;
           prop = eqb-true y.prop.0 p both.1;
-          content = subst (λ (x : TargetItem). IsContentOf y.value.0 x.content) (one_some (record { owner = owner; prop = y.prop; content = (content_of y.value.0).content }) i found) (content_is y.value.0);
+          content = subst (λ (x : TargetItem). IsContentOf y.value.0 x.content) (same_Some (record { owner = owner; prop = y.prop; content = (content_of y.value.0).content }) i found) (content_is y.value.0);
         })
     by false is found = inr (y.value.1 v p i found)
 
@@ -192,7 +197,7 @@ found_in u v p (x ∷ is) i h =
         record { place = suc r.place; x = r.x; at = r.at; found = r.found; before = λ earlier other less at. passed r earlier other less at }
       where
         passed : (r : FoundIn u v p is i) (earlier : ℕ) (other : Item) → earlier < suc r.place → slice_get (items_of (x ∷ is)) earlier ≡ Some other → find (is_item_at v p) (item_of other u) ≡ None
-        passed r zero other less at = ap (λ (y : Item). find (is_item_at v p) (item_of y u)) (sym (one_some x.0 other at)) ∙ none
+        passed r zero other less at = ap (λ (y : Item). find (is_item_at v p) (item_of y u)) (sym (same_Some x.0 other at)) ∙ none
         passed r (suc n) other less at = r.before n other (omega (arith, less)) at
 
 -- an item in whose list none is found is not at the property
@@ -201,12 +206,7 @@ unfolding entry_of
 not_at item owner v p none owned prop =
     let there : Contains (item_of item owner) (entry_of owner item) =
     subst (λ xs. Contains xs (entry_of owner item)) (sym (items_are owner item)) (contains_first (entry_of owner item) (content_of item.value).within) in
-    true≢false (sym (both_hold (owner == v) (item.prop.0 == p) (eq-eqb owner v owned) (eq-eqb item.prop.0 p prop)) ∙ find_none (is_item_at v p) (item_of item owner) (entry_of owner item) none there)
-
-contains_at : {X : Type 0} (xs : List X) (i : ℕ) (x : X) → slice_get xs i ≡ Some x → Contains xs x
-contains_at [] i x h = absurd (nothing_some x h)
-contains_at (y ∷ ys) zero x h = (0, omega arith, one_some y x h)
-contains_at (y ∷ ys) (suc i) x h = contains_later x y ys (contains_at ys i x h)
+    true≢false (sym (and_from (owner == v) (item.prop.0 == p) (eq-eqb owner v owned) (eq-eqb item.prop.0 p prop)) ∙ find_none (is_item_at v p) (item_of item owner) (entry_of owner item) none there)
 
 tmpl_layer : (y : layers.Tmpl-F V I T) → TmplHolds (roll-Tmpl (map-Tmpl V I T ItemValue Item Tmpl (λ x. x.0) (λ x. x.0) (λ x. x.0) y))
 unfolding TmplHolds ItemHolds

@@ -43,7 +43,8 @@ use Rattle.source_laws.proofs.RuleLaws.{model_domain}
 use Rattle.reading_laws.specs.Matching.{slot_holds, content_holds, item_holds, HasObject}
 use Rattle.reading_laws.specs.Readings.{Numbering, Stands, AllStand, read_value}
 use Rattle.reading_laws.proofs.ItemLaws.{matched_throughout}
-use Rattle.reading_laws.proofs.MeetingValues.{nothing_some, one_some, some_given, term_to, datum_read, read_term}
+use Rattle.reading_laws.proofs.MeetingValues.{nothing_some, some_given, term_to, datum_read, read_term}
+use Rattle.std.proofs.lemmas.Option.{same_Some}
 use Rattle.reading_laws.proofs.MeetingObjects.{class_fits}
 use Rattle.reading_laws.proofs.MeetingUnmet.{item_met, demanded}
 use Rattle.reading_laws.proofs.MeetingTypes.{below_vars}
@@ -54,7 +55,7 @@ use Rattle.reading_laws.proofs.MeetingSlots.{held_stands, held_read}
 -- ---- a variable alone
 
 alone_layer : (d : nodes.Node-F Call Node Typed TypedInfix TypedPostfix) (v : ℕ) → variable_at d ≡ Some v → d ≡ nodes.Variable v
-alone_layer (nodes.Variable n) v h = ap nodes.Variable (one_some n v h)
+alone_layer (nodes.Variable n) v h = ap nodes.Variable (same_Some n v h)
 alone_layer d v h = absurd (nothing_some v h)
 
 pub alone_is : (e : Typed) (v : ℕ) → variable_alone e ≡ Some v → e ≡ record { ty = e.ty; node = variants.Variable v }
@@ -105,7 +106,7 @@ module _ (metas : List MetaDesc) (program : Program) (sources models : List Mode
       from_datum (Some d) has same none = (
         d,
         ap datum_of (sym (expression_agrees metas program sources models m terms number rel roots b c g p e is (sources_named e may none))) ∙ has,
-        ap (read_value program number) (sym (one_some (values.Val d) x same)) ∙ datum_read program number d,
+        ap (read_value program number) (sym (same_Some (values.Val d) x same)) ∙ datum_read program number d,
       )
 
       by : (o : Option ℕ) → variable_alone e ≡ o → given_by program sources k e o ≡ Some x → (d : Datum) × (datum_of (value_for program models e g) ≡ Some d) × (read_value program number x ≡ Some d)
@@ -145,7 +146,7 @@ module _ (metas : List MetaDesc) (program : Program) (sources models : List Mode
   declared_in : (dom : Dom) → IsTargetDomain program rel dom → (t : Tmpl) → IsTemplateOf dom t → (model meta : ℕ) × IsDeclared rel model meta t × (model ≡ program.target)
   declared_in dom of t within =
       let d : IsModelDomain program rel dom = model_domain metas program p.over.evaluable.well p.place rel p.found dom t of.is within in
-      (d.model, d.slot.meta, meant.domains.declared dom d t within, one_some d.model program.target (sym d.of_model ∙ of.target))
+      (d.model, d.slot.meta, meant.domains.declared dom d t within, same_Some d.model program.target (sym d.of_model ∙ of.target))
 
   has_term : (dom : Dom) → IsTargetDomain program rel dom → (t : Tmpl) → IsTemplateOf dom t → HasTerm t
   has_term dom of t within =
@@ -194,7 +195,7 @@ module _ (metas : List MetaDesc) (program : Program) (sources models : List Mode
         let asked : Demand = record { entry = entry; owner = o.term; prop = i.prop; value = x } in
         let stands : Stands program m number asked = all asked (demanded program sources rel k p.met entry i asked there
         (ap (λ a. demand_by entry i a (content_value program sources k i.content)) (term_to k.values i.owner o.term known) ∙ ap (demand_by entry i (Some o.term)) content)) in
-        let same : stands.owner ≡ o.n = one_some stands.owner o.n (sym stands.owner_is ∙ o.number_is) in
+        let same : stands.owner ≡ o.n = same_Some stands.owner o.n (sym stands.owner_is ∙ o.number_is) in
         let (class, class_is) = class_there o.term stands.owner o.among stands.owner_is in (
           stands.owner,
           ap (value_at g) (sym owner) ∙ o.at ∙ ap (λ n. Some (object_datum program.target n)) (sym same),

@@ -24,7 +24,7 @@ use Rattle.ocl_environments.specs.Environments.{meta_at, no_meta}
 use Rattle.qvtr_semantics.specs.Objects.{meta_number}
 use Rattle.template_match.specs.Sources.{is_of_target, is_target_variable}
 use Rattle.template_match.proofs.ListLaws.{find_some, find_none}
-use Rattle.evaluation_laws.proofs.ProgramLaws.{contained}
+use Rattle.mof_metamodel.proofs.Facts.{contains_at}
 use Rattle.enforcement_rules.specs.KnownVariables.{IsKnown}
 use Rattle.enforcement_rules.specs.TargetParts.{no_slot, target_meta, target_desc}
 use Rattle.enforcement_rules.specs.Keys.{IsKeyOf, DependsOn, DependsThrough}
@@ -32,7 +32,9 @@ use Rattle.repair_semantics.specs.TargetItems.{class_in, class_of_variable, targ
 use Rattle.source_laws.proofs.BindingLaws.{found_within}
 use Rattle.source_laws.proofs.RuleLaws.{model_domain}
 use Rattle.reading_laws.specs.Readings.{AreOver}
-use Rattle.reading_laws.proofs.MeetingValues.{nothing_some, one_some, one_of, both_hold}
+use Rattle.reading_laws.proofs.MeetingValues.{nothing_some, one_of}
+use Rattle.std.proofs.lemmas.Option.{same_Some}
+use Rattle.std.proofs.lemmas.Bool.{and_from}
 use Rattle.reading_laws.proofs.MeetingTypes.{below_vars}
 use Rattle.reading_laws.proofs.MeetingRounds.{IsPath}
 
@@ -40,7 +42,7 @@ use Rattle.reading_laws.proofs.MeetingRounds.{IsPath}
 
 get_at : {X : Type 0} (xs : List X) (i : ℕ) (x d : X) → slice_get xs i ≡ Some x → slice_index_or xs i d ≡ x
 get_at [] i x d h = absurd (nothing_some x h)
-get_at (y ∷ ys) zero x d h = one_some y x h
+get_at (y ∷ ys) zero x d h = same_Some y x h
 get_at (y ∷ ys) (suc i) x d h = get_at ys i x d h
 
 slot_number : (slots : List ModelSlot) (n : ℕ) → (slice_index_or slots n no_slot).meta ≡ meta_number (slice_get slots n)
@@ -82,7 +84,7 @@ module _ (metas : List MetaDesc) (program : Program) (sources models : List Mode
   key_is class key is = ap (option_map (λ (x : Key). x.props)) (by (find (is_key_of program class.0) program.keys) refl)
     where
       by : (o : Option Key) → find (is_key_of program class.0) program.keys ≡ o → find (is_key_of program class.0) program.keys ≡ Some key
-      by None none = absurd (true≢false (sym (both_hold (key.meta == target_meta_number program) (key.class.0 == class.0)
+      by None none = absurd (true≢false (sym (and_from (key.meta == target_meta_number program) (key.class.0 == class.0)
           (eq-eqb key.meta (target_meta_number program) (is.meta ∙ number_is)) (eq-eqb key.class.0 class.0 (ap (λ (c : ClassId). c.0) is.of)))
           ∙ find_none (is_key_of program class.0) program.keys key none is.among))
       by (Some other) at =
@@ -113,7 +115,7 @@ module _ (metas : List MetaDesc) (program : Program) (sources models : List Mode
     pub below : (dom : Dom) → IsTargetDomain program rel dom → (t : Tmpl) → IsTemplateOf dom t → (out-Tmpl t).var < length rel.vars
     below dom of t within =
         let d = model_domain metas program over.evaluable.well place rel found dom t of.is within in
-        ((over.evaluable.well.numbers.relations rel (contained program.rels place rel found)).templates dom d t within).var
+        ((over.evaluable.well.numbers.relations rel (contains_at program.rels place rel found)).templates dom d t within).var
 
     pub declared_class : (dom : Dom) → IsTargetDomain program rel dom → (t : Tmpl) → IsTemplateOf dom t → class_of_variable rel (out-Tmpl t).var ≡ Some (out-Tmpl t).class.0
     declared_class dom of t within =

@@ -27,7 +27,7 @@ use Rattle.qvtr_semantics.specs.Templates.{Values}
 use Rattle.qvtr_semantics.specs.Bindings.{is_model}
 use Rattle.template_match.specs.Sources.{is_of_target, is_target_variable, source_variables}
 use Rattle.template_match.proofs.SideLaws.{Valued, valued}
-use Rattle.evaluation_laws.proofs.ProgramLaws.{contained}
+use Rattle.mof_metamodel.proofs.Facts.{contains_at}
 use Rattle.evaluation_laws.proofs.SlotLaws.{variable_value}
 use Rattle.enforcement_rules.specs.Rules.{Breaks}
 use Rattle.repair_semantics.specs.declared.term.Term.{Term}
@@ -49,7 +49,8 @@ use Rattle.source_laws.proofs.RuleLaws.{rule_keeps}
 use Rattle.source_laws.proofs.BindingLaws.{found_within}
 use Rattle.reading_laws.specs.Readings.{Numbering, IsReading, AreOver, HasTermsAmong, Reads}
 use Rattle.reading_laws.specs.Roots.{HasRootsOf}
-use Rattle.reading_laws.proofs.MeetingValues.{KindOf, kind_of, nothing_some, one_some, no_term, data_at, datum_from, datum_to, within_terms, read_datum}
+use Rattle.reading_laws.proofs.MeetingValues.{KindOf, kind_of, nothing_some, no_term, data_at, datum_from, datum_to, within_terms, read_datum}
+use Rattle.std.proofs.lemmas.Option.{same_Some}
 use Rattle.reading_laws.proofs.MeetingObjects.{class_or_data}
 use Rattle.reading_laws.proofs.MeetingEntries.{term_is_target, datum_is_source}
 use Rattle.reading_laws.proofs.MeetingTypes.{at_scope, length_map, length_variables, equation_found, target_root_is, have, datum_universal, scope_apart, length_within}
@@ -87,7 +88,7 @@ module _ (program : Program) (models : List ModelData) (rel : Rel) (its : List T
 
   made_by_keys : (class : ℕ) (x : TermValue) (o : Option (List TermValue)) → option_map (keyed class) o ≡ Some x → (t : Term) × (x ≡ values.Term t)
   made_by_keys class x None h = absurd (nothing_some x h)
-  made_by_keys class x (Some xs) h = let (t, is) = keyed_is class xs in (t, sym (one_some (keyed class xs) x h) ∙ is)
+  made_by_keys class x (Some xs) h = let (t, is) = keyed_is class xs in (t, sym (same_Some (keyed class xs) x h) ∙ is)
 
   made_by_key : (k : Known) (v class : ℕ) (x : TermValue) (o : Option (List PropId)) → option_and_then (λ props. option_map (keyed class) (all_given (map (key_value program models its k v) props))) o ≡ Some x
       → (t : Term) × (x ≡ values.Term t)
@@ -111,7 +112,7 @@ class_from (types.Class meta id) class h = (meta, id, refl)
 class_from ty class h = absurd (nothing_some class h)
 
 pub one_value : (o : Out) (d : Datum) → datum_of o ≡ Some d → o ≡ outs.One d
-one_value (outs.One e) d h = ap (λ x. outs.One x) (one_some e d h)
+one_value (outs.One e) d h = ap (λ x. outs.One x) (same_Some e d h)
 one_value o d h = absurd (nothing_some d h)
 
 -- ---- an entry, and its values as they are read
@@ -152,7 +153,7 @@ module _ (metas : List MetaDesc) (program : Program) (sources models : List Mode
   -- a data variable is none of the target
   data_is_source : (v : ℕ) → IsDataVariable rel v → is_target_variable program rel v ≡ false
   data_is_source v is =
-      let in_model = (p.over.evaluable.well.relations p.place rel p.found).variables.models is.var (contained rel.vars v is.var is.found) in
+      let in_model = (p.over.evaluable.well.relations p.place rel p.found).variables.models is.var (contains_at rel.vars v is.var is.found) in
       ap (is_of_target program) is.found ∙ ap (λ x. is_model x program.target) (in_model.data_value is.data_type)
 
   pub keeps : KeepsToSources program rel

@@ -25,11 +25,13 @@ use Rattle.qvtr_semantics.specs.Templates.{conforms, is_of_class}
 use Rattle.qvtr_semantics.specs.Bindings.{is_model, is_object_for, is_value_for}
 use Rattle.template_match.proofs.ListLaws.{any_at}
 use Rattle.evaluation_laws.proofs.NavigationLaws.{among}
-use Rattle.evaluation_laws.proofs.ProgramLaws.{contained}
+use Rattle.mof_metamodel.proofs.Facts.{contains_at}
 use Rattle.repair_semantics.specs.declared.term.Term.{Term, out-Term}
 use Rattle.repair_semantics.specs.TargetItems.{class_in, class_of_variable}
 use Rattle.reading_laws.specs.Readings.{Numbering, IsReading, AreOver}
-use Rattle.reading_laws.proofs.MeetingValues.{nothing_some, one_some, both_hold}
+use Rattle.reading_laws.proofs.MeetingValues.{nothing_some}
+use Rattle.std.proofs.lemmas.Option.{same_Some}
+use Rattle.std.proofs.lemmas.Bool.{and_from}
 
 -- ---- classes
 
@@ -38,7 +40,7 @@ class_below m o own kept is = by (object_at m o) refl is
   where
     by : (ob : Option Object) → object_at m o ≡ ob → option_map (λ (x : Object). x.class) ob ≡ Some own → own < class_count m.meta
     by None at h = absurd (nothing_some own h)
-    by (Some object) at h = subst (λ c. c < class_count m.meta) (one_some object.class own h) (kept.objects o object at).class
+    by (Some object) at h = subst (λ c. c < class_count m.meta) (same_Some object.class own h) (kept.objects o object at).class
 
 -- a kind of a kind of a class is one of it
 pub kind_through : (m : ModelData) (o own middle class : ℕ) → Kept m → class_at m o ≡ Some own → is_kind_of m.meta own middle ≡ true → is_kind_of m.meta middle class ≡ true
@@ -77,12 +79,12 @@ module _ (metas : List MetaDesc) (program : Program) (sources models : List Mode
   object_fits v var t n at target within has typed = by (class_or_data var.ty)
     where
       in_model : IsInModel program var
-      in_model = (o.evaluable.well.relations place rel found).variables.models var (contained rel.vars v var at)
+      in_model = (o.evaluable.well.relations place rel found).variables.models var (contains_at rel.vars v var at)
 
       by : ((meta : ℕ) × (class : ClassId) × (var.ty ≡ types.Class meta class)) ⊎ ((meta : ℕ) (class : ClassId) → var.ty ≢ types.Class meta class)
           → is_value_for (setting program models) (Some var) (Some (object_datum program.target n)) ≡ true
       by (inl (meta, class, is)) =
           ap (λ ty. is_object_for (setting program models) var ty program.target (object_datum program.target n)) is
-          ∙ both_hold (is_model var.model program.target) (is_of_class (setting program models) class.0 (object_datum program.target n)) target
+          ∙ and_from (is_model var.model program.target) (is_of_class (setting program models) class.0 (object_datum program.target n)) target
           (class_fits class.0 t n within has (typed class.0 (ap (option_and_then (λ (x : Var). class_in x.ty)) at ∙ ap class_in is)))
       by (inr none) = absurd (true≢false (sym target ∙ ap (λ x. is_model x program.target) (in_model.data_value none)))

@@ -20,9 +20,11 @@ use Rattle.qv_syntax.specs.Directions.{AreOfTwoModels}
 use Rattle.qvtr_semantics.specs.Bindings.{is_model, is_target_domain}
 use Rattle.repair_semantics.specs.TargetItems.{Content, TargetItem, ContentPart, TemplatePart, ItemPart, content_part, item_part, template_part, parts, target_domain, target_items}
 use Rattle.repair_semantics.proofs.ItemLaws.{content_of, item_of, template_is}
-use Rattle.template_match.proofs.ListLaws.{contains_first, contains_later, find_some, find_none}
+use Rattle.template_match.proofs.ListLaws.{contains_later, find_some, find_none}
+use Rattle.mof_metamodel.proofs.Facts.{contains_first}
 use Rattle.source_laws.proofs.RuleLaws.{target_is}
 use Rattle.reading_laws.proofs.MeetingValues.{one_of}
+use Rattle.mof_metamodel.proofs.Facts.{nothing_in}
 
 -- a content is that of a value
 pub data IsContentOf (value : ItemValue) (c : Content) : Type 0 where
@@ -72,9 +74,6 @@ I = (i : Item) × ItemHolds i
 
 abbrev T : Type 0
 T = (t : Tmpl) × TmplHolds t
-
-nothing_in : {X : Type 0} (x : X) → Contains [] x → ⊥
-nothing_in x (k, below, is) = omega (arith, below)
 
 value_layer : (y : layers.ItemValue-F V I T) → ValueHolds (roll-ItemValue (map-ItemValue V I T ItemValue Item Tmpl (λ x. x.0) (λ x. x.0) (λ x. x.0) y))
 unfolding ValueHolds TmplHolds

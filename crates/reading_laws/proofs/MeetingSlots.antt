@@ -25,7 +25,9 @@ use Rattle.repair_semantics.specs.Claims.{Held, same_held}
 use Rattle.repair_semantics.specs.Images.{same_number, held_in, holds}
 use Rattle.template_match.proofs.ListLaws.{any_at}
 use Rattle.reading_laws.specs.Readings.{Numbering, held_as, read_value}
-use Rattle.reading_laws.proofs.MeetingValues.{KindOf, kind_of, nothing_some, one_some, datum_read, datum_held, term_held, term_number_by, both_hold}
+use Rattle.reading_laws.proofs.MeetingValues.{KindOf, kind_of, nothing_some, datum_read, datum_held, term_held, term_number_by}
+use Rattle.std.proofs.lemmas.Option.{same_Some}
+use Rattle.std.proofs.lemmas.Bool.{and_from}
 
 module _ (program : Program) where
   -- what a slot holds as a datum
@@ -35,7 +37,7 @@ module _ (program : Program) where
 
   same_seen : (h i : Held ℕ) → same_held same_number h i ≡ true → same_datum (held_datum h) (held_datum i) ≡ true
   same_seen (Held.datum d) (Held.datum e) is = is
-  same_seen (Held.object m) (Held.object n) is = both_hold (program.target == program.target) (m == n) (eq-eqb program.target program.target refl) is
+  same_seen (Held.object m) (Held.object n) is = and_from (program.target == program.target) (m == n) (eq-eqb program.target program.target refl) is
   same_seen (Held.datum d) (Held.object n) is = absurd (true≢false (sym is))
   same_seen (Held.object m) (Held.datum e) is = absurd (true≢false (sym is))
 
@@ -77,7 +79,7 @@ module _ (program : Program) where
       where
         by : (x : Option Object) → object_at m o ≡ x → option_map (λ (ob : Object). ob.class) x ≡ Some class → is_number_among p (props_of m.meta class) ≡ true
         by None here class_is = absurd (nothing_some class class_is)
-        by (Some object) here class_is = subst (λ c. is_number_among p (props_of m.meta c) ≡ true) (one_some object.class class class_is) (elim (cases_lt (index_of props p) (length props)) [
+        by (Some object) here class_is = subst (λ c. is_number_among p (props_of m.meta c) ≡ true) (same_Some object.class class class_is) (elim (cases_lt (index_of props p) (length props)) [
           | inl below ↦ any_at (λ k. k == p) props p (eq-eqb p p refl) (index_of props p, below, index-found props p p below)
           | inr past ↦ absurd (true≢false (sym is ∙ holds_nothing o p h (is_class_type (type_of m.meta p)) (ap (λ (t : Slot). t.partners) (empty past)) (ap (λ (t : Slot). t.values) (empty past))))
         ])
@@ -108,9 +110,9 @@ module _ (program : Program) where
     where
       object_by : (t : Term) (n : ℕ) → number t ≡ Some n → x ≡ values.Term t → d ≡ object_datum program.target n → held_datum h ≡ d
       object_by t n num is same =
-          ap held_datum (one_some h (Held.object n) (sym held ∙ ap (held_as number) is ∙ term_held number t ∙ ap (option_map (λ k. Held.object k)) num)) ∙ sym same
+          ap held_datum (same_Some h (Held.object n) (sym held ∙ ap (held_as number) is ∙ term_held number t ∙ ap (option_map (λ k. Held.object k)) num)) ∙ sym same
 
       by : KindOf x → held_datum h ≡ d
       by (KindOf.datum e is) =
-          ap held_datum (one_some h (Held.datum e) (sym held ∙ ap (held_as number) is ∙ datum_held number e)) ∙ one_some e d (sym (datum_read program number e) ∙ ap (read_value program number) (sym is) ∙ read)
+          ap held_datum (same_Some h (Held.datum e) (sym held ∙ ap (held_as number) is ∙ datum_held number e)) ∙ same_Some e d (sym (datum_read program number e) ∙ ap (read_value program number) (sym is) ∙ read)
       by (KindOf.term t is) = let (n, num, same) = term_number_by program number t d (ap (read_value program number) (sym is) ∙ read) in object_by t n num is same

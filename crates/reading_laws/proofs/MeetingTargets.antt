@@ -2,7 +2,7 @@
 use Rattle.std.specs.Prelude.{◌≡◌, ◌⊎◌, ◌<◌, ◌&&◌, ◌||◌, ℕ, Bool, true, false, not, List, length, Option, None, Some, slice_get, Contains}
 use Rattle.std.specs.List.{list_all}
 use Rattle.std.proofs.Common.{refl, sym, ap, subst, ◌∙◌, inl, inr}
-use Rattle.std.proofs.lemmas.Bool.{true≢false}
+use Rattle.std.proofs.lemmas.Bool.{true≢false, not-false}
 use Rattle.mof_metamodel.specs.declared.desc.MetaDesc.{MetaDesc}
 use Rattle.object_tables.specs.Models.{ModelData}
 use Rattle.qv_syntax.specs.declared.typed.Typed.{Typed}
@@ -27,7 +27,7 @@ use Rattle.template_match.specs.Sources.{is_of_target, is_target_variable}
 use Rattle.template_match.proofs.ValueLaws.{within_values}
 use Rattle.ocl_eval.specs.OrderLaws.{same_decides}
 use Rattle.evaluation_laws.proofs.SlotLaws.{variable_value}
-use Rattle.evaluation_laws.proofs.ProgramLaws.{contained}
+use Rattle.mof_metamodel.proofs.Facts.{contains_at}
 use Rattle.repair_semantics.specs.declared.term.Term.{Term}
 use Rattle.repair_semantics.specs.declared.term.TermValue.{TermValue}
 use Rattle.repair_semantics.specs.declared.term.TermValue.TheVariants as values
@@ -38,7 +38,8 @@ use Rattle.source_laws.specs.TargetRule.{IsExpressionOf}
 use Rattle.source_laws.proofs.BindingLaws.{found_within, value_same, subject_outside}
 use Rattle.source_laws.proofs.RuleLaws.{target_is}
 use Rattle.reading_laws.specs.Readings.{Numbering, AllStand}
-use Rattle.reading_laws.proofs.MeetingValues.{KindOf, kind_of, nothing_some, some_given, all_hold, both_hold, within_terms, term_to, read_datum, read_term, read_from}
+use Rattle.reading_laws.proofs.MeetingValues.{KindOf, kind_of, nothing_some, some_given, all_hold, within_terms, term_to, read_datum, read_term, read_from}
+use Rattle.std.proofs.lemmas.Bool.{and_from}
 use Rattle.reading_laws.proofs.MeetingObjects.{object_fits}
 use Rattle.reading_laws.proofs.MeetingEntries.{term_is_target}
 use Rattle.reading_laws.proofs.MeetingUnmet.{conjunct_met}
@@ -48,10 +49,6 @@ use Rattle.reading_laws.proofs.MeetingHolds.{template_matches}
 
 same_itself : (d : Datum) → same_datum d d ≡ true
 same_itself d = (same_decides d d).1 refl
-
-no_false : (x : Bool) → not x ≡ false → x ≡ true
-no_false true h = refl
-no_false false h = absurd (true≢false h)
 
 module _ (metas : List MetaDesc) (program : Program) (sources models : List ModelData) (m : ModelData) (terms : List Term) (number : Numbering) (rel : Rel) (roots b : TermValues) (c g : Values)
     (p : IsMeeting metas program sources models m terms number rel roots b c g) where
@@ -100,7 +97,7 @@ module _ (metas : List MetaDesc) (program : Program) (sources models : List Mode
       by d scope_is (Some e) is =
           let (place, there) = equation_found rel.wheres v e is in
           let given : datum_of (value program sources e (entry_scope program sources rel b)) ≡ Some d =
-          ap datum_of (sym (p.equations v e (contained rel.wheres place (conjuncts.Equation v e) there)) ∙ scope_is) in
+          ap datum_of (sym (p.equations v e (contains_at rel.wheres place (conjuncts.Equation v e) there)) ∙ scope_is) in
           (equation_allowed metas program sources p.over.over_sources p.place rel p.found (keeps metas program sources models m terms number rel roots b c g p) roots b p.source p.own place v e var d there at given).allowed
 
   object_value : (v : ℕ) (var : Var) → v < length rel.vars → slice_get rel.vars v ≡ Some var → is_target_variable program rel v ≡ true
@@ -114,7 +111,7 @@ module _ (metas : List MetaDesc) (program : Program) (sources models : List Mode
 
   existential_value : (v : ℕ) → Contains rel.existential v → is_value_for (setting program models) (slice_get rel.vars v) (value_at g v) ≡ true
   existential_value v there =
-      let below = (p.over.evaluable.well.numbers.relations rel (contained program.rels p.place rel p.found)).vars.existential v there in
+      let below = (p.over.evaluable.well.numbers.relations rel (contains_at program.rels p.place rel p.found)).vars.existential v there in
       let (var, at) = found_within rel.vars v below in
       ap (λ x. is_value_for (setting program models) x (value_at g v)) at ∙ by var below at (is_target_variable program rel v) refl
     where
@@ -133,7 +130,7 @@ module _ (metas : List MetaDesc) (program : Program) (sources models : List Mode
       let r = rule metas program sources models m terms number rel roots b c g p in
       let same = expression_agrees metas program sources models m terms number rel roots b c g p e (IsExpressionOf.conjunct (conjuncts.Cond e) (inr there) refl) (r.named (conjuncts.Cond e) e (inr there) refl) in
       ap (λ o. is_known_true (boolean_of o)) (sym same)
-      ∙ no_false (is_known_true (boolean_of (value program sources e k.scope))) (conjunct_met program sources rel k p.met (conjuncts.Cond e) there)
+      ∙ not-false (is_known_true (boolean_of (value program sources e k.scope))) (conjunct_met program sources rel k p.met (conjuncts.Cond e) there)
   holds (conjuncts.Equation v e) there =
       let r = rule metas program sources models m terms number rel roots b c g p in
       let same = expression_agrees metas program sources models m terms number rel roots b c g p e (IsExpressionOf.conjunct (conjuncts.Equation v e) (inr there) refl) (r.named (conjuncts.Equation v e) e (inr there) refl) in
@@ -187,8 +184,8 @@ module _ (metas : List MetaDesc) (program : Program) (sources models : List Mode
       places = places metas program sources models m terms number rel roots b c g p;
       extends = extends;
       no_others = no_others;
-      meets = both_hold (have_values program models rel rel.existential g && list_all (target_meets program models g) rel.domains) (list_all (conjunct_holds program models g) rel.wheres)
-          (both_hold (have_values program models rel rel.existential g) (list_all (target_meets program models g) rel.domains)
+      meets = and_from (have_values program models rel rel.existential g && list_all (target_meets program models g) rel.domains) (list_all (conjunct_holds program models g) rel.wheres)
+          (and_from (have_values program models rel rel.existential g) (list_all (target_meets program models g) rel.domains)
           (all_hold (λ v. is_value_for (setting program models) (slice_get rel.vars v) (value_at g v)) rel.existential existential_value)
           (all_hold (target_meets program models g) rel.domains domain_meets))
           (all_hold (conjunct_holds program models g) rel.wheres holds);

@@ -28,9 +28,10 @@ use Rattle.qvtr_semantics.specs.declared.datum.Datum.{Datum}
 use Rattle.qvtr_semantics.specs.Outs.{datum_of, all_given}
 use Rattle.qvtr_semantics.specs.Expressions.{Scope, value, variable}
 use Rattle.template_match.specs.Sources.{is_target_variable, source_variables}
-use Rattle.template_match.proofs.ListLaws.{contains_first, contains_later, find_some, find_none}
+use Rattle.template_match.proofs.ListLaws.{contains_later, find_some, find_none}
+use Rattle.mof_metamodel.proofs.Facts.{contains_first}
 use Rattle.template_match.proofs.SideLaws.{Valued, valued}
-use Rattle.evaluation_laws.proofs.ProgramLaws.{contained}
+use Rattle.mof_metamodel.proofs.Facts.{contains_at}
 use Rattle.enforcement_rules.specs.declared.standing.Place.{Place}
 use Rattle.enforcement_rules.specs.KnownVariables.{IsKnown}
 use Rattle.enforcement_rules.specs.TargetParts.{target_desc, Stands, IsMade}
@@ -49,7 +50,9 @@ use Rattle.source_laws.proofs.BindingLaws.{found_within}
 use Rattle.source_laws.proofs.RuleLaws.{rule_keeps}
 use Rattle.reading_laws.specs.Readings.{AreOver}
 use Rattle.reading_laws.specs.Roots.{HasRootsOf}
-use Rattle.reading_laws.proofs.MeetingValues.{nothing_some, one_some, some_given, both_hold, within_terms, datum_from}
+use Rattle.reading_laws.proofs.MeetingValues.{nothing_some, some_given, within_terms, datum_from}
+use Rattle.std.proofs.lemmas.Option.{same_Some}
+use Rattle.std.proofs.lemmas.Bool.{and_from}
 use Rattle.reading_laws.proofs.MeetingObjects.{class_or_data}
 use Rattle.reading_laws.proofs.MeetingUnmet.{item_met, conjunct_met}
 use Rattle.reading_laws.proofs.MeetingTypes.{length_map, length_variables, have}
@@ -188,13 +191,13 @@ module _ (metas : List MetaDesc) (program : Program) (sources models : List Mode
               by : ((root ≡ t) × (None ≡ at)) ⊎ Around root t at → ⊥
               by (inl (same, here)) =
                   let (shape, has_shape, is_root) = (meant.domains.shaped dom of.is).shaped program.target of.target in
-                  let one : shape ≡ root = one_some shape root (sym has_shape ∙ has) in
+                  let one : shape ≡ root = same_Some shape root (sym has_shape ∙ has) in
                   not_handed (record { called = is; dom = dom; of = of; root = sym is_root ∙ ap (λ x. (out-Tmpl x).var) (one ∙ same) ∙ var })
               by (inr a) = nothing_some (record { parent = (out-Tmpl a.outer).var; prop = a.prop }) (sym no_place ∙ a.is)
 
       class_same : (t u : Tmpl) → IsNested root t → IsNested root u → (out-Tmpl t).var ≡ v → (out-Tmpl u).var ≡ v → (out-Tmpl t).class ≡ (out-Tmpl u).class
       class_same t u first second var other =
-          class_id (out-Tmpl t).class (out-Tmpl u).class (one_some (out-Tmpl t).class.0 (out-Tmpl u).class.0
+          class_id (out-Tmpl t).class (out-Tmpl u).class (same_Some (out-Tmpl t).class.0 (out-Tmpl u).class.0
           (sym (declared_class metas program sources models m over place rel found dom of t (nested_in t first)) ∙ ap (class_of_variable rel) (var ∙ sym other) ∙ declared_class metas program sources models m over place rel found dom of u (nested_in u second)))
 
       -- no item of a template of the variable is at the property
@@ -202,7 +205,7 @@ module _ (metas : List MetaDesc) (program : Program) (sources models : List Mode
       no_item prop nothing t nested var item has_item same =
           let i = entry_of (out-Tmpl t).var item in
           let there : Contains its i = subst (λ xs. Contains xs i) (sym its_are) (entry_listed root t nested item has_item) in
-          true≢false (sym (both_hold (i.owner == v) (i.prop.0 == prop.0) (eq-eqb i.owner v (entry_owner (out-Tmpl t).var item ∙ var))
+          true≢false (sym (and_from (i.owner == v) (i.prop.0 == prop.0) (eq-eqb i.owner v (entry_owner (out-Tmpl t).var item ∙ var))
           (eq-eqb i.prop.0 prop.0 (ap (λ (q : PropId). q.0) (entry_prop (out-Tmpl t).var item ∙ same))))
           ∙ find_none (is_item_at v prop.0) its i nothing there)
 
@@ -267,7 +270,7 @@ module _ (metas : List MetaDesc) (program : Program) (sources models : List Mode
                 ap (λ c. is_some (content_value program sources (at_round n) c)) content_is
                 ∙ alone e value_is (variable_alone e) refl (ap (is_content_lacking program sources rel k) (sym content_is) ∙ met_here)
             by (IsContentOf.template part value_is content_is) =
-                let w_below = below metas program sources models m over place rel found dom of part (nested_in part (joined root f.template part f.nested f.item (contained (out-Tmpl f.template).items f.place f.item f.at) value_is)) in
+                let w_below = below metas program sources models m over place rel found dom of part (nested_in part (joined root f.template part f.nested f.item (contains_at (out-Tmpl f.template).items f.place f.item f.at) value_is)) in
                 ap (λ c. is_some (content_value program sources (at_round n) c)) content_is
                 ∙ all (out-Tmpl part).var w_below (depends (out-Tmpl part).var (HasVariable.nested part value_is refl))
 
@@ -302,7 +305,7 @@ module _ (metas : List MetaDesc) (program : Program) (sources models : List Mode
                     by_given : IsGiven (target_desc metas program) part here prop → ⊥
                     by_given (IsGiven.by_item item has_item same) = no_item prop nothing part part_nested part_var item has_item same
                     by_given (IsGiven.by_parent o) =
-                        let place_is : record { parent = (out-Tmpl st.template).var; prop = st.item.prop } ≡ o.place = one_some (record { parent = (out-Tmpl st.template).var; prop = st.item.prop }) o.place o.is in
+                        let place_is : record { parent = (out-Tmpl st.template).var; prop = st.item.prop } ≡ o.place = same_Some (record { parent = (out-Tmpl st.template).var; prop = st.item.prop }) o.place o.is in
                         let opposite : opposite_of (target_metamodel program sources) i.prop.0 ≡ Some prop.0 =
                         ap (λ (desc : MetaDesc). opposite_of desc i.prop.0) (sym (meta_is metas program sources models m over)) ∙ ap (λ (q : PropId). opposite_of (target_desc metas program) q.0) (sym st.prop ∙ ap (λ (x : Place). x.prop) place_is) ∙ o.opposite in
                         let edge : Edge v i.owner = record {

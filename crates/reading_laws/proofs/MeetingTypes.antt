@@ -47,7 +47,8 @@ use Rattle.evaluation_laws.specs.Scopes.{HasValuesOfTypes, of_its_model}
 use Rattle.evaluation_laws.specs.Sources.{MeetsSource}
 use Rattle.evaluation_laws.specs.Held.{IsAllowed}
 use Rattle.evaluation_laws.proofs.BoundLaws.{right_within, source_valued, domain_meets}
-use Rattle.evaluation_laws.proofs.ProgramLaws.{contained, types_kept}
+use Rattle.evaluation_laws.proofs.ProgramLaws.{types_kept}
+use Rattle.mof_metamodel.proofs.Facts.{contains_at}
 use Rattle.evaluation_laws.proofs.SlotLaws.{IsNoClass, variable_value, compared_is, one_type, where_value}
 use Rattle.evaluation_laws.proofs.TypeLaws.{within_through}
 use Rattle.evaluation_laws.proofs.ValueLaws.{datum_elsewhere}
@@ -61,7 +62,8 @@ use Rattle.source_laws.specs.SourceRelations.{IsSourceExpression, KeepsToSources
 use Rattle.source_laws.proofs.BindingLaws.{found_within, had, have_of}
 use Rattle.source_laws.proofs.RuleLaws.{target_is, model_domain}
 use Rattle.reading_laws.specs.Roots.{HasRootsOf}
-use Rattle.reading_laws.proofs.MeetingValues.{nothing_some, one_some, within_terms, datum_from, datum_to}
+use Rattle.reading_laws.proofs.MeetingValues.{nothing_some, within_terms, datum_from, datum_to}
+use Rattle.std.proofs.lemmas.Option.{same_Some}
 use Rattle.reading_laws.proofs.MeetingEntries.{datum_is_source}
 
 -- ---- scopes
@@ -90,7 +92,7 @@ equation_found [] v e h = absurd (nothing_some e h)
 equation_found (conjuncts.Equation w x ∷ cs) v e h = by (equation_found cs v e) (w == v) refl h
   where
     by : (equation_of cs v ≡ Some e → (p : ℕ) × (slice_get cs p ≡ Some (conjuncts.Equation v e))) → (b : Bool) → (w == v) ≡ b → (if b then Some x else equation_of cs v) ≡ Some e → (p : ℕ) × (slice_get (conjuncts.Equation w x ∷ cs) p ≡ Some (conjuncts.Equation v e))
-    by rest true same is = (0, ap (λ u. Some (conjuncts.Equation u x)) (eqb-true w v same) ∙ ap (λ y. Some (conjuncts.Equation v y)) (one_some x e is))
+    by rest true same is = (0, ap (λ u. Some (conjuncts.Equation u x)) (eqb-true w v same) ∙ ap (λ y. Some (conjuncts.Equation v y)) (same_Some x e is))
     by rest false same is = let (p, at) = rest is in (suc p, at)
 equation_found (conjuncts.Cond x ∷ cs) v e h = let (p, at) = equation_found cs v e h in (suc p, at)
 equation_found (conjuncts.Call n args ∷ cs) v e h = let (p, at) = equation_found cs v e h in (suc p, at)
@@ -237,15 +239,15 @@ module _ (metas : List MetaDesc) (program : Program) (sources : List ModelData) 
     equation_typed : (n v : ℕ) (var : Var) (p : ℕ) (e : Typed) → slice_get rel.vars v ≡ Some var → slice_get rel.wheres p ≡ Some (conjuncts.Equation v e)
         → HasValuesOfTypes metas s e (variables_of rel) (scope_within program sources rel before n) → IsValueIn metas s anywhere var.ty (value program sources e (scope_within program sources rel before n))
     equation_typed n v var p e there at valued =
-        let among = contained program.rels place rel found in
-        let within = contained rel.wheres p (conjuncts.Equation v e) at in
+        let among = contains_at program.rels place rel found in
+        let within = contains_at rel.wheres p (conjuncts.Equation v e) at in
         let typed : IsEquationTyped metas program rel v e = (over.well.typed.relations rel among).wheres (conjuncts.Equation v e) within in
         let stored : HasStorableLiterals e = over.texts.relations rel e among (literals.IsExpressionOf.of_where (conjuncts.Equation v e) within refl) in
         let is_data : IsDataVariable rel v = (meant.wheres.are p v e at).0 in
-        let one : typed.var ≡ var = one_some typed.var var (sym typed.found ∙ there) in
-        let other : is_data.var ≡ var = one_some is_data.var var (sym is_data.found ∙ there) in
+        let one : typed.var ≡ var = same_Some typed.var var (sym typed.found ∙ there) in
+        let other : is_data.var ≡ var = same_Some is_data.var var (sym is_data.found ∙ there) in
         let none : IsNoClass var.ty = λ m class same. is_data.data_type m class (ap (λ (x : Var). x.ty) other ∙ same) in
-        let single : IsSingleType metas var.ty = (over.well.numbers.relations rel among).vars.types var (contained rel.vars v var there) in
+        let single : IsSingleType metas var.ty = (over.well.numbers.relations rel among).vars.types var (contains_at rel.vars v var there) in
         let compared : AreComparable metas var.ty typed.typing.ty = subst (λ (x : Var). AreComparable metas x.ty typed.typing.ty) one typed.compared in
         value_compared metas program sources over var.ty typed.typing.ty single none compared (value program sources e (scope_within program sources rel before n))
         (types_kept metas program sources over.kept over.well.typed.queries over.texts (variables_of rel) e typed.typing (scope_within program sources rel before n) stored valued typed.typed)
@@ -257,7 +259,7 @@ module _ (metas : List MetaDesc) (program : Program) (sources : List ModelData) 
         by : (w : ℕ) (t : Typing) → slice_get (variables_of rel) w ≡ Some t → (o : Option Var) → slice_get rel.vars w ≡ o → IsValueIn metas s anywhere t.ty (variable x w)
         by w t told None at = absurd (nothing_some t (sym (ap (option_map typing_of) at) ∙ sym (slice_get-map typing_of rel.vars w) ∙ told))
         by w t told (Some other) at =
-            let same : typing_of other ≡ t = one_some (typing_of other) t (sym (ap (option_map typing_of) at) ∙ sym (slice_get-map typing_of rel.vars w) ∙ told) in
+            let same : typing_of other ≡ t = same_Some (typing_of other) t (sym (ap (option_map typing_of) at) ∙ sym (slice_get-map typing_of rel.vars w) ∙ told) in
             subst (λ (y : Typing). IsValueIn metas s anywhere y.ty (variable x w)) same (all w other at)
 
     -- the values that equations give are of the types of their variables

@@ -14,7 +14,8 @@ use Rattle.repair_semantics.specs.EntryValues.{Known}
 use Rattle.repair_semantics.specs.TargetItems.{TargetItem, target_items}
 use Rattle.repair_semantics.specs.Unmet.{is_content_lacking, item_places, is_conjunct_unmet, conjunct_places, first_place, unmet_places, is_unmet}
 use Rattle.repair_semantics.specs.Demands.{item_demand, item_demands, demands_where}
-use Rattle.template_match.proofs.ListLaws.{contains_first, contains_later}
+use Rattle.template_match.proofs.ListLaws.{contains_later}
+use Rattle.mof_metamodel.proofs.Facts.{contains_first}
 
 none_first : (ps : List Place) → is_some (first_place ps) ≡ false → ps ≡ []
 none_first [] h = refl

@@ -3,7 +3,7 @@ use Rattle.std.specs.Prelude.{◌≡◌, ◌<◌, ◌&&◌, is_none, slice_index
 use Rattle.std.specs.List.{list_all}
 use Rattle.std.specs.Option.{option_map, option_and_then}
 use Rattle.std.proofs.Common.{refl, sym, ap, subst, ◌∙◌, arith, inl, inr}
-use Rattle.std.proofs.lemmas.Bool.{true≢false, cases_lt, cases_eq}
+use Rattle.std.proofs.lemmas.Bool.{true≢false, cases_lt, cases_eq, and_from}
 use Rattle.std.proofs.lemmas.List.{get_or_default}
 use Rattle.qv_syntax.specs.declared.program.Program.{Program}
 use Rattle.qvtr_semantics.specs.declared.datum.Datum.{Datum}
@@ -18,8 +18,10 @@ use Rattle.repair_semantics.specs.EntryValues.{TermValues, value_of, term_of, da
 use Rattle.repair_semantics.specs.Claims.{Held}
 use Rattle.repair_semantics.specs.Conflicts.{held_in}
 use Rattle.repair_semantics.specs.Candidates.{held_by_number}
-use Rattle.template_match.proofs.ListLaws.{contains_first, contains_later}
+use Rattle.template_match.proofs.ListLaws.{contains_later}
+use Rattle.mof_metamodel.proofs.Facts.{contains_first}
 use Rattle.reading_laws.specs.Readings.{Numbering, held_as, read_part, read_value, Reads}
+use Rattle.std.proofs.lemmas.Option.{same_Some}
 
 -- ---- lists
 
@@ -27,14 +29,8 @@ pub all_hold : {X : Type 0} (p : X → Bool) (xs : List X) → ((x : X) → Cont
 all_hold p [] h = refl
 all_hold p (x ∷ xs) h = ap (λ b. b && list_all p xs) (h x (contains_first x xs)) ∙ all_hold p xs (λ y c. h y (contains_later y x xs c))
 
-pub both_hold : (a b : Bool) → a ≡ true → b ≡ true → (a && b) ≡ true
-both_hold a b h k = ap (λ x. x && b) h ∙ k
-
 pub nothing_some : {X : Type 0} (x : X) → ◌≡◌ {A = Option X} None (Some x) → ⊥
 nothing_some x h = cc
-
-pub one_some : {X : Type 0} (x y : X) → Some x ≡ Some y → x ≡ y
-one_some x y h = cc
 
 pub some_given : {X : Type 0} (o : Option X) → is_none o ≡ false → (x : X) × (o ≡ Some x)
 some_given None h = absurd (true≢false h)
@@ -82,10 +78,10 @@ pub term_of_term : (t : Term) → term_in (values.Term t) ≡ Some t
 term_of_term t = ap term_part (out_term t)
 
 pub one_datum : (d e : Datum) → Some (values.Val d) ≡ Some (values.Val e) → d ≡ e
-one_datum d e h = one_some d e (sym (datum_of_val d) ∙ ap (option_and_then datum_in) h ∙ datum_of_val e)
+one_datum d e h = same_Some d e (sym (datum_of_val d) ∙ ap (option_and_then datum_in) h ∙ datum_of_val e)
 
 pub one_term : (t u : Term) → Some (values.Term t) ≡ Some (values.Term u) → t ≡ u
-one_term t u h = one_some t u (sym (term_of_term t) ∙ ap (option_and_then term_in) h ∙ term_of_term u)
+one_term t u h = same_Some t u (sym (term_of_term t) ∙ ap (option_and_then term_in) h ∙ term_of_term u)
 
 pub no_term : (d : Datum) (t : Term) → Some (values.Val d) ≡ Some (values.Term t) → ⊥
 no_term d t h = nothing_some t (sym (term_of_val d) ∙ ap (option_and_then term_in) h ∙ term_of_term t)
@@ -95,7 +91,7 @@ pub from_datum : (x : TermValue) (d : Datum) → datum_in x ≡ Some d → x ≡
 from_datum x d h = by (kind_of x)
   where
     by : KindOf x → x ≡ values.Val d
-    by (KindOf.datum e is) = is ∙ ap (λ z. values.Val z) (one_some e d (sym (datum_of_val e) ∙ ap datum_in (sym is) ∙ h))
+    by (KindOf.datum e is) = is ∙ ap (λ z. values.Val z) (same_Some e d (sym (datum_of_val e) ∙ ap datum_in (sym is) ∙ h))
     by (KindOf.term t is) = absurd (nothing_some d (sym (datum_of_term t) ∙ ap datum_in (sym is) ∙ h))
 
 pub from_term : (x : TermValue) (t : Term) → term_in x ≡ Some t → x ≡ values.Term t
@@ -103,7 +99,7 @@ from_term x t h = by (kind_of x)
   where
     by : KindOf x → x ≡ values.Term t
     by (KindOf.datum e is) = absurd (nothing_some t (sym (term_of_val e) ∙ ap term_in (sym is) ∙ h))
-    by (KindOf.term u is) = is ∙ ap (λ z. values.Term z) (one_some u t (sym (term_of_term u) ∙ ap term_in (sym is) ∙ h))
+    by (KindOf.term u is) = is ∙ ap (λ z. values.Term z) (same_Some u t (sym (term_of_term u) ∙ ap term_in (sym is) ∙ h))
 
 -- ---- values of variables
 
@@ -149,7 +145,7 @@ module _ (program : Program) (number : Numbering) where
     where
       by : (o : Option ℕ) → number t ≡ o → option_map (λ n. object_datum program.target n) o ≡ Some d → (n : ℕ) × (number t ≡ Some n) × (d ≡ object_datum program.target n)
       by None at is = absurd (nothing_some d is)
-      by (Some n) at is = (n, at, sym (one_some (object_datum program.target n) d is))
+      by (Some n) at is = (n, at, sym (same_Some (object_datum program.target n) d is))
 
   module _ (b : TermValues) (c : Values) (r : Reads program number b c) where
     pub read_datum : (v : ℕ) (d : Datum) → value_of b v ≡ Some (values.Val d) → value_at c v ≡ Some d

@@ -27,7 +27,8 @@ use Rattle.qvtr_semantics.specs.Expressions.{Scope, variable, bound_value, scope
 use Rattle.qvtr_semantics.specs.Templates.{Values, value_at}
 use Rattle.ocl_eval.specs.OrderLaws.{same_decides}
 use Rattle.template_match.specs.Sources.{is_target_variable}
-use Rattle.template_match.proofs.ListLaws.{contains_first, contains_later, list_all_at}
+use Rattle.template_match.proofs.ListLaws.{contains_later, list_all_at}
+use Rattle.mof_metamodel.proofs.Facts.{contains_first}
 use Rattle.template_match.proofs.SideLaws.{Valued}
 use Rattle.enforcement_rules.specs.KnownVariables.{IsKnown}
 use Rattle.enforcement_rules.specs.Rules.{Breaks}
@@ -40,7 +41,8 @@ use Rattle.repair_semantics.specs.EntryValues.{TermValues, data_in}
 use Rattle.repair_semantics.specs.Making.{equation_of, by_equation, scope_within, entry_scope}
 use Rattle.repair_semantics.specs.Terms.{datum_in, datum_part}
 use Rattle.reading_laws.specs.Readings.{Numbering}
-use Rattle.reading_laws.proofs.MeetingValues.{nothing_some, one_some, data_at, out_datum}
+use Rattle.reading_laws.proofs.MeetingValues.{nothing_some, data_at, out_datum}
+use Rattle.std.proofs.lemmas.Option.{same_Some}
 use Rattle.reading_laws.proofs.MeetingObjects.{class_or_data}
 use Rattle.reading_laws.proofs.PartnerValues.{IsPartnered, meant, rule, wheres, kind_of, universal_datum, places, partner_apart, target_of_model, root_target}
 
@@ -52,13 +54,13 @@ decided (outs.One e) d h = by (same_datum e d) refl
   where
     by : (y : Bool) → same_datum e d ≡ y → ◌≡◌ {A = Out} (outs.One e) (outs.One d)
     by true is = ap outs.One ((same_decides e d).0 is)
-    by false is = absurd (h (λ one. true≢false (sym ((same_decides e d).1 (one_some e d (ap datum_of one))) ∙ is)))
+    by false is = absurd (h (λ one. true≢false (sym ((same_decides e d).1 (same_Some e d (ap datum_of one))) ∙ is)))
 decided (outs.Many kind ds) d h = absurd (h (λ one. nothing_some d (ap datum_of one)))
 decided outs.Null d h = absurd (h (λ one. nothing_some d (ap datum_of one)))
 decided outs.Invalid d h = absurd (h (λ one. nothing_some d (ap datum_of one)))
 
 one_of : (x : Out) (d : Datum) → datum_of x ≡ Some d → x ≡ outs.One d
-one_of (outs.One e) d h = ap outs.One (one_some e d h)
+one_of (outs.One e) d h = ap outs.One (same_Some e d h)
 one_of (outs.Many kind ds) d h = absurd (nothing_some d h)
 one_of outs.Null d h = absurd (nothing_some d h)
 one_of outs.Invalid d h = absurd (nothing_some d h)
@@ -71,7 +73,7 @@ equation_for (conjuncts.Equation w x ∷ cs) v e h = by (λ k. equation_for cs v
   where
     by : (equation_of cs v ≡ Some e → Contains cs (conjuncts.Equation v e)) → (b : Bool) → (w == v) ≡ b → (if b then Some x else equation_of cs v) ≡ Some e → Contains (conjuncts.Equation w x ∷ cs) (conjuncts.Equation v e)
     by later true is k =
-        subst (λ y. Contains (conjuncts.Equation w x ∷ cs) (conjuncts.Equation v y)) (one_some x e k)
+        subst (λ y. Contains (conjuncts.Equation w x ∷ cs) (conjuncts.Equation v y)) (same_Some x e k)
         (subst (λ u. Contains (conjuncts.Equation w x ∷ cs) (conjuncts.Equation u x)) (eqb-true w v is) (contains_first (conjuncts.Equation w x) cs))
     by later false is k = contains_later (conjuncts.Equation v e) (conjuncts.Equation w x) cs (later k)
 equation_for (conjuncts.Cond x ∷ cs) v e h = contains_later (conjuncts.Equation v e) (conjuncts.Cond x) cs (equation_for cs v e h)

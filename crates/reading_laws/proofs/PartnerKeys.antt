@@ -48,18 +48,17 @@ use Rattle.repair_semantics.specs.Making.{entry_scope, content_value, is_item_at
 use Rattle.reading_laws.specs.Readings.{Numbering, read_part, read_value}
 use Rattle.reading_laws.specs.Matching.{slot_holds, content_holds, item_holds}
 use Rattle.reading_laws.proofs.ItemLaws.{throughout_matched}
-use Rattle.reading_laws.proofs.MeetingValues.{nothing_some, one_some, out_datum}
+use Rattle.reading_laws.proofs.MeetingValues.{nothing_some, out_datum}
+use Rattle.std.proofs.lemmas.Option.{same_Some}
 use Rattle.reading_laws.proofs.PartnerValues.{IsPartnered, Fits, rule, domains, root_template}
 use Rattle.reading_laws.proofs.PartnerEquations.{scope_is_read, expression_alike}
 use Rattle.reading_laws.proofs.PartnerSlots.{IsHeldAt, slot_has, read_held, holder_is, opposite_stands}
-
-nothing_in : {X : Type 0} (x : X) → Contains [] x → ⊥
-nothing_in x (k, below, is) = omega (arith, below)
+use Rattle.mof_metamodel.proofs.Facts.{nothing_in}
 
 -- ---- variables alone
 
 alone_layer : (d : nodes.Node-F Call Node Typed TypedInfix TypedPostfix) (v : ℕ) → variable_at d ≡ Some v → d ≡ nodes.Variable v
-alone_layer (nodes.Variable n) v h = ap (λ k. let d : nodes.Node-F Call Node Typed TypedInfix TypedPostfix = nodes.Variable k in d) (one_some n v h)
+alone_layer (nodes.Variable n) v h = ap (λ k. let d : nodes.Node-F Call Node Typed TypedInfix TypedPostfix = nodes.Variable k in d) (same_Some n v h)
 alone_layer d v h = absurd (nothing_some v h)
 
 pub alone_is : (e : Typed) (v : ℕ) → variable_alone e ≡ Some v → e ≡ record { ty = e.ty; node = variants.Variable v }
@@ -76,10 +75,10 @@ option_is (Some k) n h = ap (λ j. Some j) (eqb-true k n h)
 template_is : (c : Content) (v : ℕ) → variable_of c ≡ Some v → c ≡ Content.template v
 template_is Content.empty v h = absurd (nothing_some v h)
 template_is (Content.expression e) v h = absurd (nothing_some v h)
-template_is (Content.template w) v h = ap (λ k. Content.template k) (one_some w v h)
+template_is (Content.template w) v h = ap (λ k. Content.template k) (same_Some w v h)
 
 pub datum_given : (out : Out) (x : TermValue) → given_out out ≡ Some x → (d : Datum) × (out ≡ outs.One d) × (x ≡ values.Val d)
-datum_given (outs.One d) x h = (d, refl, sym (one_some (values.Val d) x h))
+datum_given (outs.One d) x h = (d, refl, sym (same_Some (values.Val d) x h))
 datum_given (outs.Many kind ds) x h = absurd (nothing_some x h)
 datum_given outs.Null x h = absurd (nothing_some x h)
 datum_given outs.Invalid x h = absurd (nothing_some x h)
@@ -168,7 +167,7 @@ module _ (metas : List MetaDesc) (program : Program) (sources models : List Mode
         there = sym (ap (λ y. has slot (datum_of y)) (sym alike.0 ∙ out)) ∙ h;
         among = λ t term. absurd (nothing_some t (sym (ap term_part (out_datum d)) ∙ sym (ap term_in val) ∙ term));
         of_sources = λ k datum.
-            let same : d ≡ k = one_some d k (sym (ap datum_part (out_datum d)) ∙ sym (ap datum_in val) ∙ datum) in
+            let same : d ≡ k = same_Some d k (sym (ap datum_part (out_datum d)) ∙ sym (ap datum_in val) ∙ datum) in
             subst (IsOfSources program.target) same (subst (HasNoTarget program.target) out alike.1);
       }
 

@@ -19,7 +19,8 @@ use Rattle.qvtr_semantics.specs.Objects.{conforms_if, conforms_at, object_datum}
 use Rattle.qvtr_semantics.specs.Expressions.{Scope, value, variable, bound_value, setting}
 use Rattle.qvtr_semantics.specs.Templates.{Values, value_at, conforms, is_of_class}
 use Rattle.template_match.specs.Sources.{is_of_target, is_target_variable}
-use Rattle.template_match.proofs.ListLaws.{contains_first, contains_later}
+use Rattle.template_match.proofs.ListLaws.{contains_later}
+use Rattle.mof_metamodel.proofs.Facts.{contains_first}
 use Rattle.source_laws.specs.SourceValues.{IsOfSources}
 use Rattle.source_laws.proofs.QueryLaws.{variable_is}
 use Rattle.repair_semantics.specs.declared.term.Term.{Term, out-Term, roll-out-Term}
@@ -37,8 +38,11 @@ use Rattle.repair_semantics.specs.Images as images
 use Rattle.repair_semantics.specs.Images.{holds, holds_key}
 use Rattle.repair_semantics.specs.Candidates.{held_by_number}
 use Rattle.reading_laws.specs.Readings.{Numbering, held_as, read_part, read_value, IsReading, Reads}
-use Rattle.reading_laws.proofs.HeldLaws.{first_holds, second_holds, one_held, few_held}
-use Rattle.reading_laws.proofs.MeetingValues.{nothing_some, one_some, within_terms, data_at, out_datum, out_term}
+use Rattle.reading_laws.proofs.HeldLaws.{one_held, few_held}
+use Rattle.mof_metamodel.proofs.Facts.{second_true}
+use Rattle.mof_metamodel.proofs.Facts.{first_true}
+use Rattle.reading_laws.proofs.MeetingValues.{nothing_some, within_terms, data_at, out_datum, out_term}
+use Rattle.std.proofs.lemmas.Option.{same_Some}
 use Rattle.reading_laws.proofs.MeetingKnown.{at_variable}
 use Rattle.reading_laws.proofs.PartnerValues.{places_of, object_for, model_is, IsPartnered, Fits, given_fits, places, partner_apart}
 use Rattle.reading_laws.proofs.PartnerEquations.{scope_is_read, target_scope}
@@ -58,7 +62,7 @@ no_object d n h = cc
 
 object_held : (o : Option ℕ) (h : Held ℕ) → option_map (λ n. Held.object n) o ≡ Some h → (n : ℕ) × (o ≡ Some n) × (Held.object n ≡ h)
 object_held None h e = absurd (nothing_some h e)
-object_held (Some n) h e = (n, refl, one_some (Held.object n) h e)
+object_held (Some n) h e = (n, refl, same_Some (Held.object n) h e)
 
 module _ (program : Program) (m : ModelData) (terms : List Term) (number : Numbering) (reading : IsReading program m terms number) where
   abbrev Own : TermValue → Type 0
@@ -74,14 +78,14 @@ module _ (program : Program) (m : ModelData) (terms : List Term) (number : Numbe
 
       by : (k l : of.TermValue-F TermValue Term) → out-TermValue x ≡ k → out-TermValue y ≡ l → out-TermValue x ≡ out-TermValue y
       by (of.Val d) (of.Val e) is_x is_y =
-          let one = data_one d e (one_some (Held.datum d) h (at x (of.Val d) is_x held_x) ∙ sym (one_some (Held.datum e) h (at y (of.Val e) is_y held_y))) in
+          let one = data_one d e (same_Some (Held.datum d) h (at x (of.Val d) is_x held_x) ∙ sym (same_Some (Held.datum e) h (at y (of.Val e) is_y held_y))) in
           is_x ∙ ap (λ z. let l : of.TermValue-F TermValue Term = of.Val z in l) one ∙ sym is_y
       by (of.Val d) (of.Term u) is_x is_y =
           let (n, has, same) = object_held (number u) h (at y (of.Term u) is_y held_y) in
-          absurd (no_object d n (one_some (Held.datum d) h (at x (of.Val d) is_x held_x) ∙ sym same))
+          absurd (no_object d n (same_Some (Held.datum d) h (at x (of.Val d) is_x held_x) ∙ sym same))
       by (of.Term t) (of.Val e) is_x is_y =
           let (n, has, same) = object_held (number t) h (at x (of.Term t) is_x held_x) in
-          absurd (no_object e n (one_some (Held.datum e) h (at y (of.Val e) is_y held_y) ∙ sym same))
+          absurd (no_object e n (same_Some (Held.datum e) h (at y (of.Val e) is_y held_y) ∙ sym same))
       by (of.Term t) (of.Term u) is_x is_y =
           let (n, has, same) = object_held (number t) h (at x (of.Term t) is_x held_x) in
           let (k, has_too, there) = object_held (number u) h (at y (of.Term u) is_y held_y) in
@@ -110,7 +114,7 @@ module _ (metas : List MetaDesc) (program : Program) (sources models : List Mode
   keys_same : (kv : PropId → Option TermValue) (n : ℕ) → ((q : PropId) (x : TermValue) → kv q ≡ Some x → KeyHeld n q.0 x) → (props : List PropId) (xs ys : List TermValue)
       → ((q : PropId) → Contains props q → length (images.held_in program m n q.0) ≤ 1) → ((y : TermValue) (t : Term) → Contains ys y → term_in y ≡ Some t → Contains terms t)
       → all_given (map kv props) ≡ Some xs → holds_key program m n props (map (held_as number) ys) ≡ true → xs ≡ ys
-  keys_same kv n held [] xs [] few own given h = sym (one_some [] xs given)
+  keys_same kv n held [] xs [] few own given h = sym (same_Some [] xs given)
   keys_same kv n held [] xs (y ∷ ys) few own given h = absurd (true≢false (sym h))
   keys_same kv n held (q ∷ props) xs [] few own given h = absurd (true≢false (sym h))
   keys_same kv n held (q ∷ props) xs (y ∷ ys) few own given h =
@@ -127,11 +131,11 @@ module _ (metas : List MetaDesc) (program : Program) (sources models : List Mode
           let here : KeyHeld n q.0 x = held q x is in
           let others = holds_key program m n props (map (held_as number) ys) in
           let one : here.held.held ≡ i =
-          one_held (images.held_in program m n q.0) here.held.held i (few q (contains_first q props)) here.held.holds (first_holds (holds program m n q.0 i) others k) in
+          one_held (images.held_in program m n q.0) here.held.held i (few q (contains_first q props)) here.held.holds (first_true (holds program m n q.0 i) others k) in
           let same : x ≡ y =
           value_same program m terms number p.reading x y i (here.held.held_is ∙ ap (λ j. Some j) one) held_y here.among (λ t term. own y t (contains_first y ys) term) in
-          let more : zs ≡ ys = later zs rest (second_holds (holds program m n q.0 i) others k) in
-          sym (one_some (x ∷ zs) xs (sym (ap (option_map (λ rs. x ∷ rs)) rest) ∙ all)) ∙ ap (λ z. z ∷ zs) same ∙ ap (λ rs. y ∷ rs) more
+          let more : zs ≡ ys = later zs rest (second_true (holds program m n q.0 i) others k) in
+          sym (same_Some (x ∷ zs) xs (sym (ap (option_map (λ rs. x ∷ rs)) rest) ∙ all)) ∙ ap (λ z. z ∷ zs) same ∙ ap (λ rs. y ∷ rs) more
 
   -- ---- a term that is made
 
@@ -174,7 +178,7 @@ module _ (metas : List MetaDesc) (program : Program) (sources models : List Mode
       let (u, among, number_is) = p.reading.all class n made.managed has_object.conforms in
       let holds_own = p.reading.holds u n among number_is in
       let same_class : class ≡ (out-Term u).class.0 = one_class class (out-Term u).class.0 n props holds_own.props made.managed key holds_own.key has_object.conforms holds_own.conforms in
-      let same_props : props ≡ holds_own.props = one_some props holds_own.props (sym key ∙ ap (key_of program) same_class ∙ holds_own.key) in
+      let same_props : props ≡ holds_own.props = same_Some props holds_own.props (sym key ∙ ap (key_of program) same_class ∙ holds_own.key) in
       let same_keys : xs ≡ (out-Term u).keys =
       keys_same (key_value program sources (target_items program rel) (record { values = vs; scope = scope }) v) n
       (λ q x gives. key_held metas program sources models m terms number rel roots b c g p fix vs fit v n q x has_object.at gives) props xs (out-Term u).keys
@@ -187,7 +191,7 @@ module _ (metas : List MetaDesc) (program : Program) (sources models : List Mode
         datum = object_datum program.target n;
         at = has_object.at;
         read = ap (read_value program number) same ∙ ap (read_part program number) (out_term u) ∙ ap (option_map (λ j. object_datum program.target j)) number_is;
-        among = λ t term. subst (Contains terms) (one_some u t (sym (ap term_part (out_term u)) ∙ sym (ap term_in same) ∙ term)) among;
+        among = λ t term. subst (Contains terms) (same_Some u t (sym (ap term_part (out_term u)) ∙ sym (ap term_in same) ∙ term)) among;
         of_sources = λ d datum. absurd (nothing_some d (sym (ap datum_part (out_term u)) ∙ sym (ap datum_in same) ∙ datum));
       }
 
@@ -199,7 +203,7 @@ module _ (metas : List MetaDesc) (program : Program) (sources models : List Mode
           → all_given (map (key_value program sources (target_items program rel) (record { values = vs; scope = scope }) v) props) ≡ o → option_map (keyed class) o ≡ Some x → FitsAt v x
       of_keys class props None typed key given h = absurd (nothing_some x h)
       of_keys class props (Some xs) typed key given h =
-          subst (FitsAt v) (one_some (keyed class xs) x h)
+          subst (FitsAt v) (same_Some (keyed class xs) x h)
           (term_fits vs fit v class props xs (made_here metas program sources models m terms number rel roots b c g p v class below none typed) key given)
 
       of_key : (class : ℕ) (o : Option (List PropId)) → class_of_variable rel v ≡ Some class → key_of program class ≡ o
@@ -218,7 +222,7 @@ module _ (metas : List MetaDesc) (program : Program) (sources models : List Mode
   begin = map (value_or_datum b scope) (variables rel)
 
   given_datum : (out : Out) (d : Datum) (x : TermValue) → out ≡ outs.One d → given_out out ≡ Some x → x ≡ values.Val d
-  given_datum out d x is h = sym (one_some (values.Val d) x (sym (ap given_out is) ∙ h))
+  given_datum out d x is h = sym (same_Some (values.Val d) x (sym (ap given_out is) ∙ h))
 
   -- a datum by an equation
   datum_fits : (v : ℕ) (x : TermValue) → v < length rel.vars → value_of b v ≡ None → given_out (variable scope v) ≡ Some x → FitsAt v x
@@ -234,7 +238,7 @@ module _ (metas : List MetaDesc) (program : Program) (sources models : List Mode
             read = ap (read_value program number) val ∙ ap (read_part program number) (out_datum d);
             among = λ t term. absurd (nothing_some t (sym (ap term_part (out_datum d)) ∙ sym (ap term_in val) ∙ term));
             of_sources = λ e datum.
-                subst (IsOfSources program.target) (one_some d e (sym (ap datum_part (out_datum d)) ∙ sym (ap datum_in val) ∙ datum))
+                subst (IsOfSources program.target) (same_Some d e (sym (ap datum_part (out_datum d)) ∙ sym (ap datum_in val) ∙ datum))
                 (partner_apart metas program sources models m terms number rel roots b c g p v d outside at);
           }
 

@@ -21,14 +21,15 @@ use Rattle.qvtr_semantics.specs.Objects.{is_number_among}
 use Rattle.qvtr_semantics.specs.Bindings.{is_model, is_target_domain}
 use Rattle.qvtr_semantics.specs.Templates.{Values}
 use Rattle.template_match.specs.Sources.{is_target_variable}
-use Rattle.template_match.proofs.ListLaws.{contains_first, contains_later, contains_left, contains_right, find_some, find_none}
+use Rattle.template_match.proofs.ListLaws.{contains_later, contains_left, contains_right, find_some, find_none}
+use Rattle.mof_metamodel.proofs.Facts.{contains_first}
 use Rattle.template_match.proofs.SideLaws.{Valued}
 use Rattle.enforcement_rules.specs.declared.standing.Place.{Place}
 use Rattle.enforcement_rules.specs.TargetParts.{Stands}
 use Rattle.enforcement_rules.specs.Patterns.{HasConcreteTemplate}
 use Rattle.enforcement_rules.specs.Rules.{Breaks}
 use Rattle.evaluation_laws.proofs.NavigationLaws.{among as among_number}
-use Rattle.evaluation_laws.proofs.ProgramLaws.{contained}
+use Rattle.mof_metamodel.proofs.Facts.{contains_at}
 use Rattle.source_laws.proofs.RuleLaws.{target_is}
 use Rattle.repair_semantics.specs.declared.term.Term.{Term}
 use Rattle.repair_semantics.specs.EntryValues.{TermValues, value_of}
@@ -36,13 +37,10 @@ use Rattle.repair_semantics.specs.TargetItems.{Content, TargetItem, ContentPart,
 use Rattle.repair_semantics.specs.Deletions.{root_if_top, managed_variables, classes_in, managed_classes}
 use Rattle.repair_semantics.proofs.ItemLaws.{content_of, item_of, item_is, of_template}
 use Rattle.reading_laws.specs.Readings.{Numbering}
-use Rattle.reading_laws.proofs.MeetingValues.{nothing_some, one_some}
+use Rattle.reading_laws.proofs.MeetingValues.{nothing_some}
+use Rattle.std.proofs.lemmas.Option.{same_Some}
 use Rattle.reading_laws.proofs.PartnerValues.{stable, there_number, class_of_type, IsPartnered, meant, kind_of, universal_given, target_of_model, root_template}
-
--- ---- lists
-
-nothing_in : {X : Type 0} (x : X) → Contains [] x → ⊥
-nothing_in x (k, below, is) = omega (arith, below)
+use Rattle.mof_metamodel.proofs.Facts.{nothing_in}
 
 contains_filter_map : {X Y : Type 0} (f : X → Option Y) (xs : List X) (x : X) (y : Y) → Contains xs x → f x ≡ Some y → Contains (filter_map f xs) y
 contains_filter_map f [] x y c is = absurd (nothing_in x c)
@@ -161,7 +159,7 @@ module _ (metas : List MetaDesc) (program : Program) (sources models : List Mode
       by : (dom : Dom) (root : Tmpl) → IsTargetDomain program rel dom → dom.template ≡ Some root → IsPlaced root None made.t made.at → Contains (root_if_top program rel ++ nested_variables program rel) v
       by dom root of has (IsPlaced.whole there same) =
           let (t, has_t, var) = root_template metas program sources models m terms number rel roots b c g p dom of in
-          let one : t ≡ root = one_some t root (sym has_t ∙ has) in
+          let one : t ≡ root = same_Some t root (sym has_t ∙ has) in
           contains_left v (root_if_top program rel) (nested_variables program rel)
           (top_root rel.top refl dom of (sym var ∙ ap (λ x. (out-Tmpl x).var) (one ∙ same) ∙ made.var))
       by dom root of has (IsPlaced.inside place there among) =
@@ -212,7 +210,7 @@ module _ (metas : List MetaDesc) (program : Program) (sources models : List Mode
             target = stable (is_target_variable program rel v)
                 (λ no. made (λ t. no (target_of_model metas program sources models m terms number rel roots b c g p v t.of_target.var t.of_target.found t.of_target.target)));
             existential = existential;
-            managed = contains_flat (λ r. classes_in program r (nested_variables program r)) program.rels rel class (contained program.rels p.place rel p.found) classes;
+            managed = contains_flat (λ r. classes_in program r (nested_variables program r)) program.rels rel class (contains_at program.rels p.place rel p.found) classes;
             valued = x;
             typed = of_type;
           }

@@ -30,7 +30,8 @@ use Rattle.repair_semantics.specs.Conflicts.{held_in}
 use Rattle.repair_semantics.specs.Images.{same_number, holds}
 use Rattle.repair_semantics.specs.Candidates.{held_by_number}
 use Rattle.reading_laws.specs.Readings.{Numbering, held_as, read_part, read_value}
-use Rattle.reading_laws.proofs.MeetingValues.{nothing_some, one_some}
+use Rattle.reading_laws.proofs.MeetingValues.{nothing_some}
+use Rattle.std.proofs.lemmas.Option.{same_Some}
 
 any_mapped : {X Y : Type 0} (f : X → Y) (p : Y → Bool) (q : X → Bool) (xs : List X) → ((x : X) → p (f x) ≡ q x) → list_any p (map f xs) ≡ list_any q xs
 any_mapped f p q [] h = refl
@@ -158,7 +159,7 @@ module _ (program : Program) (models : List ModelData) (m : ModelData) (at : sli
   read_object : (number : Numbering) (t : Term) (d : Datum) (o : Option ℕ) → number t ≡ o → option_map (λ n. object_datum program.target n) o ≡ Some d
       → (k : ℕ) × (number t ≡ Some k) × (d ≡ object_datum program.target k)
   read_object number t d None is h = absurd (nothing_some d h)
-  read_object number t d (Some k) is h = (k, is, sym (one_some (object_datum program.target k) d h))
+  read_object number t d (Some k) is h = (k, is, sym (same_Some (object_datum program.target k) d h))
 
   pub read_held : (number : Numbering) (n p : ℕ) (x : TermValue) (d : Datum) → read_value program number x ≡ Some d → ((e : Datum) → datum_in x ≡ Some e → IsOfSources program.target e)
       → stands_at n p d ≡ true → IsHeldAt number n p x
@@ -168,7 +169,7 @@ module _ (program : Program) (models : List ModelData) (m : ModelData) (at : sli
       by (of.Val e) is = record {
         held = Held.datum e;
         held_is = ap (λ z. held_by_number number (held_in z)) is;
-        holds = holds_datum n p e (apart e (ap datum_part is)) (subst (λ z. stands_at n p z ≡ true) (sym (one_some e d (sym (ap (read_part program number) is) ∙ read))) stands);
+        holds = holds_datum n p e (apart e (ap datum_part is)) (subst (λ z. stands_at n p z ≡ true) (sym (same_Some e d (sym (ap (read_part program number) is) ∙ read))) stands);
       }
       by (of.Term t) is =
           let (k, has_number, same) = read_object number t d (number t) refl (sym (ap (read_part program number) is) ∙ read) in
@@ -192,7 +193,7 @@ module _ (program : Program) (models : List ModelData) (m : ModelData) (at : sli
 
       by : (y : of.TermValue-F TermValue Term) → out-TermValue x ≡ y → IsHeldAt number n p x
       by (of.Val e) is =
-          let same : e ≡ object_datum program.target a = one_some e (object_datum program.target a) (sym (ap (read_part program number) is) ∙ read) in
+          let same : e ≡ object_datum program.target a = same_Some e (object_datum program.target a) (sym (ap (read_part program number) is) ∙ read) in
           absurd (subst (IsOfSources program.target) same (apart e (ap datum_part is)) refl)
       by (of.Term t) is =
           let (k, has_number, same) = read_object number t (object_datum program.target a) (number t) refl (sym (ap (read_part program number) is) ∙ read) in

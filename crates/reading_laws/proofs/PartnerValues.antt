@@ -47,7 +47,8 @@ use Rattle.repair_semantics.specs.Making.{variables}
 use Rattle.repair_semantics.specs.Entries.{TermSource}
 use Rattle.reading_laws.specs.Readings.{Numbering, IsReading, AreOver, read_part, read_value, Reads}
 use Rattle.reading_laws.proofs.MeetingTypes.{below_vars}
-use Rattle.reading_laws.proofs.MeetingValues.{nothing_some, one_some, out_datum, out_term, from_datum, datum_from}
+use Rattle.reading_laws.proofs.MeetingValues.{nothing_some, out_datum, out_term, from_datum, datum_from}
+use Rattle.std.proofs.lemmas.Option.{same_Some}
 
 -- ---- lists
 
@@ -64,7 +65,7 @@ there_number n ns c = any_at (λ k. k == n) ns n (eq-eqb n n refl) c
 -- ---- object variables
 
 pub class_of_type : (ty : Ty) (class : ℕ) → class_in ty ≡ Some class → (meta : ℕ) × (c : ClassId) × (ty ≡ types.Class meta c) × (c.0 ≡ class)
-class_of_type (types.Class meta c) class h = (meta, c, refl, one_some c.0 class h)
+class_of_type (types.Class meta c) class h = (meta, c, refl, same_Some c.0 class h)
 class_of_type ty class h = absurd (nothing_some class h)
 
 -- what an object variable may have is an object of its model and class
@@ -198,7 +199,7 @@ module _ (metas : List MetaDesc) (program : Program) (sources models : List Mode
   universal_datum v c outside =
       let (d, at) = source_datum v c outside in
       let fits = given_fits v (values.Val d) at in
-      let same : fits.datum ≡ d = one_some fits.datum d (sym fits.read ∙ ap (read_part program number) (out_datum d)) in
+      let same : fits.datum ≡ d = same_Some fits.datum d (sym fits.read ∙ ap (read_part program number) (out_datum d)) in
       (d, at, fits.at ∙ ap (λ e. Some e) same)
 
   pub places : length g ≡ length rel.vars
@@ -211,9 +212,9 @@ module _ (metas : List MetaDesc) (program : Program) (sources models : List Mode
       by : (Contains rel.universal v) ⊎ ((¬ IsUniversal program rel v) × Valued program models rel g v) → IsOfSources program.target d
       by (inl c) =
           let (e, given, there) = universal_datum v c outside in
-          subst (IsOfSources program.target) (one_some e d (sym there ∙ at)) (p.own v e given)
+          subst (IsOfSources program.target) (same_Some e d (sym there ∙ at)) (p.own v e given)
       by (inr (none, x)) =
-          subst (IsOfSources program.target) (one_some x.value d (sym x.at ∙ at))
+          subst (IsOfSources program.target) (same_Some x.value d (sym x.at ∙ at))
           (fits_sources program models x.var x.value (sym (ap (is_of_target program) x.found) ∙ outside) x.fits)
 
   -- a variable for objects of the target has one
@@ -223,7 +224,7 @@ module _ (metas : List MetaDesc) (program : Program) (sources models : List Mode
     where
       read_object : (t : Term) (o : Option ℕ) (e : Datum) → number t ≡ o → option_map (λ n. object_datum program.target n) o ≡ Some e → (n : ℕ) × (e ≡ object_datum program.target n)
       read_object t None e is h = absurd (nothing_some e h)
-      read_object t (Some n) e is h = (n, sym (one_some (object_datum program.target n) e h))
+      read_object t (Some n) e is h = (n, sym (same_Some (object_datum program.target n) e h))
 
       by : (Contains rel.universal v) ⊎ ((¬ IsUniversal program rel v) × Valued program models rel g v) → (n : ℕ) × (value_at g v ≡ Some (object_datum program.target n))
       by (inl c) =
@@ -232,7 +233,7 @@ module _ (metas : List MetaDesc) (program : Program) (sources models : List Mode
           let (n, is) = read_object t (number t) fits.datum refl (sym (ap (read_part program number) (out_term t)) ∙ fits.read) in
           (n, fits.at ∙ ap (λ e. Some e) is)
       by (inr (none, x)) =
-          let same : x.var ≡ var = one_some x.var var (sym x.found ∙ found) in
+          let same : x.var ≡ var = same_Some x.var var (sym x.found ∙ found) in
           let (k, n, is, model, of) = object_for (setting program models) x.var class x.value (ap (λ (y : Var). class_in y.ty) same ∙ typed) x.fits in
           let one : k ≡ program.target = model_is x.var.model k program.target model (sym (ap (is_of_target program) x.found) ∙ target) in
           (n, x.at ∙ ap (λ e. Some e) (is ∙ ap (λ j. object_datum j n) one))

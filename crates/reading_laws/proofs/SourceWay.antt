@@ -30,7 +30,8 @@ use Rattle.source_laws.proofs.BindingLaws.{meets_same}
 use Rattle.source_laws.proofs.RuleLaws.{rule_keeps}
 use Rattle.reading_laws.specs.Readings.{Numbering, IsReading, AreOver, HasTermsAmong, Reads, read_value}
 use Rattle.reading_laws.specs.Roots.{HasRootsOf}
-use Rattle.reading_laws.proofs.MeetingValues.{KindOf, kind_of, data_at, length_data, datum_from, datum_to, term_to, all_hold, both_hold, read_datum, read_term, read_from}
+use Rattle.reading_laws.proofs.MeetingValues.{KindOf, kind_of, data_at, length_data, datum_from, datum_to, term_to, all_hold, read_datum, read_term, read_from}
+use Rattle.std.proofs.lemmas.Bool.{and_from}
 use Rattle.reading_laws.proofs.MeetingObjects.{object_fits}
 use Rattle.reading_laws.proofs.MeetingEntries.{term_is_target}
 
@@ -121,8 +122,8 @@ module _ (metas : List MetaDesc) (program : Program) (sources models : List Mode
             let (e, here, is_read) = read.given v x (source.extends v x root) in
             here ∙ sym is_read ∙ same;
         no_others = no_others;
-        meets = both_hold (have_values program models rel rel.universal c && list_all (source_meets program models c) rel.domains) (list_all (conjunct_holds program models c) rel.whens)
-            (both_hold (have_values program models rel rel.universal c) (list_all (source_meets program models c) rel.domains)
+        meets = and_from (have_values program models rel rel.universal c && list_all (source_meets program models c) rel.domains) (list_all (conjunct_holds program models c) rel.whens)
+            (and_from (have_values program models rel rel.universal c) (list_all (source_meets program models c) rel.domains)
             (all_hold (λ v. is_value_for (setting program models) (slice_get rel.vars v) (value_at c v)) rel.universal (λ v universal. values_by inner.0 v universal (is_target_variable program rel v) refl))
             inner.1)
             outer.1;

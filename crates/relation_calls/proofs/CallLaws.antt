@@ -29,7 +29,7 @@ use Rattle.qvtr_semantics.specs.Strata.{HasFewer}
 use Rattle.qvtr_semantics.proofs.StrataLaws.{strata_enough}
 use Rattle.template_match.specs.Posed.{HasValue}
 use Rattle.relation_calls.specs.Askable.{IsFormed, IsAskable, stratum_in, stratum_of, AreBelow}
-use Rattle.relation_calls.proofs.ListLaws.{contains_at}
+use Rattle.mof_metamodel.proofs.Facts.{contains_at}
 
 same_rel : (a b : Rel) → Some a ≡ Some b → a ≡ b
 same_rel a b e = cc

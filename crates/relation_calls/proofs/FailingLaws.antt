@@ -22,7 +22,8 @@ use Rattle.qvtr_semantics.specs.Satisfaction.{IsTop, Failing, LeastFailing, come
 use Rattle.ocl_eval.specs.Order.{datum_order}
 use Rattle.ocl_eval.specs.OrderLaws.{before_by_order, order_total}
 use Rattle.template_match.specs.Search.{values_of}
-use Rattle.template_match.proofs.ListLaws.{contains_first, contains_later}
+use Rattle.template_match.proofs.ListLaws.{contains_later}
+use Rattle.mof_metamodel.proofs.Facts.{contains_first}
 use Rattle.template_match.proofs.PublicLaws.{one_source_or_less}
 use Rattle.relation_calls.specs.declared.outcome.Outcome.{Outcome}
 use Rattle.relation_calls.specs.declared.outcome.Outcome.TheVariants as outcomes

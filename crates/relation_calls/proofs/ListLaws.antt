@@ -4,13 +4,7 @@ use Rattle.std.proofs.Common.{refl, sym, ap, ◌∙◌, arith, inl, inr}
 use Rattle.std.proofs.Math.Seq.{take-suc}
 use Rattle.std.proofs.lemmas.List.Elements.{Contains-append_cases}
 use Rattle.std.proofs.lemmas.Option.{slice_get_within, get_or_from_slice_get}
-
-pub contains_at : {X : Type 0} (xs : List X) (k : ℕ) (x : X) → slice_get xs k ≡ Some x → Contains xs x
-contains_at xs k x is = (k, slice_get_within xs k x is, get_or_from_slice_get xs k x x is)
-
-pub only_one : {X : Type 0} (x y : X) → Contains (x ∷ []) y → x ≡ y
-only_one x y (zero, within, is) = is
-only_one x y (suc k, within, is) = absurd (omega (arith, within))
+use Rattle.mof_metamodel.proofs.Facts.{contains_at, only_one, contains_map}
 
 -- an element of a list with one more at its end
 pub before_or_last : {X : Type 0} (xs : List X) (x y : X) → Contains (xs ++ x ∷ []) y → Contains xs y ⊎ (x ≡ y)
@@ -27,11 +21,6 @@ map_append f (x ∷ xs) ys = ap (λ zs. f x ∷ zs) (map_append f xs ys)
 pub one_more : {X Y : Type 0} (f : X → Y) (xs : List X) (i j : ℕ) (x : X) → j ≡ suc i → i < length xs → x ≡ get_or xs i x → map f (take j xs) ≡ map f (take i xs) ++ f x ∷ []
 one_more f xs i j x next within is =
     ap (λ k. map f (take k xs)) next ∙ ap (map f) (take-suc xs i x within) ∙ map_append f (take i xs) (get_or xs i x ∷ []) ∙ ap (λ y. map f (take i xs) ++ f y ∷ []) (sym is)
-
-pub map_contains : {X Y : Type 0} (f : X → Y) (xs : List X) (x : X) → Contains xs x → Contains (map f xs) (f x)
-map_contains f [] x (k, within, is) = absurd (omega (arith, within))
-map_contains f (y ∷ ys) x (zero, within, is) = (zero, omega arith, ap f is)
-map_contains f (y ∷ ys) x (suc k, within, is) = let (j, below, same) = map_contains f ys x (k, omega (arith, within), is) in (suc j, omega (arith, below), same)
 
 -- a loop that has come to the end
 pub all_taken : {X : Type 0} (xs : List X) (i : ℕ) → length xs ≤ i → take i xs ≡ xs

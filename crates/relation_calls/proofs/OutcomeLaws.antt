@@ -13,7 +13,8 @@ use Rattle.qvtr_semantics.specs.declared.binding.Binding.{Binding}
 use Rattle.qvtr_semantics.specs.Templates.{Values}
 use Rattle.qvtr_semantics.specs.Calls.{RelationCall, AllAsked, Of, SourceMatches, TargetHolds, Match, HoldsFor, calls_of}
 use Rattle.template_match.specs.Search.{values_of}
-use Rattle.template_match.proofs.ListLaws.{contains_first, contains_later, any_from, any_at}
+use Rattle.template_match.proofs.ListLaws.{contains_later, any_from, any_at}
+use Rattle.mof_metamodel.proofs.Facts.{contains_first}
 use Rattle.relation_calls.specs.declared.outcome.Outcome.{Outcome}
 use Rattle.relation_calls.specs.declared.outcome.Outcome.TheVariants as outcomes
 use Rattle.relation_calls.specs.declared.found.Found.{Found}

@@ -18,13 +18,15 @@ use Rattle.relation_calls.specs.Faults.{IsFault}
 use Rattle.relation_calls.specs.Askable.{AreBelow}
 use Rattle.relation_calls.specs.Links.{AreLinked}
 use Rattle.relation_calls.specs.Outcomes.{IsOutcome, AreOutcomes}
-use Rattle.relation_calls.proofs.ListLaws.{only_one, one_more, all_taken, item_of, map_contains}
+use Rattle.relation_calls.proofs.ListLaws.{one_more, all_taken, item_of}
+use Rattle.mof_metamodel.proofs.Facts.{contains_map}
+use Rattle.mof_metamodel.proofs.Facts.{only_one}
 use Rattle.relation_calls.proofs.VisitLaws.{Chains, ByCalls, ByValues, fault_in, all_more, any_more, clean_calls, clean_values, by_call, below_one}
 use Rattle.relation_calls.proofs.OutcomeLaws.{outcomes_more}
 
 module _ (calls : List (Option CallName)) (i : ℕ) (call : Option CallName) (within : i < length calls) (is : call ≡ get_or calls i call) where
   here : Contains (calls_named calls) (option_map call_named call)
-  here = map_contains (λ c. option_map call_named c) calls call (item_of calls i call within is)
+  here = contains_map (λ c. option_map call_named c) calls call (item_of calls i call within is)
 
   next_calls : (j : ℕ) → j ≡ suc i → calls_named (take j calls) ≡ calls_named (take i calls) ++ option_map call_named call ∷ []
   next_calls j next = one_more (λ c. option_map call_named c) calls i j call next within is
@@ -57,7 +59,7 @@ calls_clean calls i past D h = subst (λ cs. AreClean (ByCalls D (calls_named cs
 
 module _ (bs : List Binding) (i : ℕ) (b : Binding) (within : i < length bs) (is : b ≡ get_or bs i b) where
   pub value_here : Contains (values_of bs) b.values
-  value_here = map_contains (λ (x : Binding). x.values) bs b (item_of bs i b within is)
+  value_here = contains_map (λ (x : Binding). x.values) bs b (item_of bs i b within is)
 
   next_values : (j : ℕ) → j ≡ suc i → values_of (take j bs) ≡ values_of (take i bs) ++ b.values ∷ []
   next_values j next = one_more (λ (x : Binding). x.values) bs i j b next within is

@@ -21,7 +21,8 @@ use Rattle.relation_calls.specs.Askable.{AreBelow}
 use Rattle.relation_calls.specs.Visits.{IsSourceBinding}
 use Rattle.template_match.specs.declared.side.Side.TheVariants as sides
 use Rattle.template_match.proofs.SideLaws.{meets_parts, valued}
-use Rattle.relation_calls.proofs.ListLaws.{only_one, before_or_last}
+use Rattle.relation_calls.proofs.ListLaws.{before_or_last}
+use Rattle.mof_metamodel.proofs.Facts.{only_one}
 
 abbrev pub Chains : Type 1
 Chains = List RelationCall → Type 0

@@ -15,7 +15,8 @@ use Rattle.qv_syntax.specs.declared.program.Rel.{Rel}
 use Rattle.qv_syntax.specs.declared.program.Conj.{Conj}
 use Rattle.qv_syntax.specs.declared.program.Conj.TheVariants as conjuncts
 use Rattle.qvtr_semantics.specs.Outs.{all_given}
-use Rattle.template_match.proofs.ListLaws.{contains_first, contains_later}
+use Rattle.template_match.proofs.ListLaws.{contains_later}
+use Rattle.mof_metamodel.proofs.Facts.{contains_first}
 use Rattle.enforcement_rules.specs.ExpressionTests as rules
 use Rattle.repair_semantics.specs.declared.term.TermValue.{TermValue}
 use Rattle.repair_semantics.specs.declared.entry.Entry.{Entry}

@@ -18,7 +18,10 @@ use Rattle.qv_syntax.specs.declared.program.Program.{Program}
 use Rattle.qvtr_semantics.specs.declared.datum.Datum.{Datum}
 use Rattle.qvtr_semantics.specs.Objects.{is_number_among, is_kind_of, conforms_if, conforms_at}
 use Rattle.evaluation_laws.proofs.NavigationLaws.{among}
-use Rattle.enforcement_rules.proofs.ListLaws.{and_both, or_first, any_here, within_some, some_among}
+use Rattle.enforcement_rules.proofs.ListLaws.{any_here, within_some}
+use Rattle.mof_metamodel.proofs.Facts.{contains_at}
+use Rattle.std.proofs.lemmas.Bool.{and_from}
+use Rattle.std.proofs.lemmas.Bool.{or_left}
 use Rattle.repair_semantics.specs.declared.term.Term.{Term, out-Term}
 use Rattle.repair_semantics.specs.declared.term.TermValue.{TermValue, out-TermValue}
 use Rattle.repair_semantics.specs.declared.term.TermValue.TheOpen as of
@@ -194,7 +197,7 @@ module _ (program : Program) (m : ModelData) (demands : List Demand) where
     keys_held t n at (p ∷ ps) (x ∷ xs) are =
         let (h, is, held) = key_held t n at p x are.0 in
         ap (λ o. holds_key program made n (p ∷ ps) (o ∷ map (held_as number) xs)) is
-        ∙ and_both (holds program made n p.0 h) (holds_key program made n ps (map (held_as number) xs)) held (keys_held t n at ps xs are.1)
+        ∙ and_from (holds program made n p.0 h) (holds_key program made n ps (map (held_as number) xs)) held (keys_held t n at ps xs are.1)
 
     -- ---- no other objects of these classes
 
@@ -204,13 +207,13 @@ module _ (program : Program) (m : ModelData) (demands : List Demand) where
       where
         unneeded : is_number_among n (images_of program m terms) ≡ false → is_unneeded m (managed_classes program) (images_of program m terms) n ≡ true
         unneeded none =
-            and_both (list_any (λ c. conforms_at m c n) (managed_classes program)) (not (is_number_among n (images_of program m terms)))
+            and_from (list_any (λ c. conforms_at m c n) (managed_classes program)) (not (is_number_among n (images_of program m terms)))
             (any_here (λ c. conforms_at m c n) (managed_classes program) class managed conforms) (ap not none)
 
         deleted : (k : ℕ) → is_unneeded m (managed_classes program) (images_of program m terms) n ≡ true → is_deleted_within m (managed_classes program) (images_of program m terms) k n ≡ true
         deleted zero h = h
         deleted (suc k) h =
-            or_first (is_unneeded m (managed_classes program) (images_of program m terms) n)
+            or_left (is_unneeded m (managed_classes program) (images_of program m terms) n)
             (not (is_number_among n (images_of program m terms)) && option_map_or (is_deleted_within m (managed_classes program) (images_of program m terms) k) (container_of m n) false) h
 
         gone : (a b : Bool) → (a && not b) ≡ true → b ≡ true → ⊥
@@ -261,7 +264,7 @@ module _ (program : Program) (m : ModelData) (demands : List Demand) where
         by : (n - length m.objects < length (fresh_terms program m terms)) ⊎ (length (fresh_terms program m terms) ≤ n - length m.objects) → (t : Term) × Contains terms t × (number t ≡ Some n)
         by (inl l) =
             let t = within_some (fresh_terms program m terms) (n - length m.objects) l in
-            let kept = from_filter (λ u. is_none (image program m u)) terms t.0 (some_among (fresh_terms program m terms) (n - length m.objects) t.0 t.1) in
+            let kept = from_filter (λ u. is_none (image program m u)) terms t.0 (contains_at (fresh_terms program m terms) (n - length m.objects) t.0 t.1) in
             numbered t.0 t.1 kept.0 (without (image program m t.0) kept.1)
         by (inr le) =
             absurd (true≢false (sym (class_there (object_at made n) class conforms) ∙ ap (λ (x : Option Object). is_some x)

@@ -7,7 +7,8 @@ use Rattle.mof_metamodel.specs.Metamodels.{prop_at, type_of, opposite_of}
 use Rattle.object_tables.specs.Models.{ModelData, is_class_type, values_at, partners_at, IsLinked, IsContainedIn}
 use Rattle.object_tables.specs.Validity.{Valid}
 use Rattle.object_tables.proofs.KeptLemmas.{sound_of, linked_reference}
-use Rattle.template_match.proofs.ListLaws.{contains_first, contains_later}
+use Rattle.template_match.proofs.ListLaws.{contains_later}
+use Rattle.mof_metamodel.proofs.Facts.{contains_first}
 use Rattle.qv_syntax.specs.declared.program.Program.{Program}
 use Rattle.qvtr_semantics.specs.declared.datum.Datum.{Datum}
 use Rattle.qvtr_semantics.specs.Objects.{value_datum}
@@ -16,7 +17,9 @@ use Rattle.repair_semantics.specs.TargetItems.{target_meta_number}
 use Rattle.repair_semantics.specs.Claims.{Held, Spot, Said, Claim, part_claim, opposite_claims, claims_of, is_single_spot, same_held, same_spot, same_said, are_against, is_against}
 use Rattle.repair_semantics.specs.Images.{same_number, held_in, holds}
 use Rattle.repair_semantics.specs.Candidates.{fact_at}
-use Rattle.reading_laws.proofs.HeldLaws.{first_holds, second_holds, one_held, few_held}
+use Rattle.reading_laws.proofs.HeldLaws.{one_held, few_held}
+use Rattle.mof_metamodel.proofs.Facts.{second_true}
+use Rattle.mof_metamodel.proofs.Facts.{first_true}
 
 -- ---- tests
 
@@ -127,8 +130,8 @@ module _ (program : Program) (m : ModelData) where
 
     one_said : (s t : Spot ℕ) (x y : Said ℕ) → SaidStands s x → SaidStands t y → same_spot same_number s t ≡ true → is_single_spot m.meta s ≡ true → same_said same_number x y ≡ true
     one_said (Spot.slot a p) (Spot.slot b q) (Said.element h) (Said.element i) here there same single =
-        let objects : a ≡ b = one_number a b (first_holds (a == b) (p == q) same) in
-        let props : p ≡ q = one_number p q (second_holds (a == b) (p == q) same) in
+        let objects : a ≡ b = one_number a b (first_true (a == b) (p == q) same) in
+        let props : p ≡ q = one_number p q (second_true (a == b) (p == q) same) in
         let there : holds program m a p i ≡ true = ap (λ o. holds program m o p i) objects ∙ ap (λ r. holds program m b r i) props ∙ there in
         let one : h ≡ i = one_held (held_in program m a p) h i (few_held program m a p valid single) here there in
         ap (λ x. same_held same_number h x) (sym one) ∙ held_itself h

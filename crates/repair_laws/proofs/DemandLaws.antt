@@ -8,7 +8,8 @@ use Rattle.mof_metamodel.specs.Metamodels.{props_of}
 use Rattle.object_tables.specs.Objects.{Object}
 use Rattle.object_tables.specs.Models.{ModelData, object_at}
 use Rattle.qv_syntax.specs.declared.program.Program.{Program}
-use Rattle.template_match.proofs.ListLaws.{contains_first, contains_later, contains_left, contains_right}
+use Rattle.template_match.proofs.ListLaws.{contains_later, contains_left, contains_right}
+use Rattle.mof_metamodel.proofs.Facts.{contains_first}
 use Rattle.repair_semantics.specs.declared.term.Term.{Term}
 use Rattle.repair_semantics.specs.declared.demand.Demand.{Demand}
 use Rattle.repair_semantics.specs.Demands.{demanded_terms}

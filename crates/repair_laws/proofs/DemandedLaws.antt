@@ -16,6 +16,7 @@ use Rattle.repair_semantics.specs.Deletions.{images_of, is_unneeded, is_deleted_
 use Rattle.repair_semantics.specs.CandidateObjects.{CandidateObject, fresh_terms, number_of, term_number}
 use Rattle.repair_semantics.proofs.TieLaws.{ties_are_one}
 use Rattle.repair_laws.proofs.ImageLaws.{image_conforms}
+use Rattle.std.proofs.lemmas.Bool.{or_right}
 
 -- ---- places in lists
 
@@ -34,10 +35,6 @@ position_there p xs k d within h =
     let below : nat_lt (position_or_len p xs) (length xs) ≡ true = grind (arith, nat_tests) in
     (position_or_len p xs, ap (λ b. cond b (Some (position_or_len p xs)) None) below)
 
-or_true : (a b : Bool) → b ≡ true → (a || b) ≡ true
-or_true true b h = refl
-or_true false b h = h
-
 and_false : (a : Bool) → (a && false) ≡ false
 and_false true = refl
 and_false false = refl
@@ -53,7 +50,7 @@ among_given f (x ∷ xs) (suc k) t o within is h = by (f x) (among_given f xs k 
   where
     by : (z : Option ℕ) → is_number_among o (filter_map f xs) ≡ true → is_number_among o (cons_option z (filter_map f xs)) ≡ true
     by None later = later
-    by (Some y) later = or_true (y == o) (is_number_among o (filter_map f xs)) later
+    by (Some y) later = or_right (y == o) (is_number_among o (filter_map f xs)) later
 
 module _ (program : Program) (m : ModelData) (terms : List Term) where
   -- ---- each demanded term has an object

@@ -15,8 +15,11 @@ use Rattle.object_tables.specs.Models.{ModelData, is_class_type, values_at, part
 use Rattle.qv_syntax.specs.declared.program.Program.{Program}
 use Rattle.qvtr_semantics.specs.declared.datum.Datum.{Datum}
 use Rattle.qvtr_semantics.specs.Objects.{value_datum}
-use Rattle.template_match.proofs.ListLaws.{contains_first, contains_later}
-use Rattle.enforcement_rules.proofs.ListLaws.{nothing_in, any_there, any_here, mapped_from, mapped_in}
+use Rattle.template_match.proofs.ListLaws.{contains_later}
+use Rattle.mof_metamodel.proofs.Facts.{contains_first}
+use Rattle.enforcement_rules.proofs.ListLaws.{any_there, any_here, mapped_from}
+use Rattle.mof_metamodel.proofs.Facts.{contains_map}
+use Rattle.mof_metamodel.proofs.Facts.{nothing_in}
 use Rattle.repair_semantics.specs.declared.term.Term.{Term}
 use Rattle.repair_semantics.specs.declared.term.TermValue.{TermValue, out-TermValue}
 use Rattle.repair_semantics.specs.declared.term.TermValue.TheOpen as of
@@ -101,7 +104,7 @@ value_datum_held number x d is = by (out-TermValue x) is
 pub linked_held : (program : Program) (n : ModelData) (a p b : ℕ) → is_class_type (type_of n.meta p) ≡ true → IsLinked n p a b → holds program n a p (Held.object b) ≡ true
 linked_held program n a p b reference linked =
     ap (λ c. list_any (same_held same_number (Held.object b)) (if c then map (λ k. Held.object k) (partners_at n a p) else map (λ v. Held.datum (value_datum (target_meta_number program) v)) (values_at n a p))) reference
-    ∙ any_here (same_held same_number (Held.object b)) (map (λ k. Held.object k) (partners_at n a p)) (Held.object b) (mapped_in (λ k. Held.object k) (partners_at n a p) b linked) (eq-eqb b b refl)
+    ∙ any_here (same_held same_number (Held.object b)) (map (λ k. Held.object k) (partners_at n a p)) (Held.object b) (contains_map (λ k. Held.object k) (partners_at n a p) b linked) (eq-eqb b b refl)
 
 pub held_linked : (program : Program) (n : ModelData) (a p b : ℕ) → holds program n a p (Held.object b) ≡ true → IsLinked n p a b
 held_linked program n a p b h = by (is_class_type (type_of n.meta p)) h

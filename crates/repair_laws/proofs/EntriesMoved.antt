@@ -13,7 +13,8 @@ use Rattle.qv_syntax.specs.declared.program.Conj.TheVariants as conjuncts
 use Rattle.qv_syntax.specs.WellFormed.{IsWellFormed}
 use Rattle.qvtr_semantics.specs.Outs.{all_given}
 use Rattle.qvtr_semantics.specs.Expressions.{variable, scope_of}
-use Rattle.template_match.proofs.ListLaws.{contains_first, contains_later}
+use Rattle.template_match.proofs.ListLaws.{contains_later}
+use Rattle.mof_metamodel.proofs.Facts.{contains_first}
 use Rattle.evaluation_laws.specs.Evaluable.{IsEvaluable}
 use Rattle.enforcement_rules.specs.Rules.{IsEnforceable}
 use Rattle.enforceable_sources.proofs.EnforceableLaws.{enforceable_hands_on}

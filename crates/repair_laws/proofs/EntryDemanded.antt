@@ -9,7 +9,8 @@ use Rattle.object_tables.specs.Models.{ModelData}
 use Rattle.qv_syntax.specs.declared.program.Program.{Program}
 use Rattle.qv_syntax.specs.declared.program.Rel.{Rel}
 use Rattle.qv_syntax.specs.WellFormed.{IsWellFormed}
-use Rattle.template_match.proofs.ListLaws.{contains_first, contains_later}
+use Rattle.template_match.proofs.ListLaws.{contains_later}
+use Rattle.mof_metamodel.proofs.Facts.{contains_first}
 use Rattle.enforcement_rules.specs.TargetParts.{target_desc}
 use Rattle.enforcement_rules.specs.Rules.{IsEnforceable}
 use Rattle.repair_semantics.specs.declared.term.Term.{Term}
@@ -31,7 +32,7 @@ use Rattle.repair_laws.proofs.EntryDemands.{Demanded, of_entry}
 use Rattle.repair_laws.proofs.EntryTerms.{term_alone}
 use Rattle.repair_laws.proofs.EntryGood.{IsGoodEntry, all_good}
 use Rattle.repair_laws.proofs.DemandedTerms.{demanded_in, in_demanded}
-use Rattle.enforcement_rules.proofs.ListLaws.{nothing_in}
+use Rattle.mof_metamodel.proofs.Facts.{nothing_in}
 
 -- ---- the entry and the item of a demand
 

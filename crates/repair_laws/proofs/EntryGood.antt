@@ -14,7 +14,7 @@ use Rattle.qvtr_semantics.specs.declared.datum.Datum.{Datum}
 use Rattle.qvtr_semantics.specs.Templates.{value_at}
 use Rattle.enforcement_rules.specs.TargetParts.{target_desc}
 use Rattle.enforcement_rules.specs.Rules.{IsEnforceable}
-use Rattle.enforcement_rules.proofs.ListLaws.{nothing_in}
+use Rattle.mof_metamodel.proofs.Facts.{nothing_in}
 use Rattle.repair_semantics.specs.declared.entry.Entry.{Entry}
 use Rattle.repair_semantics.specs.declared.entry.EntryName.{EntryName}
 use Rattle.repair_semantics.specs.declared.demand.Demand.{Demand}

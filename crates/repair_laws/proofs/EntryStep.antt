@@ -22,8 +22,8 @@ use Rattle.qvtr_semantics.specs.Objects.{is_number_among, is_kind_of}
 use Rattle.qvtr_semantics.specs.Expressions.{variable}
 use Rattle.qvtr_semantics.specs.Templates.{value_at}
 use Rattle.template_match.specs.Sources.{is_target_variable, source_variables}
-use Rattle.template_match.proofs.ListLaws.{contains_first, contains_left, contains_right}
-use Rattle.source_laws.proofs.BindingLaws as binding
+use Rattle.template_match.proofs.ListLaws.{contains_left, contains_right}
+use Rattle.mof_metamodel.proofs.Facts.{contains_first, contains_at}
 use Rattle.enforcement_rules.specs.TargetParts.{target_desc}
 use Rattle.enforcement_rules.specs.Calls.{IsPassedInWhen, HasWrongArgument}
 use Rattle.enforcement_rules.specs.Rules.{Breaks, IsEnforceable}
@@ -176,7 +176,7 @@ module _ (metas : List MetaDesc) (program : Program) (formed : IsWellFormed meta
         let t = target_variable program rel v target in
         let d = ((meant metas program formed m desc number rel found).wheres.are place v f there).0 in
         let same : d.var ≡ t.var = same_Some d.var t.var (sym d.found ∙ t.found) in
-        let in_model = ((meant metas program formed m desc number rel found).variables.models d.var (binding.among rel.vars v d.var d.found)).data_value d.data_type in
+        let in_model = ((meant metas program formed m desc number rel found).variables.models d.var (contains_at rel.vars v d.var d.found)).data_value d.data_type in
         none-some program.target (sym in_model ∙ ap (λ (y : Var). y.model) same ∙ t.target)
 
     known_datum : (v : ℕ) (x : TermValue) (d : Datum) → value_of k.values v ≡ Some x → datum_in x ≡ Some d → is_target_variable program rel v ≡ false
@@ -250,7 +250,7 @@ module _ (metas : List MetaDesc) (program : Program) (formed : IsWellFormed meta
 
       managed : Contains (managed_classes program) made.class
       managed =
-          to_flat_map (λ r. classes_in program r (nested_variables program r)) program.rels rel made.class (binding.among program.rels number rel found)
+          to_flat_map (λ r. classes_in program r (nested_variables program r)) program.rels rel made.class (contains_at program.rels number rel found)
           (subst (λ b. Contains (if b then filter_map (class_of_variable rel) (managed_variables program rel (nested_variables program rel)) else []) made.class) (sym direction)
           (in_filter_map (class_of_variable rel) (managed_variables program rel (nested_variables program rel)) v made.class
           (Contains-to_filter (λ w. is_number_among w rel.existential) (root_if_top program rel ++ nested_variables program rel) v (number_among rel.existential v existential) placed) made.class_is))

@@ -16,7 +16,8 @@ use Rattle.qvtr_semantics.specs.Objects.{object_datum}
 use Rattle.qvtr_semantics.specs.Templates.{Values, value_at}
 use Rattle.qvtr_semantics.specs.Calls.{RelationCall, SourceMatches, TargetHolds, AllAsked, Of, Match, HoldsFor, calls_of, free}
 use Rattle.qvtr_semantics.specs.Satisfaction.{IsTop, Satisfied}
-use Rattle.template_match.proofs.ListLaws.{contains_first, contains_later}
+use Rattle.template_match.proofs.ListLaws.{contains_later}
+use Rattle.mof_metamodel.proofs.Facts.{contains_first}
 use Rattle.repair_semantics.specs.declared.term.Term.{Term}
 use Rattle.repair_semantics.specs.declared.term.TermValue.{TermValue, out-TermValue, roll-TermValue, roll-out-TermValue, out-roll-TermValue}
 use Rattle.repair_semantics.specs.declared.term.TermValue.TheVariants as values

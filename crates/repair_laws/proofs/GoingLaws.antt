@@ -49,7 +49,6 @@ use Rattle.enforcement_rules.proofs.KnownLaws.{listed_universal}
 use Rattle.enforcement_rules.proofs.RuleLaws.{kept_by_each}
 use Rattle.enforcement_rules.proofs.StandingLaws.{nested_stands}
 use Rattle.source_laws.proofs.BindingLaws.{found_within}
-use Rattle.source_laws.proofs.BindingLaws as binding
 use Rattle.source_laws.proofs.CallLaws.{alone_meaning}
 use Rattle.source_laws.proofs.QueryLaws.{variable_is}
 use Rattle.source_laws.proofs.RuleLaws.{target_is, mapped}
@@ -74,6 +73,7 @@ use Rattle.repair_laws.proofs.EntryGood.{IsGoodEntry}
 use Rattle.repair_laws.proofs.EntryDemanded.{IsAskedBy}
 use Rattle.repair_laws.proofs.TargetVariables.{target_variable, variable_target, keyed_within, template_given, meant, range}
 use Rattle.repair_laws.proofs.DatumTypes.{class_number, class_value, no_reference, object_class, typed_type, class_or_none, related_class, empty_nested, one_out, given_is}
+use Rattle.mof_metamodel.proofs.Facts.{contains_at}
 
 module _ (program : Program) (models : List ModelData) (rel : Rel) (b : TermValues) where
   -- where a variable has no equation, the scope has its datum
@@ -104,7 +104,7 @@ module _ (metas : List MetaDesc) (program : Program) (sources : List ModelData) 
   p = target_item program rel a.item a.there
 
   rel_there : Contains program.rels rel
-  rel_there = binding.among program.rels a.e.rel rel a.found
+  rel_there = contains_at program.rels a.e.rel rel a.found
 
   abbrev domain : IsModelDomain program rel p.dom
   domain =
@@ -171,7 +171,7 @@ module _ (metas : List MetaDesc) (program : Program) (sources : List ModelData) 
       by : (v : IsTargetVariable program rel w) → ((n : ℕ) × (c : ClassId) × (v.var.ty ≡ types.Class n c)) ⊎ IsNoClass v.var.ty → (n : ℕ) × (c : ClassId) × (v.var.ty ≡ types.Class n c)
       by v (inl class) = class
       by v (inr none) =
-          let none_model = ((meant metas program evaluable.well m desc a.e.rel rel a.found).variables.models v.var (binding.among rel.vars w v.var v.found)).data_value none in
+          let none_model = ((meant metas program evaluable.well m desc a.e.rel rel a.found).variables.models v.var (contains_at rel.vars w v.var v.found)).data_value none in
           absurd (none-some program.target (sym none_model ∙ v.target))
 
   asked_class : (e : Typed) (w : ℕ) (x : TermValue) (t : Term) → e ≡ record { ty = e.ty; node = nodes.Variable w } → value_of k.values w ≡ Some x → term_in x ≡ Some t

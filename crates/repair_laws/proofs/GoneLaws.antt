@@ -4,7 +4,7 @@ use Rattle.std.specs.Prelude.{◌≡◌, ◌↔◌, ◌<◌, ◌≤◌, ◌+◌,
 use Rattle.std.specs.List.{find, range_with_len}
 use Rattle.std.specs.Option.{option_map_or}
 use Rattle.std.proofs.Common.{refl, ap, sym, ◌∙◌, subst, arith, inl, inr, true≢false}
-use Rattle.std.proofs.lemmas.Bool.{cases_lt}
+use Rattle.std.proofs.lemmas.Bool.{cases_lt, or_right}
 use Rattle.link_arena.proofs.Members.{IsIn, IsDistinct}
 use Rattle.link_arena.proofs.Threaded.{pigeon}
 use Rattle.object_tables.specs.Models.{ModelData}
@@ -27,10 +27,6 @@ found_below test b (suc n) a h = by (test b) (found_below test (b + 1) n a) h
     by : (t : Bool) → (find test (range_with_len (b + 1) n) ≡ Some a → a < b + 1 + n) → cond t (Some b) (find test (range_with_len (b + 1) n)) ≡ Some a → a < b + suc n
     by true later e = let same = one_found b a e in omega (arith, same)
     by false later e = let below = later e in omega (arith, below)
-
-or_true : (a b : Bool) → b ≡ true → (a || b) ≡ true
-or_true true b h = refl
-or_true false b h = h
 
 module _ (m : ModelData) (classes images : List ℕ) where
   abbrev goes : ℕ → ℕ → Bool
@@ -59,7 +55,7 @@ module _ (m : ModelData) (classes images : List ℕ) where
   through o a n among container h =
       ap (λ b. is_unneeded m classes images o || (not b && option_map_or (is_deleted_within m classes images n) (container_of m o) false)) among
       ∙ ap (λ x. is_unneeded m classes images o || option_map_or (is_deleted_within m classes images n) x false) container
-      ∙ or_true (is_unneeded m classes images o) (is_deleted_within m classes images n a) h
+      ∙ or_right (is_unneeded m classes images o) (is_deleted_within m classes images n a) h
 
   grows : (n o : ℕ) → goes n o ≡ true → goes (suc n) o ≡ true
   grows zero o h = ap (λ b. b || (not (is_number_among o images) && option_map_or (is_deleted_within m classes images 0) (container_of m o) false)) h

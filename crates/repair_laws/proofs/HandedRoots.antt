@@ -54,6 +54,7 @@ use Rattle.repair_laws.proofs.CallTerms.{alone_agrees, IsCallWith, values_given}
 use Rattle.repair_laws.proofs.EntryTerms.{term_alone, given_many}
 use Rattle.repair_laws.proofs.TargetVariables.{target_variable, variable_target, keyed_within, kind_up, declared, meant, range, universal_among}
 use Rattle.repair_laws.proofs.EntryStep.{IsTypedFor, IsGoodTerm, AreGoodValues, AreGoodRoots}
+use Rattle.mof_metamodel.proofs.Facts.{contains_at}
 
 class_type : (ty : Ty) (n : ℕ) → class_in ty ≡ Some n → (meta : ℕ) × (ty ≡ types.Class meta (record { 0 = n }))
 class_type (types.Class meta c) n h = (meta, ap (λ (k : ℕ). let d : ClassId = record { 0 = k } in types.Class meta d) (same_Some c.0 n h))
@@ -102,7 +103,7 @@ module _ (metas : List MetaDesc) (program : Program) (formed : IsWellFormed meta
 
     given : AreGiven metas program from rel rel.domains args
     given =
-        let typed = (formed.typed.relations from (binding.among program.rels place from there)).wheres (conjuncts.Call number args) call in
+        let typed = (formed.typed.relations from (contains_at program.rels place from there)).wheres (conjuncts.Call number args) call in
         subst (λ (r : Rel). AreGiven metas program from r r.domains args) (same_Some typed.called rel (sym typed.found ∙ found_number)) typed.given
 
     rel_roots : (dom : Dom) → Contains rel.domains dom → dom.root < length rel.vars
@@ -112,7 +113,7 @@ module _ (metas : List MetaDesc) (program : Program) (formed : IsWellFormed meta
     many = (values_given program sources k number args c parts).0 ∙ given_many metas program from rel rel.domains args given
 
     listed : (i : ℕ) (dom : Dom) → slice_get rel.domains i ≡ Some dom → Contains rel.domains dom
-    listed i dom is = binding.among rel.domains i dom is
+    listed i dom is = contains_at rel.domains i dom is
 
     bound : c.roots ≡ bound_roots rel parts.xs
     bound = parts.roots ∙ ap (λ r. bound_roots r parts.xs) one
@@ -188,7 +189,7 @@ module _ (metas : List MetaDesc) (program : Program) (formed : IsWellFormed meta
     meta_of_class var v meta class at ty target =
         let t = target_variable program rel v target in
         let same : t.var ≡ var = same_Some t.var var (sym t.found ∙ at) in
-        let (model, slot, of_model, slot_is, slot_meta) = ((meant metas program formed m desc number rel found_number).variables.models var (binding.among rel.vars v var at)).object meta class ty in
+        let (model, slot, of_model, slot_is, slot_meta) = ((meant metas program formed m desc number rel found_number).variables.models var (contains_at rel.vars v var at)).object meta class ty in
         let model_is : model ≡ program.target = same_Some model program.target (sym of_model ∙ ap (λ (y : Var). y.model) (sym same) ∙ t.target) in
         ap (meta_at metas) (sym slot_meta ∙ ap (λ (s : ModelSlot). s.meta) (sym (slot_at program.models program.target slot (ap (slice_get program.models) (sym model_is) ∙ slot_is)))) ∙ desc
 

@@ -13,7 +13,8 @@ use Rattle.object_tables.specs.Validity.{Valid}
 use Rattle.qv_syntax.specs.declared.program.Program.{Program}
 use Rattle.qvtr_semantics.specs.declared.datum.Datum.{Datum}
 use Rattle.qvtr_semantics.specs.Objects.{conforms_if, conforms_at, extent_of}
-use Rattle.template_match.proofs.ListLaws.{contains_first, contains_later}
+use Rattle.template_match.proofs.ListLaws.{contains_later}
+use Rattle.mof_metamodel.proofs.Facts.{contains_first}
 use Rattle.repair_semantics.specs.declared.term.Term.{Term, roll-Term, out-Term, roll-out-Term, out-roll-Term, map-Term, ind-Term}
 use Rattle.repair_semantics.specs.declared.term.TermValue.{TermValue, roll-TermValue, out-TermValue, roll-out-TermValue, out-roll-TermValue, map-TermValue}
 use Rattle.repair_semantics.specs.declared.term.TermValue.TheOpen as of
@@ -25,7 +26,9 @@ use Rattle.repair_semantics.proofs.TermLaws.{image_of_value, image_is, image_of_
 use Rattle.repair_semantics.specs.Deletions.{managed_classes}
 use Rattle.reading_laws.specs.Keyed.{TellsByKeys}
 use Rattle.repair_laws.specs.Closed.{AreClosed}
-use Rattle.reading_laws.proofs.HeldLaws.{first_holds, second_holds, one_held, few_held}
+use Rattle.reading_laws.proofs.HeldLaws.{one_held, few_held}
+use Rattle.mof_metamodel.proofs.Facts.{second_true}
+use Rattle.mof_metamodel.proofs.Facts.{first_true}
 
 -- ---- the first number of a list that passes a test
 
@@ -168,9 +171,9 @@ module _ (program : Program) (m : ModelData) (terms : List Term) (valid : Valid 
       by later (Some h) (Some i) ih ii c d =
           let there = holds_key program m o ps (map (image_of_value program m) (map (λ w. w.0) zs)) in
           let here = holds_key program m o ps (map (image_of_value program m) ys) in
-          let same : h ≡ i = one_held (held_in program m o p.0) h i (few p (contains_first p ps)) (first_holds (holds program m o p.0 h) there c) (first_holds (holds program m o p.0 i) here d) in
+          let same : h ≡ i = one_held (held_in program m o p.0) h i (few p (contains_first p ps)) (first_true (holds program m o p.0 h) there c) (first_true (holds program m o p.0 i) here d) in
           let first : z.0 ≡ y = z.1 (among z.0 (contains_first z.0 (map (λ w. w.0) zs))) y h ih (ii ∙ ap (λ x. Some x) (sym same)) in
-          let rest : map (λ w. w.0) zs ≡ ys = later (second_holds (holds program m o p.0 h) there c) (second_holds (holds program m o p.0 i) here d) in
+          let rest : map (λ w. w.0) zs ≡ ys = later (second_true (holds program m o p.0 h) there c) (second_true (holds program m o p.0 i) here d) in
           ap (λ x. x ∷ map (λ w. w.0) zs) first ∙ ap (λ rs. y ∷ rs) rest
 
   -- ---- terms by the terms within them

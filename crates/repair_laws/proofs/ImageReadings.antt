@@ -8,7 +8,8 @@ use Rattle.object_tables.specs.Models.{ModelData}
 use Rattle.object_tables.proofs.ListLemmas.{map-same}
 use Rattle.qv_syntax.specs.declared.program.Program.{Program}
 use Rattle.qvtr_semantics.specs.Objects.{is_number_among, conforms_at}
-use Rattle.template_match.proofs.ListLaws.{contains_first, contains_later, any_from}
+use Rattle.template_match.proofs.ListLaws.{contains_later, any_from}
+use Rattle.mof_metamodel.proofs.Facts.{contains_first}
 use Rattle.repair_semantics.specs.declared.term.Term.{Term, out-Term, roll-out-Term}
 use Rattle.repair_semantics.specs.declared.term.TermValue.{TermValue, out-TermValue, roll-TermValue, roll-out-TermValue}
 use Rattle.repair_semantics.specs.declared.term.TermValue.TheOpen as of

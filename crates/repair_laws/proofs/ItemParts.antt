@@ -18,8 +18,10 @@ use Rattle.qvtr_semantics.specs.Bindings.{is_target_domain}
 use Rattle.repair_semantics.specs.TargetItems.{Content, TargetItem, ContentPart, TemplatePart, ItemPart, content_part, item_part, template_part, parts, target_domain, target_items}
 use Rattle.repair_semantics.proofs.ItemLaws.{content_of, item_of, of_nothing, of_expression, of_template, item_is}
 use Rattle.mof_metamodel.proofs.PropLemmas.{to_flat_map}
-use Rattle.enforcement_rules.proofs.ListLaws.{nothing_in, mapped_in}
-use Rattle.template_match.proofs.ListLaws.{contains_first, contains_later, find_some}
+use Rattle.mof_metamodel.proofs.Facts.{contains_map}
+use Rattle.mof_metamodel.proofs.Facts.{nothing_in}
+use Rattle.template_match.proofs.ListLaws.{contains_later, find_some}
+use Rattle.mof_metamodel.proofs.Facts.{contains_first}
 
 -- an item that is listed, with the template in which it stands; this is the whole one, or an item that is listed has it
 pub record IsListed (root : Tmpl) (i : TargetItem) : Type 0 where
@@ -143,7 +145,7 @@ in_flat u (x ∷ is) i c =
     by rest (inr d) = let (y, among, within) = rest d in (y, contains_later y.0 x.0 (items_of is) among, within)
 
 flat_in : (u : ℕ) (is : List Item) (item : Item) (j : TargetItem) → Contains is item → Contains (item_of item u) j → Contains (all_listed u is) j
-flat_in u is item j among within = to_flat_map (λ (f : ItemPart). f u) (map item_of is) (item_of item) j (mapped_in item_of is item among) within
+flat_in u is item j among within = to_flat_map (λ (f : ItemPart). f u) (map item_of is) (item_of item) j (contains_map item_of is item among) within
 
 listed_part : (u : ℕ) (is : List Item) (item : Item) (j : TargetItem) → Contains is item → Contains (listed_with item u) j → Contains (all_listed u is) j
 listed_part u is item j among within = flat_in u is item j among (subst (λ (l : List TargetItem). Contains l j) (sym (item_lists item u)) within)

@@ -25,7 +25,6 @@ use Rattle.qvtr_semantics.specs.Objects.{is_kind_of}
 use Rattle.qvtr_semantics.specs.Bindings.{is_target_domain}
 use Rattle.evaluation_laws.proofs.NavigationLaws.{among}
 use Rattle.source_laws.proofs.BindingLaws.{found_within}
-use Rattle.source_laws.proofs.BindingLaws as binding
 use Rattle.source_laws.proofs.RuleLaws.{target_is}
 use Rattle.template_match.proofs.ListLaws.{find_some}
 use Rattle.enforcement_rules.specs.declared.standing.Place.{Place}
@@ -41,6 +40,7 @@ use Rattle.repair_semantics.specs.Deletions.{managed_classes}
 use Rattle.reading_laws.specs.Keyed.{TellsByKeys}
 use Rattle.repair_laws.proofs.ItemParts.{target_item, template_value}
 use Rattle.repair_laws.proofs.ManagedLaws.{lineage_conforms, past_itself, inside_stands, meta_found, key_is, no_key, IsManaged, managed_from, one_content, numbers_agree}
+use Rattle.mof_metamodel.proofs.Facts.{contains_at}
 
 module _ (metas : List MetaDesc) (program : Program) (formed : IsWellFormed metas program) where
   -- ---- the template of a variable of which objects are made
@@ -56,7 +56,7 @@ module _ (metas : List MetaDesc) (program : Program) (formed : IsWellFormed meta
   made_by rel number v class t at found existential class_is var is own =
       let slot = found_within program.models program.target formed.numbers.target in
       let none = listed_existential metas program number rel (formed.relations number rel found)
-      (formed.numbers.relations rel (binding.among program.rels number rel found)).vars v existential in
+      (formed.numbers.relations rel (contains_at program.rels number rel found)).vars v existential in
       let d = (formed.relations number rel found).domains.declared is.dom (record { is = is.of.is; model = program.target; of_model = is.of.target; slot = slot.0; found = slot.1 }) t
       (record { root = is.root; has = is.has; nested = stands_nested is.root None t at is.stands }) in
       record {

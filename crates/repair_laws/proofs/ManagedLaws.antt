@@ -32,11 +32,13 @@ use Rattle.qvtr_semantics.specs.Bindings.{is_target_domain}
 use Rattle.evaluation_laws.proofs.NavigationLaws.{among}
 use Rattle.source_laws.proofs.BindingLaws.{found_within}
 use Rattle.source_laws.proofs.RuleLaws.{target_is}
-use Rattle.template_match.proofs.ListLaws.{contains_first, contains_later, find_some, find_none}
+use Rattle.template_match.proofs.ListLaws.{contains_later, find_some, find_none}
+use Rattle.mof_metamodel.proofs.Facts.{contains_first}
 use Rattle.enforcement_rules.specs.declared.standing.Place.{Place}
 use Rattle.enforcement_rules.specs.TargetParts.{no_slot, target_meta, Stands}
 use Rattle.enforcement_rules.specs.Keys.{IsKeyOf}
-use Rattle.enforcement_rules.proofs.ListLaws.{nothing_in, among_some}
+use Rattle.enforcement_rules.proofs.ListLaws.{among_some}
+use Rattle.mof_metamodel.proofs.Facts.{nothing_in}
 use Rattle.ocl_environments.specs.Environments.{meta_at}
 use Rattle.repair_semantics.specs.TargetItems.{Content, TargetItem, variable_of, target_root, target_items, nested_variables, class_in, class_of_variable, target_meta_number, is_key_of, key_of}
 use Rattle.repair_semantics.specs.Deletions.{root_if_top, managed_variables, classes_in, managed_classes}

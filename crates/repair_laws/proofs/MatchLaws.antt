@@ -14,7 +14,8 @@ use Rattle.qv_syntax.specs.WellFormed.{IsWellFormed}
 use Rattle.qvtr_semantics.specs.declared.datum.Datum.{Datum}
 use Rattle.qvtr_semantics.specs.Templates.{Values, value_at}
 use Rattle.qvtr_semantics.specs.Calls.{RelationCall, SourceMatches, TargetHolds, AllAsked, Match, Holds, free}
-use Rattle.template_match.proofs.ListLaws.{contains_first, contains_later}
+use Rattle.template_match.proofs.ListLaws.{contains_later}
+use Rattle.mof_metamodel.proofs.Facts.{contains_first}
 use Rattle.source_laws.specs.SourceRelations.{KeepsToSources}
 use Rattle.source_laws.specs.TargetRule.{HandsTargetOn}
 use Rattle.source_laws.proofs.RuleLaws.{rule_keeps}
@@ -30,12 +31,10 @@ use Rattle.reading_laws.specs.Readings.{Numbering, read_value, Reads, ReadsCall}
 use Rattle.relation_calls.proofs.CallLaws.{match_is}
 use Rattle.repair_laws.specs.EntryReadings.{IsEntryOf, IsReadAs}
 use Rattle.repair_laws.proofs.RaisedLaws.{over, raised_source, raised_target, raised_calls}
+use Rattle.std.proofs.lemmas.Option.{same_Some}
 
 none_some : {X : Type 0} (x : X) → ◌≡◌ {A = Option X} None (Some x) → ⊥
 none_some x h = cc
-
-some_one : {X : Type 0} (x y : X) → Some x ≡ Some y → x ≡ y
-some_one x y h = cc
 
 -- ---- values at variables
 
@@ -79,7 +78,7 @@ put_cases b r v x y is = by (eqb_tells v r)
     same : v ≡ r → (value_of b v ≡ Some x) ⊎ ((r ≡ v) × (y ≡ x))
     same one = inr (
       sym one,
-      some_one y x (sym (get_or-set_same b r (Some y) None (subst (λ k. k < length b) one (subst (λ n. v < n) (length-set b r (Some y)) (within_values (slice_set b r (Some y)) v x is))))
+      same_Some y x (sym (get_or-set_same b r (Some y) None (subst (λ k. k < length b) one (subst (λ n. v < n) (length-set b r (Some y)) (within_values (slice_set b r (Some y)) v x is))))
           ∙ ap (λ k. value_of (slice_set b r (Some y)) k) (sym one) ∙ is),
     )
 

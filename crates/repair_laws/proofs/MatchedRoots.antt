@@ -32,6 +32,7 @@ use Rattle.repair_laws.proofs.RootTerms.{IsLast, root_at, bound_mapped}
 use Rattle.repair_laws.proofs.CallTerms.{alone_agrees, values_given, matched}
 use Rattle.repair_laws.proofs.EntryTerms.{given_many, get_mapped, value_known}
 use Rattle.repair_laws.proofs.TargetVariables.{target_variable}
+use Rattle.mof_metamodel.proofs.Facts.{contains_at}
 
 module _ (metas : List MetaDesc) (program : Program) (formed : IsWellFormed metas program) (enforceable : IsEnforceable metas program) (sources : List ModelData)
     (number : ℕ) (rel : Rel) (found : slice_get program.rels number ≡ Some rel) (direction : rel.in_direction ≡ true) (b : TermValues) (matches : List Entry)
@@ -49,7 +50,7 @@ module _ (metas : List MetaDesc) (program : Program) (formed : IsWellFormed meta
     pub root : value_of (entry_known program sources callee match.values).values dom.root ≡ Some (values.Term t)
 
   range_of : (place : ℕ) (r : Rel) → slice_get program.rels place ≡ Some r → IsRelationInRange metas program r
-  range_of place r there = formed.numbers.relations r (binding.among program.rels place r there)
+  range_of place r there = formed.numbers.relations r (contains_at program.rels place r there)
 
   taken : (v : ℕ) → IsUniversalTarget program rel v → IsTaken program rel.whens v
   taken v u = by (is_among (taken_by_clause program rel.whens) v) refl
@@ -70,7 +71,7 @@ module _ (metas : List MetaDesc) (program : Program) (formed : IsWellFormed meta
       let (y, at_place, y_is) = lists.1 a.place w.e a.argument in
       let alone : variable_alone w.e ≡ Some v = alone_agrees w.e ∙ is_alone w.e w.alone.0 v w.alone.1 in
       let same : y ≡ values.Term t = same_Some y (values.Term t) (sym y_is ∙ ap (given_by program sources (known b) w.e) alone ∙ at) in
-      let typed = (formed.typed.relations rel (binding.among program.rels number rel found)).whens (conjuncts.Call a.number a.args) a.call in
+      let typed = (formed.typed.relations rel (contains_at program.rels number rel found)).whens (conjuncts.Call a.number a.args) a.call in
       let typed_one : typed.called ≡ w.called = same_Some typed.called w.called (sym typed.found ∙ a.found) in
       let many : length parts.xs ≡ length w.called.domains =
       lists.0 ∙ subst (λ (r : Rel). length a.args ≡ length r.domains) typed_one (given_many metas program rel typed.called typed.called.domains a.args typed.given) in
@@ -78,7 +79,7 @@ module _ (metas : List MetaDesc) (program : Program) (formed : IsWellFormed meta
       let callee_there : slice_get program.rels x.rel ≡ Some w.called = ap (slice_get program.rels) place ∙ a.found in
       let bound : c.roots ≡ bound_roots w.called parts.xs = parts.roots ∙ ap (λ r. bound_roots r parts.xs) one in
       let inside = (range_of a.number w.called a.found).roots in
-      let listed : (i : ℕ) (d : Dom) → slice_get w.called.domains i ≡ Some d → Contains w.called.domains d = λ i d is. binding.among w.called.domains i d is in
+      let listed : (i : ℕ) (d : Dom) → slice_get w.called.domains i ≡ Some d → Contains w.called.domains d = λ i d is. contains_at w.called.domains i d is in
       let has : map (λ (d : Dom). value_of (entry_values x w.called) d.root) w.called.domains ≡ map (λ (d : Dom). value_of (root_values w.called parts.xs) d.root) w.called.domains =
       sym (ap (roots_in x) callee_there) ∙ match.has.roots ∙ ap (map (λ z. Some z)) bound ∙ bound_mapped w.called inside listed parts.xs many in
       let last : IsLast w.called.domains parts.xs w.dom.root a.place = λ j other more less is at.

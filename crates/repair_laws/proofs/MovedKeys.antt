@@ -9,7 +9,8 @@ use Rattle.object_tables.specs.Validity.{Valid}
 use Rattle.object_tables.specs.Sameness.{IsSame}
 use Rattle.qv_syntax.specs.declared.program.Program.{Program}
 use Rattle.qvtr_semantics.specs.Objects.{conforms_at}
-use Rattle.template_match.proofs.ListLaws.{contains_first, contains_later}
+use Rattle.template_match.proofs.ListLaws.{contains_later}
+use Rattle.mof_metamodel.proofs.Facts.{contains_first}
 use Rattle.repair_semantics.specs.declared.term.Term.{Term, out-Term}
 use Rattle.repair_semantics.specs.declared.term.TermValue.{TermValue, roll-TermValue, out-TermValue, roll-out-TermValue}
 use Rattle.repair_semantics.specs.declared.term.TermValue.TheOpen as of
@@ -20,7 +21,9 @@ use Rattle.repair_semantics.specs.Images.{held_in, holds, holds_key, image}
 use Rattle.repair_semantics.specs.Candidates.{held_by_number}
 use Rattle.repair_semantics.proofs.TermLaws.{image_of_value}
 use Rattle.reading_laws.specs.Readings.{Numbering, held_as, IsReading}
-use Rattle.reading_laws.proofs.HeldLaws.{first_holds, second_holds, one_held, few_held}
+use Rattle.reading_laws.proofs.HeldLaws.{one_held, few_held}
+use Rattle.mof_metamodel.proofs.Facts.{second_true}
+use Rattle.mof_metamodel.proofs.Facts.{first_true}
 use Rattle.repair_laws.proofs.MovedLaws.{moved, from_to, holds_moved}
 
 module _ (program : Program) (m n : ModelData) (same : IsSame m n) (valid : Valid m) (valid_there : Valid n) (terms : List Term) (number : Numbering) (r : IsReading program m terms number) where
@@ -49,8 +52,8 @@ module _ (program : Program) (m n : ModelData) (same : IsSame m n) (valid : Vali
       by (Some i) is g more =
           let rest = holds_key program m o ps (map (held_as number) xs) in
           ap (λ y. holds_key program n (to o) (p ∷ ps) (y ∷ map (image_of_value program n) xs)) (each x (contains_first x xs) i is)
-          ∙ ap (λ b. b && holds_key program n (to o) ps (map (image_of_value program n) xs)) (holds_moved program m n same valid valid_there o p.0 i (first_holds (holds program m o p.0 i) rest g))
-          ∙ more (second_holds (holds program m o p.0 i) rest g)
+          ∙ ap (λ b. b && holds_key program n (to o) ps (map (image_of_value program n) xs)) (holds_moved program m n same valid valid_there o p.0 i (first_true (holds program m o p.0 i) rest g))
+          ∙ more (second_true (holds program m o p.0 i) rest g)
 
   -- ---- values that are read alike are one
 
@@ -142,10 +145,10 @@ module _ (program : Program) (m n : ModelData) (same : IsSame m n) (valid : Vali
           ap (λ z. holds_key program n (to q) (p ∷ ps) (z ∷ map (image_of_value program n) xs)) (sym (each x (contains_first x xs) h ih)) ∙ b in
           let one : moved to h ≡ moved to i =
           one_held (held_in program n (to q) p.0) (moved to h) (moved to i) (few_held program n (to q) p.0 valid_there (single p (contains_first p ps)))
-          (first_holds (holds program n (to q) p.0 (moved to h)) there image_there)
-          (holds_moved program m n same valid valid_there q p.0 i (first_holds (holds program m q p.0 i) own g)) in
+          (first_true (holds program n (to q) p.0 (moved to h)) there image_there)
+          (holds_moved program m n same valid valid_there q p.0 i (first_true (holds program m q p.0 i) own g)) in
           let first : x ≡ y = one_value x y h i (wx x (contains_first x xs)) (wy y (contains_first y ys)) ih ii one in
           let rest : xs ≡ ys =
-          more (second_holds (holds program m o p.0 h) here f) (λ z e. each z (contains_later z x xs e)) (second_holds (holds program n (to q) p.0 (moved to h)) there image_there)
-          (second_holds (holds program m q p.0 i) own g) in
+          more (second_true (holds program m o p.0 h) here f) (λ z e. each z (contains_later z x xs e)) (second_true (holds program n (to q) p.0 (moved to h)) there image_there)
+          (second_true (holds program m q p.0 i) own g) in
           ap (λ z. z ∷ xs) first ∙ ap (λ zs. y ∷ zs) rest

@@ -7,7 +7,7 @@ use Rattle.mof_metamodel.specs.Metamodels.{type_of}
 use Rattle.object_tables.specs.Models.{ModelData, class_at, is_class_type, values_at, partners_at, IsLive}
 use Rattle.object_tables.specs.Validity.{Valid, IsPropertyOf}
 use Rattle.object_tables.specs.Sameness.{IsSame}
-use Rattle.object_tables.proofs.ListLemmas.{Contains-map}
+use Rattle.mof_metamodel.proofs.Facts.{contains_map}
 use Rattle.object_tables.proofs.ModelLemmas.{live_from_class}
 use Rattle.template_match.proofs.ListLaws.{any_from}
 use Rattle.qv_syntax.specs.declared.program.Program.{Program}
@@ -107,4 +107,4 @@ module _ (program : Program) (m n : ModelData) (same : IsSame m n) (valid : Vali
   holds_moved o p h held =
       let has : Contains (held_in program m o p) h = held_found h (held_in program m o p) held in
       held_there (moved to h) (held_in program n (to o) p)
-      (subst (λ xs. Contains xs (moved to h)) (sym (held_in_moved o p (holding_property m valid o p h has))) (Contains-map (moved to) (held_in program m o p) h has))
+      (subst (λ xs. Contains xs (moved to h)) (sym (held_in_moved o p (holding_property m valid o p h has))) (contains_map (moved to) (held_in program m o p) h has))

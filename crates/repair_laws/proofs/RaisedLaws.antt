@@ -28,15 +28,14 @@ use Rattle.qvtr_semantics.specs.Bindings.{is_model, is_value_for, have_values, s
 use Rattle.qvtr_semantics.specs.Calls.{free, call_with, call_of, calls_of}
 use Rattle.template_match.specs.Sources.{is_of_target, is_target_variable, source_variables, meets_without_target}
 use Rattle.template_match.specs.Ready.{is_known}
-use Rattle.template_match.proofs.ListLaws.{contains_first, contains_later, list_all_at}
+use Rattle.template_match.proofs.ListLaws.{contains_later, list_all_at}
+use Rattle.mof_metamodel.proofs.Facts.{contains_first}
 use Rattle.template_match.proofs.ReadyLaws.{ready_from_known}
 use Rattle.template_match.proofs.SteadyLaws.{steady}
 use Rattle.source_laws.specs.SourceRelations.{KeepsToSources, AgreeOnSources}
 use Rattle.source_laws.proofs.BindingLaws.{all_same, found_within, meets_same}
 use Rattle.source_laws.proofs.RuleLaws.{model_domain}
-
-some_one : {X : Type 0} (x y : X) → Some x ≡ Some y → x ≡ y
-some_one x y h = cc
+use Rattle.std.proofs.lemmas.Option.{same_Some}
 
 none_some : {X : Type 0} (x : X) → ◌≡◌ {A = Option X} None (Some x) → ⊥
 none_some x h = cc
@@ -139,7 +138,7 @@ module _ (metas : List MetaDesc) (program : Program) (models : List ModelData) (
         let of : IsTemplateOf dom shaped.0 = record { root = shaped.0; has = shaped.1; nested = IsNested.whole shaped.0 } in
         let d : IsModelDomain program rel dom = model_domain metas program well place rel found dom shaped.0 has of in
         let declared = domains.declared dom d shaped.0 of in
-        let model : d.model ≡ program.target = some_one d.model program.target (sym d.of_model ∙ is) in
+        let model : d.model ≡ program.target = same_Some d.model program.target (sym d.of_model ∙ is) in
         let one : (program.target == program.target) ≡ true = grind (arith, nat_tests) in
         ap (is_target_variable program rel) (sym shaped.2) ∙ ap (is_of_target program) declared.found ∙ ap (λ m. is_model m program.target) (declared.of_model ∙ ap (λ m. Some m) model) ∙ one
 

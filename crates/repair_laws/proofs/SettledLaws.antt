@@ -16,7 +16,8 @@ use Rattle.enforcement_rules.specs.Rules.{IsEnforceable}
 use Rattle.qvtr_semantics.specs.Templates.{meets}
 use Rattle.qvtr_semantics.specs.Bindings.{have_values, target_meets, conjunct_holds}
 use Rattle.qvtr_semantics.specs.Satisfaction.{Satisfied}
-use Rattle.template_match.proofs.ListLaws.{contains_first, contains_later}
+use Rattle.template_match.proofs.ListLaws.{contains_later}
+use Rattle.mof_metamodel.proofs.Facts.{contains_first}
 use Rattle.repair_semantics.specs.declared.demand.Demand.{Demand}
 use Rattle.repair_semantics.specs.declared.entry.Entry.{Entry}
 use Rattle.repair_semantics.specs.TargetItems.{target_items}

@@ -9,7 +9,8 @@ use Rattle.mof_metamodel.specs.Metamodels.{type_of, props_of}
 use Rattle.object_tables.specs.Models.{ModelData, class_at, is_class_type, values_at, partners_at}
 use Rattle.object_tables.specs.declared.value.Value.{Value}
 use Rattle.object_tables.specs.declared.value.Value.TheVariants as of_value
-use Rattle.object_tables.proofs.ListLemmas.{Contains-map, Contains-from_map}
+use Rattle.object_tables.proofs.ListLemmas.{Contains-from_map}
+use Rattle.mof_metamodel.proofs.Facts.{contains_map}
 use Rattle.qv_syntax.specs.declared.program.Program.{Program}
 use Rattle.qv_syntax.specs.declared.program.Rel.{Rel}
 use Rattle.qv_syntax.specs.declared.program.Dom.{Dom}
@@ -23,7 +24,8 @@ use Rattle.qvtr_semantics.specs.Objects.{object_datum, value_datum, is_number_am
 use Rattle.qvtr_semantics.specs.Expressions.{setting, value_for}
 use Rattle.qvtr_semantics.specs.Templates.{Values, value_at, has, meets}
 use Rattle.qvtr_semantics.specs.Bindings.{is_target_domain, template_meets, target_meets}
-use Rattle.template_match.proofs.ListLaws.{contains_first, contains_later, any_from}
+use Rattle.template_match.proofs.ListLaws.{contains_later, any_from}
+use Rattle.mof_metamodel.proofs.Facts.{contains_first}
 use Rattle.ocl_eval.specs.OrderLaws.{same_decides}
 use Rattle.source_laws.specs.SourceValues.{IsOfSources}
 use Rattle.repair_semantics.specs.declared.term.Term.{Term}
@@ -43,11 +45,7 @@ use Rattle.reading_laws.specs.Matching.{slot_holds, content_holds, item_holds, H
 use Rattle.repair_laws.proofs.ClaimLaws.{held_there}
 use Rattle.repair_laws.proofs.FoundLaws.{term_value}
 use Rattle.repair_laws.proofs.ImageReadings.{from_filter_map}
-
--- ---- what a slot has among its data it holds
-
-some_one : {X : Type 0} (x y : X) → Some x ≡ Some y → x ≡ y
-some_one x y h = cc
+use Rattle.std.proofs.lemmas.Option.{same_Some}
 
 same_data : (d e : Datum) → same_datum d e ≡ true → d ≡ e
 same_data d e h = (same_decides d e).0 h
@@ -68,7 +66,7 @@ not_value meta target b (of_value.Bool x) h = cc
 not_value meta target b (of_value.Lit e n) h = cc
 
 not_object : (target b : ℕ) (d : Datum) → IsOfSources target d → d ≡ object_datum target b → ⊥
-not_object target b (Obj m o) apart h = apart (let models : Some m ≡ Some target = ap model_number h in some_one m target models)
+not_object target b (Obj m o) apart h = apart (let models : Some m ≡ Some target = ap model_number h in same_Some m target models)
 not_object target b (Val m v) apart h = absurd (let models : ◌≡◌ {A = Option ℕ} None (Some target) = ap model_number h in cc)
 
 module _ (program : Program) (models : List ModelData) (m : ModelData) (number : Numbering) (target : slice_get models program.target ≡ Some m) where
@@ -89,11 +87,11 @@ module _ (program : Program) (models : List ModelData) (m : ModelData) (number :
       by true _ _ (IsSlotted.object b) among =
           let found = Contains-from_map (object_datum program.target) (partners_at m o p) (object_datum program.target b) among in
           let one : found.0 ≡ b = ap object_number found.2 in
-          subst (λ k. Contains (map (λ z. Held.object z) (partners_at m o p)) (Held.object k)) one (Contains-map (λ z. Held.object z) (partners_at m o p) found.0 found.1)
+          subst (λ k. Contains (map (λ z. Held.object z) (partners_at m o p)) (Held.object k)) one (contains_map (λ z. Held.object z) (partners_at m o p) found.0 found.1)
       by false _ _ (IsSlotted.value e apart) among =
           let found = Contains-from_map (value_datum (target_meta_number program)) (values_at m o p) e among in
           subst (λ z. Contains {X = Held ℕ} (map (λ v. Held.datum (value_datum (target_meta_number program) v)) (values_at m o p)) (Held.datum z)) found.2
-          (Contains-map {Y = Held ℕ} (λ v. Held.datum (value_datum (target_meta_number program) v)) (values_at m o p) found.0 found.1)
+          (contains_map {Y = Held ℕ} (λ v. Held.datum (value_datum (target_meta_number program) v)) (values_at m o p) found.0 found.1)
       by false _ _ (IsSlotted.object b) among =
           let found = Contains-from_map (value_datum (target_meta_number program)) (values_at m o p) (object_datum program.target b) among in
           absurd (not_value (target_meta_number program) program.target b found.0 (sym found.2))
@@ -128,7 +126,7 @@ module _ (program : Program) (models : List ModelData) (m : ModelData) (number :
     where
       by : (l : of.TermValue-F TermValue Term) → out-TermValue x ≡ l → read_part program number l ≡ Some d → IsHeldAs x d
       by (of.Val e) is r =
-          let one : e ≡ d = some_one e d r in
+          let one : e ≡ d = same_Some e d r in
           let value : x ≡ values.Val e = sym (roll-out-TermValue x) ∙ ap roll-TermValue is ∙ values.rolls-Val e in
           record {
             held = Held.datum e;
@@ -142,7 +140,7 @@ module _ (program : Program) (models : List ModelData) (m : ModelData) (number :
           object (Some n) at g = record {
             held = Held.object n;
             held_is = ap (λ y. held_by_number number (value_held_in y)) is ∙ ap (option_map (λ k. Held.object k)) at;
-            slot = subst (λ z. IsSlotted z (Held.object n)) (some_one (object_datum program.target n) d g) (IsSlotted.object n);
+            slot = subst (λ z. IsSlotted z (Held.object n)) (same_Some (object_datum program.target n) d g) (IsSlotted.object n);
           }
 
   -- ---- items
@@ -161,7 +159,7 @@ module _ (program : Program) (models : List ModelData) (m : ModelData) (number :
           by : (b : Bool) → is_target_domain program x ≡ b → cond b (Some x) (find (is_target_domain program) xs) ≡ Some dom
               → (find (is_target_domain program) xs ≡ Some dom → (is_target_domain program dom ≡ true) × Contains xs dom) → (is_target_domain program dom ≡ true) × Contains (x ∷ xs) dom
           by true is e more =
-              let one : x ≡ dom = some_one x dom e in
+              let one : x ≡ dom = same_Some x dom e in
               (ap (is_target_domain program) (sym one) ∙ is, subst (λ z. Contains (z ∷ xs) dom) (sym one) (contains_first dom xs))
           by false is e more = let rest = more e in (rest.0, contains_later dom x xs rest.1)
 
@@ -219,7 +217,7 @@ module _ (program : Program) (models : List ModelData) (m : ModelData) (number :
               → Stands program m number (record { entry = n; owner = owner; prop = item.prop; value = x })
           by d at None numbered e = absurd (cc)
           by d at (Some o) numbered e =
-              let own : object_datum program.target o ≡ d = some_one (object_datum program.target o) d e in
+              let own : object_datum program.target o ≡ d = same_Some (object_datum program.target o) d e in
               let met : slot_holds program models g (held_at (setting program models) (object_datum program.target o) item.prop.0) item.content ≡ true =
               sym (ap (content_holds program models g item.prop item.content) (at ∙ ap (λ z. Some z) (sym own))) ∙ item_met item among in
               let put : IsPut item.prop (held_at (setting program models) (object_datum program.target o) item.prop.0) x =
@@ -243,4 +241,4 @@ module _ (program : Program) (models : List ModelData) (m : ModelData) (number :
               → (x : Option TermValue) → content_value program models k item.content ≡ x → demand_by n item o x ≡ Some d → Stands program m number d
           by item among None owns x is e = absurd (cc)
           by item among (Some owner) owns None is e = absurd (cc)
-          by item among (Some owner) owns (Some x) is e = subst (Stands program m number) (some_one (record { entry = n; owner = owner; prop = item.prop; value = x }) d e) (item_stands n item owner x among owns is)
+          by item among (Some owner) owns (Some x) is e = subst (Stands program m number) (same_Some (record { entry = n; owner = owner; prop = item.prop; value = x }) d e) (item_stands n item owner x among owns is)

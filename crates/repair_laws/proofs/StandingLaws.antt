@@ -27,12 +27,7 @@ use Rattle.repair_semantics.specs.Claims.{Held, Claim, same_held}
 use Rattle.repair_semantics.specs.Images.{same_number, holds}
 use Rattle.repair_semantics.specs.Candidates.{claimed_at, held_order, kept_at, others_than, with_claimed, contents_at, value_held, partner_held, slot_with, slots_of}
 use Rattle.repair_laws.specs.Standing.{FitsAt}
-
--- ---- lists in an order keep what is in them
-
-or_true : (a b : Bool) → b ≡ true → (a || b) ≡ true
-or_true true b h = refl
-or_true false b h = h
+use Rattle.std.proofs.lemmas.Bool.{or_right}
 
 module _ {X : Type 0} (order : X → X → Ordering) (test : X → Bool) (respects : (y z : X) → order y z ≡ Equal → test y ≡ true → test z ≡ true) where
   placed_new : (x : X) (ys : List X) → test x ≡ true → list_any test (placed_by order x ys) ≡ true
@@ -43,7 +38,7 @@ module _ {X : Type 0} (order : X → X → Ordering) (test : X → Bool) (respec
           → list_any test (match_ordering o (x ∷ y ∷ ys) (y ∷ ys) (y ∷ placed_by order x ys)) ≡ true
       by Less is later = ap (λ b. b || list_any test (y ∷ ys)) h
       by Equal is later = ap (λ b. b || list_any test ys) (respects x y is h)
-      by Greater is later = or_true (test y) (list_any test (placed_by order x ys)) later
+      by Greater is later = or_right (test y) (list_any test (placed_by order x ys)) later
 
   placed_keeps : (x : X) (ys : List X) → list_any test ys ≡ true → list_any test (placed_by order x ys) ≡ true
   placed_keeps x [] h = absurd (true≢false (sym h))
@@ -55,7 +50,7 @@ module _ {X : Type 0} (order : X → X → Ordering) (test : X → Bool) (respec
 
       by : (o : Ordering) → (list_any test ys ≡ true → list_any test (placed_by order x ys) ≡ true)
           → list_any test (match_ordering o (x ∷ y ∷ ys) (y ∷ ys) (y ∷ placed_by order x ys)) ≡ true
-      by Less later = or_true (test x) (list_any test (y ∷ ys)) h
+      by Less later = or_right (test x) (list_any test (y ∷ ys)) h
       by Equal later = h
       by Greater later = behind (test y) later h
 
@@ -112,7 +107,7 @@ module _ (number : ℕ) (d : Datum) (v : Value) (is_value : value_of_datum d ≡
       other : (x : Option Value) → list_any (is_it (Held.datum d)) (map seen_as (filter_map value_held hs)) ≡ true
           → list_any (is_it (Held.datum d)) (map seen_as (cons_option x (filter_map value_held hs))) ≡ true
       other None later = later
-      other (Some w) later = or_true (is_it (Held.datum d) (seen_as w)) (list_any (is_it (Held.datum d)) (map seen_as (filter_map value_held hs))) later
+      other (Some w) later = or_right (is_it (Held.datum d) (seen_as w)) (list_any (is_it (Held.datum d)) (map seen_as (filter_map value_held hs))) later
 
       by : (b : Bool) → same_datum d e ≡ b → (list_any (is_it (Held.datum d)) hs ≡ true → list_any (is_it (Held.datum d)) (map seen_as (filter_map value_held hs)) ≡ true)
           → (b || list_any (is_it (Held.datum d)) hs) ≡ true → list_any (is_it (Held.datum d)) (map seen_as (cons_option (value_of_datum e) (filter_map value_held hs))) ≡ true

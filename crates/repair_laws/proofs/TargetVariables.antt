@@ -27,7 +27,6 @@ use Rattle.qvtr_semantics.specs.Bindings.{is_model, is_target_domain}
 use Rattle.template_match.specs.Sources.{is_of_target, is_target_variable}
 use Rattle.evaluation_laws.proofs.NavigationLaws.{among}
 use Rattle.source_laws.proofs.BindingLaws.{found_within}
-use Rattle.source_laws.proofs.BindingLaws as binding
 use Rattle.source_laws.proofs.RuleLaws.{target_is}
 use Rattle.enforcement_rules.specs.TargetParts.{target_desc, IsTargetVariable}
 use Rattle.enforcement_rules.proofs.KnownLaws.{universal_listed, existential_listed}
@@ -37,6 +36,7 @@ use Rattle.repair_semantics.specs.TargetItems.{Content, TargetItem, target_root,
 use Rattle.repair_laws.proofs.ItemParts.{IsOfTargetDomain, target_item, template_value}
 use Rattle.repair_laws.proofs.ManagedLaws.{lineage_conforms, inside_stands, key_is, meta_found, numbers_agree}
 use Rattle.repair_laws.proofs.EntryDemands.{IsGivenBy}
+use Rattle.mof_metamodel.proofs.Facts.{contains_at}
 
 pub number_among : (xs : List ℕ) (n : ℕ) → Contains xs n → is_number_among n xs ≡ true
 number_among xs n c = any_here (λ k. k == n) xs n c (eq-eqb n n refl)
@@ -84,7 +84,7 @@ module _ (metas : List MetaDesc) (program : Program) (formed : IsWellFormed meta
     meant = formed.relations number rel found
 
     pub range : IsRelationInRange metas program rel
-    range = formed.numbers.relations rel (binding.among program.rels number rel found)
+    range = formed.numbers.relations rel (contains_at program.rels number rel found)
 
     pub declared : (dom : Dom) (t : Tmpl) → Contains rel.domains dom → is_target_domain program dom ≡ true → IsTemplateOf dom t → IsTargetVariable program rel (out-Tmpl t).var
     declared dom t there target of =

@@ -11,14 +11,16 @@ use Rattle.std.proofs.lemmas.Option.{none-some, same_Some}
 use Rattle.qvtr_semantics.specs.declared.datum.Datum.{Datum}
 use Rattle.ocl_eval.specs.Order.{datum_order}
 use Rattle.ocl_eval.specs.OrderLaws.{order_total, ties_where_same, same_decides}
-use Rattle.template_match.proofs.ListLaws.{contains_first, contains_later}
+use Rattle.template_match.proofs.ListLaws.{contains_later}
+use Rattle.mof_metamodel.proofs.Facts.{contains_first}
 use Rattle.repair_semantics.specs.declared.term.Term.{Term, roll-Term, out-Term, out-roll-Term, roll-out-Term, map-Term, ind-Term}
 use Rattle.repair_semantics.specs.declared.term.TermValue.{TermValue, roll-TermValue, out-TermValue, out-roll-TermValue, roll-out-TermValue, map-TermValue}
 use Rattle.repair_semantics.specs.declared.term.TermValue.TheOpen as of
 use Rattle.repair_semantics.specs.Terms.{ValueOrder, TermOrder, keys_against, datum_against, term_against, term_order, value_order, placed_by, each_once}
 use Rattle.repair_semantics.proofs.TermLaws.{order_is, order_of_datum, order_of_term}
 use Rattle.repair_semantics.proofs.TieLaws.{ties_are_one}
-use Rattle.enforcement_rules.proofs.ListLaws.{nothing_in, some_among}
+use Rattle.mof_metamodel.proofs.Facts.{contains_at}
+use Rattle.mof_metamodel.proofs.Facts.{nothing_in}
 use Rattle.repair_laws.proofs.ManagedLaws.{from_filter}
 
 equal_less : Equal ≡ Less → ⊥
@@ -257,7 +259,7 @@ not_less : (t : Term) → term_order t t ≡ Less → ⊥
 not_less t h = equal_less (sym ((Equal-is (term_order t t)).0 ((ties_are_one t t).1 refl)) ∙ h)
 
 behind_first : (t u : Term) (ts : List Term) (k : ℕ) → slice_get ts k ≡ Some u → ((w : Term) → Contains ts w → term_order t w ≡ Less) → t ≡ u → ⊥
-behind_first t u ts k at all same = not_less t (ap (term_order t) same ∙ all u (some_among ts k u at))
+behind_first t u ts k at all same = not_less t (ap (term_order t) same ∙ all u (contains_at ts k u at))
 
 -- so two places of one term are one
 pub one_place : (ts : List Term) (i j : ℕ) (t : Term) → IsAscending ts → slice_get ts i ≡ Some t → slice_get ts j ≡ Some t → i ≡ j

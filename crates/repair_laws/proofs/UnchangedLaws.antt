@@ -14,7 +14,8 @@ use Rattle.object_tables.specs.Models.{ModelData, object_at, class_at, is_class_
 use Rattle.object_tables.specs.Validity.{Valid}
 use Rattle.object_tables.proofs.DistinctLemmas.{property_place}
 use Rattle.object_tables.proofs.KeptLemmas.{sound_of, linked_partner}
-use Rattle.template_match.proofs.ListLaws.{contains_first, contains_later}
+use Rattle.template_match.proofs.ListLaws.{contains_later}
+use Rattle.mof_metamodel.proofs.Facts.{contains_first}
 use Rattle.qv_syntax.specs.declared.program.Program.{Program}
 use Rattle.qvtr_semantics.specs.Objects.{value_datum, is_number_among}
 use Rattle.qvtr_semantics.specs.Outs.{value_of_datum}

@@ -31,6 +31,7 @@ use Rattle.script_scopes.specs.ScriptNames.{model_names, each_once, new_names}
 use Rattle.script_scopes.specs.CallRows.{number_in, conjunct_numbers, clause_numbers, when_rows, where_rows, IsAmong, IsCycleFault}
 use Rattle.script_scopes.proofs.NameLemmas.{has_name}
 use Rattle.script_scopes.proofs.OnceLemmas.{get_at}
+use Rattle.mof_metamodel.proofs.Facts.{contains_at}
 
 -- ---- names of which none stands twice
 
@@ -38,9 +39,6 @@ pub within_some : {X : Type 0} (xs : List X) (k : ℕ) → k < length xs → (x 
 within_some [] k below = absurd (omega (arith, below))
 within_some (x ∷ xs) zero below = (x, refl)
 within_some (x ∷ xs) (suc k) below = within_some xs k (omega (arith, below))
-
-pub some_among : {X : Type 0} (xs : List X) (k : ℕ) (x : X) → slice_get xs k ≡ Some x → Contains xs x
-some_among xs k x found = (k, slice_get_within xs k x found, get_or_from_slice_get xs k x x found)
 
 pub among_some : {X : Type 0} (xs : List X) (x : X) → Contains xs x → (k : ℕ) × (slice_get xs k ≡ Some x)
 among_some xs x (k, below, at) = (k, slice_get-get_or xs k x below ∙ ap Some at)
@@ -155,7 +153,7 @@ module _ (script : Script) (once : (name : List ℕ) → IsRepeated (relation_na
       by x there None is (k, below, at) = absurd (omega (arith, below))
       by x there (Some call) is has =
           let found = named_by call.0 v (listed (position (same_name call.0) names) has) in
-          (found.0, found.1, (call.1, record { conjunct = x; among = there; is = is ∙ ap (λ (n : List ℕ). Some (n, call.1)) (sym found.2); relation = some_among rels v found.0 found.1 }))
+          (found.0, found.1, (call.1, record { conjunct = x; among = there; is = is ∙ ap (λ (n : List ℕ). Some (n, call.1)) (sym found.2); relation = contains_at rels v found.0 found.1 }))
 
   number_called : (clause : Option BlockTree) (called : RelationTree) → CallsIn script clause called → (v : ℕ) × (slice_get rels v ≡ Some called) × Contains (clause_numbers names clause) v
   number_called clause called (args, call) =
@@ -183,15 +181,15 @@ module _ (script : Script) (once : (name : List ℕ) → IsRepeated (relation_na
   -- ---- paths
 
   path_of : (u v count : ℕ) → IsCallPath whens wheres u v count → (r : RelationTree) → slice_get rels u ≡ Some r → (last : RelationTree) × (slice_get rels v ≡ Some last) × IsPath script r last count
-  path_of _ _ _ (IsCallPath.end u) r found = (r, found, IsPath.end r (some_among rels u r found))
+  path_of _ _ _ (IsCallPath.end u) r found = (r, found, IsPath.end r (contains_at rels u r found))
   path_of _ _ _ (IsCallPath.by_when u w v count leads path) r found =
       let call = called_by r.when w (led whens u w (clause_numbers names r.when) (when_row u r found) leads) in
       let rest = path_of w v count path call.0 call.1 in
-      (rest.0, rest.1, IsPath.by_when r call.0 rest.0 count (some_among rels u r found) call.2 rest.2)
+      (rest.0, rest.1, IsPath.by_when r call.0 rest.0 count (contains_at rels u r found) call.2 rest.2)
   path_of _ _ _ (IsCallPath.by_where u w v count leads path) r found =
       let call = called_by r.wheres w (led wheres u w (clause_numbers names r.wheres) (where_row u r found) leads) in
       let rest = path_of w v count path call.0 call.1 in
-      (rest.0, rest.1, IsPath.by_where r call.0 rest.0 count (some_among rels u r found) call.2 rest.2)
+      (rest.0, rest.1, IsPath.by_where r call.0 rest.0 count (contains_at rels u r found) call.2 rest.2)
 
   path_from : (r last : RelationTree) (count : ℕ) → IsPath script r last count → (u : ℕ) → slice_get rels u ≡ Some r → (v : ℕ) × (slice_get rels v ≡ Some last) × IsCallPath whens wheres u v count
   path_from _ _ _ (IsPath.end r among) u found = (u, found, IsCallPath.end u)
@@ -277,7 +275,7 @@ module _ (script : Script) (once : (name : List ℕ) → IsRepeated (relation_na
   -- the fault of a relation on a cycle stands in the script
   pub cycle_stands : (layers : Layers) (f : TypeFault) → graphs.AreLayers whens wheres layers → IsCycleFault rels layers f → (s : Setting) → s.script ≡ script → StandsInScript s f
   cycle_stands layers f are c s same = subst (StandsInScript s) (sym c.is) (StandsInScript.cycle c.relation
-      (subst (λ (t : Script). Contains (relations_of t) c.relation) (sym same) (some_among rels c.number c.relation c.found))
+      (subst (λ (t : Script). Contains (relations_of t) c.relation) (sym same) (contains_at rels c.number c.relation c.found))
       (subst (λ (t : Script). IsOnWhenCycle t c.relation) (sym same) (cycle_of c.number c.relation c.found (subst (graphs.AreLayers whens wheres) c.cyclic are))))
 
   -- and where none does, these are the strata

@@ -8,12 +8,7 @@ use Rattle.std.proofs.lemmas.List.Sums.{sum_by-set, sum_by-append}
 use Rattle.std.proofs.lemmas.List.Elements.{Contains-append_left, Contains-append_right, Contains-append_cases}
 use Rattle.script_variables.specs.Bindings.{IsDerivedNumber}
 use Rattle.script_variables.specs.Derivations.{NumberRule, Deriving, bound_at, waiting_at, with_pending, with_bound, with_asked, IsStep, pending_weight, waiting_weight, weight, IsRuleBelow, Follows, AreAmong, IsCovered, IsWithin, IsUnderway}
-
-pub only_in : {X : Type 0} (x y : X) → Contains (x ∷ []) y → x ≡ y
-only_in x y (k, l, at) = by k l at
-  where
-    by : (k : ℕ) → k < length (x ∷ []) → get_or (x ∷ []) k y ≡ y → x ≡ y
-    by k l at = let zero_is : k ≡ 0 = omega arith in subst (λ (i : ℕ). get_or (x ∷ []) i y ≡ y) zero_is at
+use Rattle.mof_metamodel.proofs.Facts.{only_one}
 
 nothing_there : {X : Type 0} (y : X) → ¬ Contains {X = X} [] y
 nothing_there y (k, l, at) = omega arith
@@ -101,7 +96,7 @@ module _ (st : Deriving) (v : ℕ) (asked : List ℕ) where
       within_more = record {
         long = w.long;
         waiting_long = w.waiting_long;
-        pending_below = λ rule c. ⊎_elim (λ left. w.pending_below rule (also rule left)) (λ right. subst (IsRuleBelow count) (only_in (v, front) rule right) front_below) (Contains-append_cases st.pending ((v, front) ∷ []) rule c);
+        pending_below = λ rule c. ⊎_elim (λ left. w.pending_below rule (also rule left)) (λ right. subst (IsRuleBelow count) (only_one (v, front) rule right) front_below) (Contains-append_cases st.pending ((v, front) ∷ []) rule c);
         waiting_below = w.waiting_below;
       }
 
@@ -111,7 +106,7 @@ module _ (st : Deriving) (v : ℕ) (asked : List ℕ) where
         waiting_long = length-set st.waiting n (waiting_at st n ++ (v, front) ∷ []) ∙ w.waiting_long;
         pending_below = λ rule c. w.pending_below rule (also rule c);
         waiting_below = λ m rule c. ⊎_elim
-            (λ same. ⊎_elim (λ left. w.waiting_below n rule left) (λ right. subst (IsRuleBelow count) (only_in (v, front) rule right) front_below)
+            (λ same. ⊎_elim (λ left. w.waiting_below n rule left) (λ right. subst (IsRuleBelow count) (only_one (v, front) rule right) front_below)
             (Contains-append_cases (waiting_at st n) ((v, front) ∷ []) rule
             (subst (λ (rs : List NumberRule). Contains rs rule) (ap (λ (i : ℕ). get_or (set st.waiting n (waiting_at st n ++ (v, front) ∷ [])) i []) same ∙ waiting_here st n (waiting_at st n ++ (v, front) ∷ []) (omega (arith, w.waiting_long, n_below))) c)))
             (λ other. w.waiting_below m rule (subst (λ (rs : List NumberRule). Contains rs rule) (waiting_there st n (waiting_at st n ++ (v, front) ∷ []) m other) c))
@@ -129,14 +124,14 @@ module _ (st : Deriving) (v : ℕ) (asked : List ℕ) where
 
       module _ (rules : List NumberRule) (u : IsUnderway rules before) where
         front_follows : IsDerivedNumber rules n → Follows rules v front
-        front_follows derived all = u.pending_follow v asked looked_at (λ m c. ⊎_elim (λ left. all m left) (λ right. subst (IsDerivedNumber rules) (only_in n m right) derived)
+        front_follows derived all = u.pending_follow v asked looked_at (λ m c. ⊎_elim (λ left. all m left) (λ right. subst (IsDerivedNumber rules) (only_one n m right) derived)
             (Contains-append_cases front (n ∷ []) m (subst (λ (ns : List ℕ). Contains ns m) is c)))
 
         more_covered : (x : ℕ) (a : List ℕ) → IsCovered before x a → IsCovered (with_pending st (v, front)) x a
         more_covered x a (IsCovered.bound h) = IsCovered.bound h
         more_covered x a (IsCovered.pending rest c among) = ⊎_elim
             (λ left. IsCovered.pending rest (Contains-append_left st.pending ((v, front) ∷ []) (x, rest) left) among)
-            (λ right. let same = only_in (v, asked) (x, rest) right in
+            (λ right. let same = only_one (v, asked) (x, rest) right in
             IsCovered.pending front (subst (λ (y : ℕ). Contains (st.pending ++ (v, front) ∷ []) (y, front)) (ap (λ (r : NumberRule). r.0) same) (Contains-append_right st.pending ((v, front) ∷ []) (v, front) (0, omega arith, refl)))
             (λ m d. among m (subst (λ (ns : List ℕ). Contains ns m) (ap (λ (r : NumberRule). r.1) same) (front_asked m d))))
             (Contains-append_cases st.pending ((v, asked) ∷ []) (x, rest) c)
@@ -146,7 +141,7 @@ module _ (st : Deriving) (v : ℕ) (asked : List ℕ) where
         underway_more bound = record {
           sound = u.sound;
           pending_follow = λ x a c. ⊎_elim (λ left. u.pending_follow x a (also (x, a) left))
-              (λ right. let same = only_in (v, front) (x, a) right in
+              (λ right. let same = only_one (v, front) (x, a) right in
               subst (λ (r : NumberRule). Follows rules r.0 r.1) same (front_follows (u.sound n bound)))
               (Contains-append_cases st.pending ((v, front) ∷ []) (x, a) c);
           waiting_follow = u.waiting_follow;
@@ -163,7 +158,7 @@ module _ (st : Deriving) (v : ℕ) (asked : List ℕ) where
         held_covered unbound x a (IsCovered.bound h) = IsCovered.bound h
         held_covered unbound x a (IsCovered.pending rest c among) = ⊎_elim
             (λ left. IsCovered.pending rest left among)
-            (λ right. let same = only_in (v, asked) (x, rest) right in
+            (λ right. let same = only_one (v, asked) (x, rest) right in
             IsCovered.waiting n front unbound (among n (subst (λ (ns : List ℕ). Contains ns n) (ap (λ (r : NumberRule). r.1) same) n_asked))
             (subst (λ (y : ℕ). Contains (waiting_at (held st v front n) n) (y, front)) (ap (λ (r : NumberRule). r.0) same)
             (subst (λ (rs : List NumberRule). Contains rs (v, front)) (sym held_here) (Contains-append_right (waiting_at st n) ((v, front) ∷ []) (v, front) (0, omega arith, refl))))
@@ -184,7 +179,7 @@ module _ (st : Deriving) (v : ℕ) (asked : List ℕ) where
           pending_follow = λ x a c. u.pending_follow x a (also (x, a) c);
           waiting_follow = λ m x a c derived. ⊎_elim
               (λ same. ⊎_elim (λ left. u.waiting_follow n x a left (subst (IsDerivedNumber rules) same derived))
-              (λ right. subst (λ (r : NumberRule). Follows rules r.0 r.1) (only_in (v, front) (x, a) right) (front_follows (subst (IsDerivedNumber rules) same derived)))
+              (λ right. subst (λ (r : NumberRule). Follows rules r.0 r.1) (only_one (v, front) (x, a) right) (front_follows (subst (IsDerivedNumber rules) same derived)))
               (Contains-append_cases (waiting_at st n) ((v, front) ∷ []) (x, a)
               (subst (λ (rs : List NumberRule). Contains rs (x, a)) (ap (λ (i : ℕ). waiting_at (held st v front n) i) same ∙ held_here) c)))
               (λ other. u.waiting_follow m x a (subst (λ (rs : List NumberRule). Contains rs (x, a)) (waiting_there st n held_rules m other) c) derived)
@@ -228,7 +223,7 @@ module _ (st : Deriving) (v : ℕ) (asked : List ℕ) where
         same_covered bound x a (IsCovered.bound h) = IsCovered.bound h
         same_covered bound x a (IsCovered.pending rest c among) = ⊎_elim
             (λ left. IsCovered.pending rest left among)
-            (λ right. IsCovered.bound (subst (λ (y : ℕ). bound_at st y ≡ true) (ap (λ (r : NumberRule). r.0) (only_in (v, asked) (x, rest) right)) bound))
+            (λ right. IsCovered.bound (subst (λ (y : ℕ). bound_at st y ≡ true) (ap (λ (r : NumberRule). r.0) (only_one (v, asked) (x, rest) right)) bound))
             (Contains-append_cases st.pending ((v, asked) ∷ []) (x, rest) c)
         same_covered bound x a (IsCovered.waiting m rest apart here c among) = IsCovered.waiting m rest apart here c among
 
@@ -253,7 +248,7 @@ module _ (st : Deriving) (v : ℕ) (asked : List ℕ) where
         woken_covered x a (IsCovered.bound h) = IsCovered.bound (stays_bound x h)
         woken_covered x a (IsCovered.pending rest c among) = ⊎_elim
             (λ left. IsCovered.pending rest (Contains-append_left st.pending (waiting_at st v) (x, rest) left) among)
-            (λ right. IsCovered.bound (subst (λ (y : ℕ). bound_at (woken st v) y ≡ true) (ap (λ (r : NumberRule). r.0) (only_in (v, asked) (x, rest) right)) v_bound))
+            (λ right. IsCovered.bound (subst (λ (y : ℕ). bound_at (woken st v) y ≡ true) (ap (λ (r : NumberRule). r.0) (only_one (v, asked) (x, rest) right)) v_bound))
             (Contains-append_cases st.pending ((v, asked) ∷ []) (x, rest) c)
         woken_covered x a (IsCovered.waiting m rest apart here c among) = ⊎_elim
             (λ same. IsCovered.pending rest (Contains-append_right st.pending (waiting_at st v) (x, rest) (subst (λ (i : ℕ). Contains (waiting_at st i) (x, rest)) same c)) among)

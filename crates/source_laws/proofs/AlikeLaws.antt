@@ -20,7 +20,8 @@ use Rattle.qvtr_semantics.specs.Expressions.{value_for}
 use Rattle.qvtr_semantics.specs.Templates.{Values, value_at}
 use Rattle.qvtr_semantics.specs.Calls.{free, with_roots, call_with, call_of, calls_of}
 use Rattle.template_match.specs.Sources.{is_of_target, is_target_variable}
-use Rattle.template_match.proofs.ListLaws.{contains_first, contains_later}
+use Rattle.template_match.proofs.ListLaws.{contains_later}
+use Rattle.mof_metamodel.proofs.Facts.{contains_first}
 use Rattle.source_laws.specs.Agreement.{AgreeBut}
 use Rattle.source_laws.specs.SourceRelations.{IsPlainArgument, IsApart}
 use Rattle.source_laws.specs.TargetRule.{HasConjunct, HandsTargetOn}

@@ -16,7 +16,8 @@ use Rattle.qvtr_semantics.specs.Satisfaction.{comes_before, IsLess}
 use Rattle.ocl_eval.specs.Order.{datum_order}
 use Rattle.ocl_eval.specs.OrderLaws.{before_by_order, order_total}
 use Rattle.template_match.specs.Sources.{source_variables}
-use Rattle.template_match.proofs.ListLaws.{contains_first, contains_later}
+use Rattle.template_match.proofs.ListLaws.{contains_later}
+use Rattle.mof_metamodel.proofs.Facts.{contains_first}
 use Rattle.source_laws.specs.Agreement.{AgreeBut}
 use Rattle.source_laws.specs.SourceRelations.{KeepsToSources, AreSourceBindings}
 use Rattle.source_laws.proofs.BindingLaws.{source_kept, opposite}

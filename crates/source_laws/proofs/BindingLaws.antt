@@ -2,7 +2,7 @@
 use Rattle.std.specs.Prelude.{◌≡◌, ◌≢◌, ◌<◌, ◌⊎◌, ℕ, zero, suc, Bool, true, false, ◌&&◌, ◌||◌, not, List, [], ◌∷◌, length, Option, None, Some, slice_get, Contains, IsTrue}
 use Rattle.std.specs.List.{list_all}
 use Rattle.std.proofs.Common.{refl, sym, ap, subst, ◌∙◌, arith, inl, inr}
-use Rattle.std.proofs.lemmas.Bool.{and_parts, true≢false, eqb-true, eq-eqb}
+use Rattle.std.proofs.lemmas.Bool.{and_parts, true≢false, eqb-true, eq-eqb, not-true}
 use Rattle.std.proofs.lemmas.List.Elements.{All-contains, filter_passes}
 use Rattle.object_tables.specs.declared.value.ObjId.{ObjId}
 use Rattle.object_tables.specs.Models.{ModelData}
@@ -29,7 +29,8 @@ use Rattle.qvtr_semantics.specs.Expressions.{setting, value_for}
 use Rattle.qvtr_semantics.specs.Templates.{Values, value_at, conforms, is_of_class}
 use Rattle.qvtr_semantics.specs.Bindings.{is_model, is_object_for, is_datum_for, is_value_for, have_values, is_target_domain, template_meets, source_meets, are_one, conjunct_holds}
 use Rattle.template_match.specs.Sources.{is_of_target, is_target_variable, source_variables, IsAsked, meets_without_target, SourceWithoutTarget}
-use Rattle.template_match.proofs.ListLaws.{contains_first, contains_later}
+use Rattle.template_match.proofs.ListLaws.{contains_later}
+use Rattle.mof_metamodel.proofs.Facts.{contains_first}
 use Rattle.template_match.proofs.ValueLaws.{some_datum, within_values}
 use Rattle.template_match.proofs.SideLaws.{Valued, valued}
 use Rattle.source_laws.specs.Agreement.{AgreeBut}
@@ -38,6 +39,7 @@ use Rattle.source_laws.specs.SourceRelations.{IsSourceExpression, KeepsToSources
 use Rattle.source_laws.proofs.SettingLaws.{class_same}
 use Rattle.source_laws.proofs.QueryLaws.{value_alike}
 use Rattle.source_laws.proofs.TemplateLaws.{template_same}
+use Rattle.mof_metamodel.proofs.Facts.{contains_at}
 
 -- ---- lists
 
@@ -50,19 +52,10 @@ found_within [] i h = absurd (omega (arith, h))
 found_within (x ∷ xs) zero h = (x, refl)
 found_within (x ∷ xs) (suc i) h = found_within xs i (omega (arith, h))
 
-not_true : (x : Bool) → not x ≡ true → x ≡ false
-not_true true h = absurd (true≢false (sym h))
-not_true false h = refl
-
 -- both parts agree where the first test passes
 guarded : (x a c d e : Bool) → (x ≡ true → a ≡ c) → (x ≡ true → d ≡ e) → (x && a && d) ≡ (x && c && e)
 guarded true a c d e f g = ap (λ y. y && d) (f refl) ∙ ap (λ y. c && y) (g refl)
 guarded false a c d e f g = refl
-
-pub among : {X : Type 0} (xs : List X) (i : ℕ) (x : X) → slice_get xs i ≡ Some x → Contains xs x
-among [] i x h = absurd (cc)
-among (y ∷ ys) zero x h = let same : y ≡ x = cc in (0, omega arith, same)
-among (y ∷ ys) (suc i) x h = let (k, within, is) = among ys i x h in (suc k, omega (arith, within), is)
 
 pub found_at : {X : Type 0} (xs : List X) (x : X) → Contains xs x → (i : ℕ) × (slice_get xs i ≡ Some x)
 found_at [] x (k, within, is) = absurd (omega (arith, within))
@@ -83,7 +76,7 @@ asked_in (conjuncts.Call n args) e h = absurd h
 -- a source variable is none for objects of the target
 pub source_variable : (program : Program) (rel : Rel) (v : ℕ) → Contains (source_variables program rel) v → is_target_variable program rel v ≡ false
 source_variable program rel v c =
-    not_true (is_target_variable program rel v)
+    not-true (is_target_variable program rel v)
     (All-contains (λ w. not (is_target_variable program rel w) ≡ true) (source_variables program rel) v (filter_passes (λ w. not (is_target_variable program rel w)) rel.universal) c)
 
 not_target : (t m : ℕ) (model : Option ℕ) → is_model model m ≡ true → is_model model t ≡ false → m ≢ t
@@ -96,7 +89,7 @@ pub subject_outside : (program : Program) (rel : Rel) (IsSought : ℕ → Type 0
 subject_outside program rel IsSought clause variables equations v e within =
     let place = found_at clause (conjuncts.Equation v e) within in
     let (data_variable, sought, other, first) = equations.are place.0 v e place.1 in
-    let model : data_variable.var.model ≡ None = (variables.models data_variable.var (among rel.vars v data_variable.var data_variable.found)).data_value data_variable.data_type in
+    let model : data_variable.var.model ≡ None = (variables.models data_variable.var (contains_at rel.vars v data_variable.var data_variable.found)).data_value data_variable.data_type in
     ap (is_of_target program) data_variable.found ∙ ap (λ m. is_model m program.target) model
 
 module _ (program : Program) (ms ns : List ModelData) (agree : AgreeBut program.target ms ns) where
@@ -274,7 +267,7 @@ module _ (program : Program) (ms ns : List ModelData) (agree : AgreeBut program.
       let outer = and_parts (have_values program ms rel (source_variables program rel) b && list_all (source_meets program ms b) rel.domains) (list_all (conjunct_holds program ms b) rel.whens) h in
       (and_parts (have_values program ms rel (source_variables program rel) b) (list_all (source_meets program ms b) rel.domains) outer.0).0
 
-  -- and where only the variables for objects of the target have such objects among the roots, only these have them in it
+  -- and where only the variables for objects of the target have such objects contains_at the roots, only these have them in it
   pub source_apart : (rel : Rel) (roots b : Values) → IsApart program rel roots → SourceWithoutTarget program ms rel roots b → IsApart program rel b
   source_apart rel roots b apart source v d outside at = by (source.no_others v d at)
     where

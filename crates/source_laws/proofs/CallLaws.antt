@@ -16,7 +16,8 @@ use Rattle.qvtr_semantics.specs.Expressions.{Queries, Scope, variable, meaning, 
 use Rattle.qvtr_semantics.specs.Templates.{Values}
 use Rattle.qvtr_semantics.specs.Calls.{call_with, call_of, calls_of}
 use Rattle.qvtr_semantics.proofs.ExpressionLaws.{typed_is, variable_is, node_of}
-use Rattle.template_match.proofs.ListLaws.{contains_first, contains_later}
+use Rattle.template_match.proofs.ListLaws.{contains_later}
+use Rattle.mof_metamodel.proofs.Facts.{contains_first}
 use Rattle.source_laws.specs.Agreement.{AgreeBut}
 use Rattle.source_laws.specs.SourceRelations.{IsPlainArgument, HavePlainArguments, IsApart}
 use Rattle.source_laws.proofs.QueryLaws.{value_of_sources}

@@ -24,7 +24,8 @@ use Rattle.qvtr_semantics.specs.Templates.{Values, value_at}
 use Rattle.qvtr_semantics.specs.Bindings.{is_model}
 use Rattle.qvtr_semantics.specs.Calls.{RelationCall, free, with_roots, call_with, call_of, calls_of}
 use Rattle.template_match.specs.Sources.{is_of_target, is_target_variable}
-use Rattle.template_match.proofs.ListLaws.{contains_first, contains_later}
+use Rattle.template_match.proofs.ListLaws.{contains_later}
+use Rattle.mof_metamodel.proofs.Facts.{contains_first}
 use Rattle.source_laws.specs.SourceValues.{IsOfSources}
 use Rattle.source_laws.specs.SourceRelations.{IsPlainArgument, IsApart}
 use Rattle.source_laws.specs.TargetRule.{HasConjunct, HandsTargetOn}
@@ -34,7 +35,7 @@ use Rattle.source_laws.proofs.CallLaws.{alone_value}
 use Rattle.source_laws.proofs.TypingLaws.{variable_typing}
 use Rattle.source_laws.proofs.RuleLaws.{target_is, mapped, rule_plain}
 use Rattle.source_laws.proofs.RelationLaws.{datum_by}
-use Rattle.source_laws.proofs.BindingLaws.{among}
+use Rattle.mof_metamodel.proofs.Facts.{contains_at}
 
 -- ---- values with one more
 
@@ -137,8 +138,8 @@ module _ (metas : List MetaDesc) (program : Program) (formed : IsWellFormed meta
       by false none = refl
 
   pub typed_call : (n : ℕ) (args : List Typed) → HasConjunct rel (conjuncts.Call n args) → IsCallTyped metas program rel n args
-  typed_call n args (inl c) = (formed.typed.relations rel (among program.rels number rel found)).whens (conjuncts.Call n args) c
-  typed_call n args (inr c) = (formed.typed.relations rel (among program.rels number rel found)).wheres (conjuncts.Call n args) c
+  typed_call n args (inl c) = (formed.typed.relations rel (contains_at program.rels number rel found)).whens (conjuncts.Call n args) c
+  typed_call n args (inr c) = (formed.typed.relations rel (contains_at program.rels number rel found)).wheres (conjuncts.Call n args) c
 
   module _ (models : List ModelData) (b : Values) (apart : IsApart program rel b) where
     abbrev datum_in : Typed → Option Datum

@@ -28,7 +28,8 @@ use Rattle.source_laws.specs.SourceExpressions.{AsksNoTargetExtent, AsksNoTarget
 use Rattle.source_laws.specs.SourceRelations.{IsSourceExpression, NamesSources, KeepsToSources, IsPlainArgument, HavePlainArguments}
 use Rattle.source_laws.specs.TargetRule.{HasConjunct, MayBeTarget, IsExpressionOf, HandsTargetOn}
 use Rattle.source_laws.proofs.TypingLaws.{is_in, none_some, variable_from, variable_is_in, alone_names, typed_alone}
-use Rattle.source_laws.proofs.BindingLaws.{among, asked_in, found_within}
+use Rattle.source_laws.proofs.BindingLaws.{asked_in, found_within}
+use Rattle.mof_metamodel.proofs.Facts.{contains_at}
 
 -- ---- models of variables
 
@@ -95,7 +96,7 @@ no_target_extent metas program e formed asks ty model class within is =
 
 module _ (metas : List MetaDesc) (program : Program) (formed : IsWellFormed metas program) (number : ℕ) (rel : Rel) (found : slice_get program.rels number ≡ Some rel) where
   abbrev within : Contains program.rels rel
-  within = among program.rels number rel found
+  within = contains_at program.rels number rel found
 
   abbrev has : HasDomains program rel
   has = (formed.relations number rel found).domains
@@ -177,8 +178,8 @@ module _ (metas : List MetaDesc) (program : Program) (formed : IsWellFormed meta
 
   speaks_in : (clause : List Conj) → ((c : Conj) → Contains clause c → HasConjunct rel c) → HandsTargetOn program rel → (n : ℕ) (args : List Typed) (e : Typed)
       → Contains clause (conjuncts.Call n args) → Contains args e → SpeaksOfSources program e
-  speaks_in clause there rule n args e c among = rule.speaks e (IsExpressionOf.conjunct (conjuncts.Call n args) (there (conjuncts.Call n args) c) among)
+  speaks_in clause there rule n args e c contains_at = rule.speaks e (IsExpressionOf.conjunct (conjuncts.Call n args) (there (conjuncts.Call n args) c) contains_at)
 
   pub rule_plain : (clause : List Conj) → ((c : Conj) → Contains clause c → HasConjunct rel c) → HandsTargetOn program rel → HavePlainArguments program rel clause
-  rule_plain clause there rule n args e c among =
-      plain_by program rel e (is_in e.node) refl rule (MayBeTarget.argument n args (there (conjuncts.Call n args) c) among) (speaks_in clause there rule n args e c among)
+  rule_plain clause there rule n args e c contains_at =
+      plain_by program rel e (is_in e.node) refl rule (MayBeTarget.argument n args (there (conjuncts.Call n args) c) contains_at) (speaks_in clause there rule n args e c contains_at)

@@ -18,7 +18,8 @@ use Rattle.qvtr_semantics.specs.Objects.{held_at}
 use Rattle.qvtr_semantics.specs.Expressions.{setting, value_for}
 use Rattle.qvtr_semantics.specs.Templates.{Values, SlotMeaning, ItemMeaning, Pattern, value_at, has, conforms, is_of_class, object_matches, slot_meaning, item_meaning, tmpl_meaning, pattern, meets}
 use Rattle.qvtr_semantics.proofs.TemplateLaws.{slot_of, item_of}
-use Rattle.template_match.proofs.ListLaws.{contains_first, contains_later}
+use Rattle.template_match.proofs.ListLaws.{contains_later}
+use Rattle.mof_metamodel.proofs.Facts.{contains_first}
 use Rattle.source_laws.specs.Agreement.{AgreeBut}
 use Rattle.source_laws.specs.SourceValues.{IsOfSources}
 use Rattle.source_laws.proofs.SettingLaws.{held_same, class_same}

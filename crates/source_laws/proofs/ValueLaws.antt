@@ -26,7 +26,8 @@ use Rattle.qvtr_semantics.proofs.ExpressionLaws.{node_of}
 use Rattle.source_laws.specs.Agreement.{AgreeBut}
 use Rattle.source_laws.specs.SourceValues.{IsOfSources, HasNoTarget}
 use Rattle.source_laws.specs.SourceExpressions.{AsksNoTargetExtent}
-use Rattle.template_match.proofs.ListLaws.{contains_first, contains_later, contains_left, contains_right}
+use Rattle.template_match.proofs.ListLaws.{contains_later, contains_left, contains_right}
+use Rattle.mof_metamodel.proofs.Facts.{contains_first}
 use Rattle.source_laws.proofs.DataLaws.{AllOfSources}
 use Rattle.source_laws.proofs.OperationLaws.{AllApart, integer_apart, operated_apart, negation_apart, negated_apart, chosen_apart, literal_apart, operation_apart, on_collection_apart, collect_apart, iterated_apart}
 use Rattle.source_laws.proofs.SettingLaws.{property_same, property_apart, class_operation_same, class_operation_apart, extent_same, extent_apart}

@@ -13,7 +13,7 @@ use Rattle.template_match.specs.Each.{IsEachOnce}
 use Rattle.template_match.specs.Problems.{Problem}
 use Rattle.template_match.specs.Search.{sought, search_from, values_of}
 use Rattle.template_match.specs.Posed.{IsPosed, IsSought}
-use Rattle.template_match.proofs.ListLaws.{contains_map}
+use Rattle.mof_metamodel.proofs.Facts.{contains_map}
 use Rattle.template_match.proofs.SideLaws.{meets_parts, valued}
 use Rattle.template_match.proofs.OrderLaws.{AreBound, values_total, less_is, ties_are, in_pairs}
 use Rattle.template_match.proofs.SearchLaws.{exact, one_binding}

@@ -4,9 +4,8 @@ use Rattle.std.specs.List.{AllByRecursion, find, list_any, list_all}
 use Rattle.std.proofs.Common.{refl, sym, ap, subst, ◌∙◌, arith}
 use Rattle.std.proofs.lemmas.List.Folds.{list_any_at}
 use Rattle.std.proofs.lemmas.Bool.{and_parts, true≢false}
-
-pub contains_first : {X : Type 0} (x : X) (xs : List X) → Contains (x ∷ xs) x
-contains_first x xs = (0, omega arith, refl)
+use Rattle.mof_metamodel.proofs.Facts.{contains_first, contains_map}
+use Rattle.std.proofs.lemmas.Option.{same_Some}
 
 pub contains_later : {X : Type 0} (x y : X) (ys : List X) → Contains ys x → Contains (y ∷ ys) x
 contains_later x y ys c = let (k, within, is) = c in (suc k, omega arith, is)
@@ -34,11 +33,6 @@ list_all_at p [] x a c = let (k, within, is) = c in absurd (omega arith)
 list_all_at p (y ∷ ys) x a (zero, within, is) = ap p (sym is) ∙ (and_parts (p y) (list_all p ys) a).0
 list_all_at p (y ∷ ys) x a (suc k, within, is) = list_all_at p ys x (and_parts (p y) (list_all p ys) a).1 (k, omega arith, is)
 
-pub contains_map : {X Y : Type 0} (f : X → Y) (xs : List X) (x : X) → Contains xs x → Contains (map f xs) (f x)
-contains_map f [] x c = let (k, within, is) = c in absurd (omega arith)
-contains_map f (y ∷ ys) x (zero, within, is) = (zero, omega arith, ap f is)
-contains_map f (y ∷ ys) x (suc k, within, is) = contains_later (f x) (f y) (map f ys) (contains_map f ys x (k, omega arith, is))
-
 any_by : {X : Type 0} (p : X → Bool) (x : X) (xs : List X) (b : Bool) → p x ≡ b → b || list_any p xs ≡ true → (list_any p xs ≡ true → (y : X) × Contains xs y × (p y ≡ true))
     → (y : X) × Contains (x ∷ xs) y × (p y ≡ true)
 any_by p x xs true is h more = (x, contains_first x xs, is)
@@ -58,12 +52,9 @@ pub find_none : {X : Type 0} (p : X → Bool) (xs : List X) (x : X) → find p x
 find_none p [] x h c = let (k, within, is) = c in absurd (omega arith)
 find_none p (y ∷ ys) x h c = none_by p y ys x (p y) refl h c (find_none p ys x)
 
-same_some : {X : Type 0} (a b : X) → Some a ≡ Some b → a ≡ b
-same_some a b e = cc
-
 some_by : {X : Type 0} (p : X → Bool) (y : X) (ys : List X) (x : X) (b : Bool) → p y ≡ b → (if b then Some y else find p ys) ≡ Some x
     → (find p ys ≡ Some x → Contains ys x × (p x ≡ true)) → Contains (y ∷ ys) x × (p x ≡ true)
-some_by p y ys x true is h more = (subst (Contains (y ∷ ys)) (same_some y x h) (contains_first y ys), ap p (sym (same_some y x h)) ∙ is)
+some_by p y ys x true is h more = (subst (Contains (y ∷ ys)) (same_Some y x h) (contains_first y ys), ap p (sym (same_Some y x h)) ∙ is)
 some_by p y ys x false is h more = let found = more h in (contains_later x y ys found.0, found.1)
 
 pub find_some : {X : Type 0} (p : X → Bool) (xs : List X) (x : X) → find p xs ≡ Some x → Contains xs x × (p x ≡ true)

@@ -19,12 +19,13 @@ use Rattle.qv_syntax.specs.declared.typed.Node.TheVariants as forms
 use Rattle.qv_syntax.specs.declared.typed.Call.TheOpen as nodes
 use Rattle.qv_syntax.specs.Parts.{IsNested, HasItem}
 use Rattle.qv_syntax.specs.Relations.{IsItemAlone}
-use Rattle.template_match.proofs.ListLaws.{contains_first, contains_right}
+use Rattle.template_match.proofs.ListLaws.{contains_right}
+use Rattle.mof_metamodel.proofs.Facts.{contains_first}
 use Rattle.template_match.specs.declared.side.Side.{Side}
 use Rattle.template_match.specs.declared.link.Link.{Link}
 use Rattle.template_match.specs.Links.{Held, Linked, variable_alone, own_link, value_links, item_links, tmpl_links, linked, links_of_item, held_in, links_of, domain_links, side_links}
 use Rattle.template_match.specs.Sides.{is_of_side}
-use Rattle.template_match.proofs.ListLaws.{contains_map}
+use Rattle.mof_metamodel.proofs.Facts.{contains_map}
 
 -- ---- what the links of a form are
 

@@ -15,7 +15,8 @@ use Rattle.qvtr_semantics.specs.declared.datum.Datum.{Datum}
 use Rattle.qvtr_semantics.specs.declared.binding.Binding.{Binding}
 use Rattle.qvtr_semantics.specs.Templates.{Values, value_at}
 use Rattle.qvtr_semantics.specs.Satisfaction.{comes_before, IsLess}
-use Rattle.template_match.proofs.ListLaws.{contains_first, contains_later}
+use Rattle.template_match.proofs.ListLaws.{contains_later}
+use Rattle.mof_metamodel.proofs.Facts.{contains_first}
 use Rattle.ocl_eval.specs.Order.{datum_order}
 use Rattle.ocl_eval.specs.OrderLaws.{before_by_order, ties_where_same, same_decides}
 use Rattle.template_match.specs.Order.{optional_order, values_order, binding_order}

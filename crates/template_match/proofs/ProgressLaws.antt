@@ -3,7 +3,7 @@
 use Rattle.std.specs.Prelude.{◌≡◌, ◌≢◌, ◌⊎◌, ◌<◌, ℕ, zero, suc, Bool, true, false, ◌==◌, not, List, [], ◌∷◌, length, Option, None, Some, is_some, slice_get, Contains}
 use Rattle.std.specs.List.{find}
 use Rattle.std.proofs.Common.{refl, sym, ap, subst, ◌∙◌, arith, inl, inr}
-use Rattle.std.proofs.lemmas.Bool.{and_parts, and_from, true≢false, eqb-true, eq-eqb}
+use Rattle.std.proofs.lemmas.Bool.{and_parts, and_from, true≢false, eqb-true, eq-eqb, not-false}
 use Rattle.object_tables.specs.declared.value.ObjId.{ObjId}
 use Rattle.qv_syntax.specs.declared.program.Program.{Program}
 use Rattle.qv_syntax.specs.declared.program.Rel.{Rel}
@@ -50,10 +50,6 @@ not_of x h = ap not h
 some_of : (o : Option Datum) (d : Datum) → o ≡ Some d → is_some o ≡ true
 some_of o d h = ap is_some h
 
-not_false : (x : Bool) → not x ≡ false → x ≡ true
-not_false true h = refl
-not_false false h = absurd (true≢false h)
-
 pub value_of : (o : Option Datum) → is_some o ≡ true → (d : Datum) × (o ≡ Some d)
 value_of None h = absurd (true≢false (sym h))
 value_of (Some d) h = (d, refl)
@@ -73,7 +69,7 @@ source_side program rel dom src = by dom.model refl
   where
     by : (o : Option ℕ) → dom.model ≡ o → not (is_model o program.target) ≡ true
     by None e = refl
-    by (Some n) e = true_of (not (n == program.target)) (λ same. src.source (e ∙ ap (λ x. Some x) (eqb-true n program.target (not_false (n == program.target) same))))
+    by (Some n) e = true_of (not (n == program.target)) (λ same. src.source (e ∙ ap (λ x. Some x) (eqb-true n program.target (not-false (n == program.target) same))))
 
 target_side : (program : Program) (rel : Rel) (dom : Dom) → IsTargetDomain program rel dom → is_of_side Target program dom ≡ true
 target_side program rel dom target = ap (λ o. is_model o program.target) target.target ∙ eq-eqb program.target program.target refl

@@ -13,7 +13,8 @@ use Rattle.qv_syntax.specs.declared.typed.TypedInfix.{TypedInfix, roll-TypedInfi
 use Rattle.qv_syntax.specs.declared.typed.TypedPostfix.{TypedPostfix, roll-TypedPostfix, map-TypedPostfix, fold-roll-TypedPostfix}
 use Rattle.qv_syntax.specs.Parts.{IsWithin, Names, parts_of, node_parts, call_parts, parts_of_call}
 use Rattle.qvtr_semantics.specs.Templates.{Values}
-use Rattle.template_match.proofs.ListLaws.{contains_first, contains_later, contains_left, contains_right}
+use Rattle.template_match.proofs.ListLaws.{contains_later, contains_left, contains_right}
+use Rattle.mof_metamodel.proofs.Facts.{contains_first}
 use Rattle.template_match.specs.Ready.{is_known, all_true, node_ready, call_ready, typed_ready, infix_ready, postfix_ready, is_ready, is_node_ready, is_call_ready, is_infix_ready, is_postfix_ready}
 
 module _ (a : Values) where

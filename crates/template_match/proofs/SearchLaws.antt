@@ -11,7 +11,7 @@ use Rattle.qvtr_semantics.specs.declared.datum.Datum.{Datum}
 use Rattle.qvtr_semantics.specs.Objects.{is_number_among}
 use Rattle.qvtr_semantics.specs.Templates.{Values, value_at}
 use Rattle.qvtr_semantics.specs.Bindings.{Extends}
-use Rattle.template_match.proofs.ListLaws.{contains_first}
+use Rattle.mof_metamodel.proofs.Facts.{contains_first}
 use Rattle.ocl_eval.proofs.ClassLaws.{among_from, among_to}
 use Rattle.template_match.specs.declared.link.Link.{Link}
 use Rattle.template_match.specs.Sides.{meets_side}

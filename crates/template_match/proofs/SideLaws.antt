@@ -27,7 +27,8 @@ use Rattle.qvtr_semantics.specs.Bindings.{is_model, meta_of_type, is_value_of_ty
 use Rattle.template_match.specs.declared.side.Side.{Side}
 use Rattle.template_match.specs.Sides.{clause_of, domain_meets, meets_side}
 use Rattle.template_match.specs.Search.{extent_by, extent_for, objects_in, objects_of}
-use Rattle.template_match.proofs.ListLaws.{contains_map, list_all_at}
+use Rattle.template_match.proofs.ListLaws.{list_all_at}
+use Rattle.mof_metamodel.proofs.Facts.{contains_map}
 
 -- the three things that a side asks
 pub record Meets (side : Side) (variables : List ℕ) (program : Program) (models : List ModelData) (rel : Rel) (b : Values) : Type 0 where

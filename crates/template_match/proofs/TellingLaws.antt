@@ -18,7 +18,8 @@ use Rattle.qv_syntax.specs.declared.typed.TypedInfix.{TypedInfix, fold-TypedInfi
 use Rattle.qv_syntax.specs.declared.typed.TypedPostfix.{TypedPostfix, fold-TypedPostfix}
 use Rattle.qv_syntax.specs.Parts.{IsWithin, Names, parts_of, node_parts}
 use Rattle.qv_syntax.specs.Relations.{Says, InConjunct}
-use Rattle.template_match.proofs.ListLaws.{contains_first, contains_later}
+use Rattle.template_match.proofs.ListLaws.{contains_later}
+use Rattle.mof_metamodel.proofs.Facts.{contains_first}
 use Rattle.qvtr_semantics.specs.declared.datum.Datum.{Datum}
 use Rattle.qvtr_semantics.specs.declared.datum.Datum.TheVariants.{Val}
 use Rattle.qvtr_semantics.specs.declared.out.Out.{Out}

@@ -17,7 +17,9 @@ use Rattle.xmi_profile.proofs.ElementLaws.{OfElement, UnknownAttrs, IsWrongAttrO
 use Rattle.xmi_profile.specs.Firsts.{Stands, FirstIn, Duplicates}
 use Rattle.xmi_profile.proofs.FirstLaws.{Either, Never, first_as, first_of_both}
 use Rattle.xmi_profile.proofs.RoleLaws.{NoClass, BothC, BothU, BothW, RoleProperties, RoleWrongs, of_as, of_both, role_first}
-use Rattle.xmi_profile.proofs.SeenLaws.{kept, element_kept, in_cons, in_none, in_head, in_tail}
+use Rattle.xmi_profile.proofs.SeenLaws.{kept, element_kept, in_cons, in_tail}
+use Rattle.mof_metamodel.proofs.Facts.{contains_first}
+use Rattle.mof_metamodel.proofs.Facts.{nothing_in}
 
 -- ---- an element
 
@@ -94,7 +96,7 @@ module _ (s : Source) where
   more_items : (P : Stands) (item : Item) (items : List Item) (g : ModelFault) (place : ℕ)
       → Either (Either P (StandsIn s item)) (Among s items) g place → Either P (Among s (item ∷ items)) g place
   more_items P item items g place (inl (inl x)) = inl x
-  more_items P item items g place (inl (inr x)) = inr (record { item = item; is_among = in_head item items; stands = x })
+  more_items P item items g place (inl (inr x)) = inr (record { item = item; is_among = contains_first item items; stands = x })
   more_items P item items g place (inr x) = inr (record { item = x.item; is_among = in_tail item items x.item x.is_among; stands = x.stands })
 
   fewer_items : (P : Stands) (item : Item) (items : List Item) (g : ModelFault) (place : ℕ)
@@ -111,7 +113,7 @@ module _ (s : Source) where
     where
       back : (g : ModelFault) (place : ℕ) → P g place ⊎ Among s [] g place → P g place
       back g place (inl x) = x
-      back g place (inr x) = absurd (in_none x.item x.is_among)
+      back g place (inr x) = absurd (nothing_in x.item x.is_among)
   items_first P found (item ∷ items) h w =
       let W : Item → Type 0 = λ i. IsWithin s.meta i.role in
       let next : Option Found = first_of found (element_fault s.meta (file_ids s) (element_of item)) in

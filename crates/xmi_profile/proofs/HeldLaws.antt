@@ -18,7 +18,10 @@ use Rattle.object_tables.specs.Kept.{Kept}
 use Rattle.object_tables.specs.Models.{ModelData, object_at, class_at, id_at, values_at, slot_in, slot_number, index_of, no_slot, is_class_type, IsAttributeOf, IsReferenceOf}
 use Rattle.object_tables.proofs.ModelLemmas.{index-found}
 use Rattle.xmi_profile.specs.Held.{IsHeldText, IsHeld}
-use Rattle.xmi_profile.proofs.assembling.ListLaws.{contains_get, get_some, none_some, some_same}
+use Rattle.xmi_profile.proofs.assembling.ListLaws.{get_some}
+use Rattle.mof_metamodel.proofs.Facts.{contains_at}
+use Rattle.std.proofs.lemmas.Option.{same_Some}
+use Rattle.std.proofs.lemmas.Option.{none-some}
 
 pub values_somewhere : (m : ModelData) → Kept m → (o p : ℕ) → (values_at m o p ≡ []) ⊎ IsAttributeOf m o p
 values_somewhere m kept o p = by (object_at m o) refl
@@ -38,7 +41,7 @@ values_somewhere m kept o p = by (object_at m o) refl
     by (Some ob) e =
         let props : List ℕ = props_of m.meta ob.class in
         elim (cases_lt (index_of props p) (length props)) [
-          | inl l ↦ at_type ob e (subst (λ (q : ℕ). Contains props q) (index-found props p 0 l) (contains_get props (index_of props p) (get_or props (index_of props p) 0) (get_some props (index_of props p) 0 l))) (is_class_type (type_of m.meta p)) refl
+          | inl l ↦ at_type ob e (subst (λ (q : ℕ). Contains props q) (index-found props p 0 l) (contains_at props (index_of props p) (get_or props (index_of props p) 0) (get_some props (index_of props p) 0 l))) (is_class_type (type_of m.meta p)) refl
           | inr le ↦ inl (let slots = (kept.objects o ob e).slots in ap (λ s. s.values) (get_or_past ob.slots (slot_number m.meta ob.class p) no_slot (omega (arith, le, slots))))
         ]
 
@@ -102,17 +105,17 @@ attributes_held m o c ids e n h p a =
     All-contains (λ (p : ℕ). IsAttributeOf m o p → All IsHeld (values_at m o p)) (props_of m.meta c) p
     (All-same (λ (p : ℕ). IsAttributeOf m o p → All IsHeld (values_at m o p)) (props_of m.meta c) (prop_numbers ids) (sym n)
     (All-map (λ (p : ℕ). IsAttributeOf m o p → All IsHeld (values_at m o p)) (λ (p : PropId). p.0) ids h))
-    (subst (λ (k : ℕ). Contains (props_of m.meta k) p) (some_same a.class c (sym a.class_is ∙ e)) a.has) a
+    (subst (λ (k : ℕ). Contains (props_of m.meta k) p) (same_Some a.class c (sym a.class_is ∙ e)) a.has) a
 
 -- an object of no number has no class
 pub none_gone : (m : ModelData) (o c : ℕ) → class_at m o ≡ Some c → o < length m.objects
 none_gone m o c e = elim (cases_lt o (length m.objects)) [
   | inl l ↦ l
-  | inr le ↦ absurd (none_some c (ap (λ (x : Option Object). option_map (λ (ob : Object). ob.class) x) (sym (get_or_past m.objects o None le)) ∙ e))
+  | inr le ↦ absurd (none-some c (ap (λ (x : Option Object). option_map (λ (ob : Object). ob.class) x) (sym (get_or_past m.objects o None le)) ∙ e))
 ]
 
 pub none_named : (m : ModelData) (o : ℕ) (id : List ℕ) → id_at m o ≡ Some id → o < length m.objects
 none_named m o id e = elim (cases_lt o (length m.objects)) [
   | inl l ↦ l
-  | inr le ↦ absurd (none_some id (ap (λ (x : Option Object). option_map (λ (ob : Object). ob.id) x) (sym (get_or_past m.objects o None le)) ∙ e))
+  | inr le ↦ absurd (none-some id (ap (λ (x : Option Object). option_map (λ (ob : Object). ob.id) x) (sym (get_or_past m.objects o None le)) ∙ e))
 ]

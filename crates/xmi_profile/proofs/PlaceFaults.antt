@@ -18,9 +18,12 @@ use Rattle.xmi_profile.specs.FirstFault.{rank, IsFirstAt}
 use Rattle.xmi_profile.specs.Judged.{found_place, text_place, first_place, runs, IsAttrAt, IsAlien, IsStranger, IsUnknownAttr, is_unknown_of, id_in, IsWrongId, IsWrongAttr, IsWrongObject, IsWrong}
 use Rattle.xmi_profile.specs.Profile.{prop_name}
 use Rattle.xmi_profile.specs.Source.{Source, all_items, file_ids, printed_id}
-use Rattle.xmi_profile.proofs.SeenLaws.{in_head}
+use Rattle.mof_metamodel.proofs.Facts.{contains_first}
 use Rattle.xmi_profile.proofs.PlaceOwners.{IsInHead, IsOf, of_head, of_run, of_value, IsBelow, AreOneOrBelow, one, below, above, tree_apart}
-use Rattle.xmi_profile.proofs.assembling.ListLaws.{none_some, some_same, get_within, get_filter, contains_get}
+use Rattle.xmi_profile.proofs.assembling.ListLaws.{get_within, get_filter}
+use Rattle.mof_metamodel.proofs.Facts.{contains_at}
+use Rattle.std.proofs.lemmas.Option.{same_Some}
+use Rattle.std.proofs.lemmas.Option.{none-some}
 use Rattle.xmi_profile.proofs.filed_laws.PlaceLaws.{IsNumbered, AreNumberedFrom, placed_tree}
 use Rattle.xmi_profile.proofs.written.Naming.{prop_not_id}
 
@@ -31,22 +34,22 @@ pair n v = (n, v)
 
 -- the attribute that is found has a name that passes
 first_there : (passes : List ℕ → Bool) (attrs : Attrs) (found : ℕ × List ℕ) → first_attr passes attrs ≡ Some found → (name : List ℕ) × (slice_get attrs found.0 ≡ Some (name, found.1)) × (passes name ≡ true)
-first_there passes [] found e = absurd (none_some found e)
+first_there passes [] found e = absurd (none-some found e)
 first_there passes (a ∷ attrs) found e = by (passes a.0) refl (first_there passes attrs) found e
   where
     behind : ((x : ℕ × List ℕ) → first_attr passes attrs ≡ Some x → (name : List ℕ) × (slice_get attrs x.0 ≡ Some (name, x.1)) × (passes name ≡ true))
         → (o : Option (ℕ × List ℕ)) → first_attr passes attrs ≡ o → (found : ℕ × List ℕ) → option_map later o ≡ Some found
         → (name : List ℕ) × (slice_get (a ∷ attrs) found.0 ≡ Some (name, found.1)) × (passes name ≡ true)
-    behind more None f found g = absurd (none_some found g)
+    behind more None f found g = absurd (none-some found g)
     behind more (Some x) f found g =
         let m = more x f in
-        subst (λ (y : ℕ × List ℕ). (name : List ℕ) × (slice_get (a ∷ attrs) y.0 ≡ Some (name, y.1)) × (passes name ≡ true)) (some_same (later x) found g) m
+        subst (λ (y : ℕ × List ℕ). (name : List ℕ) × (slice_get (a ∷ attrs) y.0 ≡ Some (name, y.1)) × (passes name ≡ true)) (same_Some (later x) found g) m
 
     by : (b : Bool) → passes a.0 ≡ b → ((x : ℕ × List ℕ) → first_attr passes attrs ≡ Some x → (name : List ℕ) × (slice_get attrs x.0 ≡ Some (name, x.1)) × (passes name ≡ true))
         → (found : ℕ × List ℕ) → cond b (Some (0, a.1)) (option_map later (first_attr passes attrs)) ≡ Some found
         → (name : List ℕ) × (slice_get (a ∷ attrs) found.0 ≡ Some (name, found.1)) × (passes name ≡ true)
     by true t more found g =
-        subst (λ (y : ℕ × List ℕ). (name : List ℕ) × (slice_get (a ∷ attrs) y.0 ≡ Some (name, y.1)) × (passes name ≡ true)) (some_same (pair 0 a.1) found g) (a.0, refl, t)
+        subst (λ (y : ℕ × List ℕ). (name : List ℕ) × (slice_get (a ∷ attrs) y.0 ≡ Some (name, y.1)) × (passes name ≡ true)) (same_Some (pair 0 a.1) found g) (a.0, refl, t)
     by false t more found g = behind more (first_attr passes attrs) refl found g
 
 -- what is found stands in the start tag
@@ -68,7 +71,7 @@ here_in_head x q e = (omega (arith, e), omega (arith, e))
 attr_named : (x : Item) (q : ℕ) (name text name' text' : List ℕ) → IsAttrAt x q name text → IsAttrAt x q name' text' → name ≡ name'
 attr_named x q name text name' text' (n, e, p) (k, f, r) =
     let same : n ≡ k = omega (arith, p, r) in
-    ap (λ (a : List ℕ × List ℕ). a.0) (some_same (name, text) (name', text') (sym e ∙ ap (slice_get x.attrs) same ∙ f))
+    ap (λ (a : List ℕ × List ℕ). a.0) (same_Some (name, text) (name', text') (sym e ∙ ap (slice_get x.attrs) same ∙ f))
 
 -- no attribute stands at the start of its element, nor a run of characters in its start tag
 attr_behind : (x : Item) (q : ℕ) (name text : List ℕ) → IsAttrAt x q name text → q ≡ x.place → ⊥
@@ -137,7 +140,7 @@ module _ (s : Source) (x : Item) (q : ℕ) where
     where
       by : (rs : List (ℕ × List ℕ)) → runs x ≡ rs → q ≡ first_place (inner_place x.place x.attrs) rs → IsOf x q
       by [] f g = of_value o p r g
-      by (run ∷ rest) f g = of_run run.1 (subst (λ (k : ℕ). Contains (runs x) (k, run.1)) (sym g) (subst (λ (rs : List (ℕ × List ℕ)). Contains rs (run.0, run.1)) (sym f) (in_head run rest)))
+      by (run ∷ rest) f g = of_run run.1 (subst (λ (k : ℕ). Contains (runs x) (k, run.1)) (sym g) (subst (λ (rs : List (ℕ × List ℕ)). Contains rs (run.0, run.1)) (sym f) (contains_first run rest)))
 
   wrong_of : (role : Role) (id : List ℕ) (prop : Option (List ℕ)) → x.role ≡ role → IsWrong s x role q id prop → IsOf x q
   wrong_of Document id prop r h = of_run h.0.0 h.0.1
@@ -156,7 +159,7 @@ module _ (s : Source) (x : Item) (q : ℕ) where
     where
       by : (o : Option (ℕ × List ℕ)) → first_attr is_id_name x.attrs ≡ o → option_map (λ (found : ℕ × List ℕ). found.1) o ≡ Some h.written → q ≡ found_place x.place o
           → (name text : List ℕ) × IsAttrAt x q name text × (is_id_name name ≡ true)
-      by None e f g = absurd (none_some h.written f)
+      by None e f g = absurd (none-some h.written f)
       by (Some found) e f g = let there = first_there is_id_name x.attrs found e in (there.0, found.1, (found.0, there.1, g), there.2)
 
   run_apart : (characters : List ℕ) → Contains (runs x) (q, characters) → IsInHead x q → ⊥
@@ -196,7 +199,7 @@ module _ (s : Source) (x : Item) (q : ℕ) where
     object_one object id id' prop prop' (inr (inr (inr h))) (inr (inl k)) = absurd (attr_behind x q k.name k.text k.attr h.place_is)
     object_one object id id' prop prop' (inr (inr (inr h))) (inr (inr (inl k))) = absurd (run_apart k.text.0 k.text.1 (here_in_head x q h.place_is))
     object_one object id id' prop prop' (inr (inr (inr h))) (inr (inr (inr k))) =
-        let within : (h.container, h.property) ≡ (k.container, k.property) = some_same (h.container, h.property) (k.container, k.property) (sym h.within ∙ k.within) in
+        let within : (h.container, h.property) ≡ (k.container, k.property) = same_Some (h.container, h.property) (k.container, k.property) (sym h.within ∙ k.within) in
         (h.id_is ∙ ap (λ (c : ℕ × ℕ). printed_id s c.0) within ∙ sym k.id_is, h.prop_is ∙ ap (λ (c : ℕ × ℕ). Some (prop_name s.meta c.1)) within ∙ sym k.prop_is)
 
     wrong_one : (role : Role) (id id' : List ℕ) (prop prop' : Option (List ℕ)) → IsWrong s x role q id prop → IsWrong s x role q id' prop' → (id ≡ id') × (prop ≡ prop')
@@ -255,7 +258,7 @@ below_wrong o p q s y (Stranger a) id prop h k = absurd h
 
 numbered_at : (number : ℕ) (xs : List Item) → AreNumberedFrom number xs → (k : ℕ) (x : Item) → slice_get (filter is_object xs) k ≡ Some x
     → (object : ObjectRole) × (object_of x.role ≡ Some object) × (object.number ≡ number + k)
-numbered_at number [] h k x e = absurd (none_some x e)
+numbered_at number [] h k x e = absurd (none-some x e)
 numbered_at number (y ∷ ys) h k x e = by (object_of y.role) refl h.0 (numbered_at (number_in y.role number) ys h.1) k e
   where
     Answer : ℕ → Type 0
@@ -264,7 +267,7 @@ numbered_at number (y ∷ ys) h k x e = by (object_of y.role) refl h.0 (numbered
     at_first : (object : ObjectRole) → object_of y.role ≡ Some object → object.number ≡ number
         → ((k : ℕ) (z : Item) → slice_get (filter is_object ys) k ≡ Some z → (ob : ObjectRole) × (object_of z.role ≡ Some ob) × (ob.number ≡ suc number + k))
         → (k : ℕ) → slice_get (y ∷ filter is_object ys) k ≡ Some x → Answer k
-    at_first object o n more zero g = (object, ap (λ (z : Item). object_of z.role) (sym (some_same y x g)) ∙ o, omega (arith, n))
+    at_first object o n more zero g = (object, ap (λ (z : Item). object_of z.role) (sym (same_Some y x g)) ∙ o, omega (arith, n))
     at_first object o n more (suc k) g = let m = more k x g in (m.0, m.1, (let l = m.2 in omega (arith, l)))
 
     by : (o : Option ObjectRole) → object_of y.role ≡ o → IsNumbered number o
@@ -325,7 +328,7 @@ module _ (s : Source) (q : ℕ) where
   object_there id h = let n = numbered_at 0 (all_items s) numbered h.object h.item h.item_is in (n.0, n.1, (let l = n.2 in omega (arith, l)))
 
   item_there : (id : List ℕ) (h : IsDuplicate s q id) → Contains (all_items s) h.item
-  item_there id h = let f = get_filter is_object (all_items s) h.object h.item h.item_is in contains_get (all_items s) f.0 h.item f.1
+  item_there id h = let f = get_filter is_object (all_items s) h.object h.item h.item_is in contains_at (all_items s) f.0 h.item f.1
 
   one_duplicate : (id id' : List ℕ) → IsDuplicate s q id → IsDuplicate s q id' → id ≡ id'
   one_duplicate id id' h k =
@@ -339,11 +342,11 @@ module _ (s : Source) (q : ℕ) where
 
       by : AreOneOrBelow h.item k.item → id ≡ id'
       by (one e) =
-          let object : n.0 ≡ m.0 = some_same n.0 m.0 (sym n.1 ∙ ap (λ (z : Item). object_of z.role) e ∙ m.1) in
+          let object : n.0 ≡ m.0 = same_Some n.0 m.0 (sym n.1 ∙ ap (λ (z : Item). object_of z.role) e ∙ m.1) in
           let same : h.object ≡ k.object = sym n.2 ∙ ap (λ (o : ObjectRole). o.number) object ∙ m.2 in
-          some_same id id' (sym h.id_is ∙ ap (slice_get (file_ids s)) same ∙ k.id_is)
-      by (below o p r u) = absurd (none_some n.0 (sym (ap object_of r) ∙ n.1))
-      by (above o p r u) = absurd (none_some m.0 (sym (ap object_of r) ∙ m.1))
+          same_Some id id' (sym h.id_is ∙ ap (slice_get (file_ids s)) same ∙ k.id_is)
+      by (below o p r u) = absurd (none-some n.0 (sym (ap object_of r) ∙ n.1))
+      by (above o p r u) = absurd (none-some m.0 (sym (ap object_of r) ∙ m.1))
 
   module _ (well : WellMeta s.meta) where
     -- faults of one kind at a place

@@ -9,7 +9,8 @@ use Rattle.xmi_profile.specs.declared.fault.Externs.{Externs}
 use Rattle.xmi_profile.specs.Attributes.{is_skipped_name, is_alien_name, Attrs}
 use Rattle.xmi_profile.specs.Elements.{Item, Role, Document, Skipped, AnObject, AValue, AReference, Neither, Alien, Stranger, Misplaced, role_of_root, role_in, role_in_property, number_in, number_behind, room_of, inner_place, behind_place, items_in, items}
 use Rattle.xmi_profile.specs.Judged.{runs_in, runs}
-use Rattle.xmi_profile.proofs.SeenLaws.{in_cons, in_none}
+use Rattle.xmi_profile.proofs.SeenLaws.{in_cons}
+use Rattle.mof_metamodel.proofs.Facts.{nothing_in}
 
 -- a place in the start tag of an element, of a run of characters directly in it, or directly behind the start tag of a value's
 abbrev pub IsInHead : Item → ℕ → Type 0
@@ -44,7 +45,7 @@ run_at : ℕ → List ℕ → ℕ × List ℕ
 run_at place characters = (place, characters)
 
 pub runs_within : (nodes : Nodes) (place : ℕ) (run : ℕ × List ℕ) → Contains (runs_in nodes place) run → (place ≤ run.0) × (run.0 < place + room_of nodes)
-runs_within Ends place run c = absurd (in_none run c)
+runs_within Ends place run c = absurd (nothing_in run c)
 runs_within (Run characters more) place run c = by (in_cons (place, characters) (runs_in more (suc place)) run c) (runs_within more (suc place) run)
   where
     by : ((place, characters) ≡ run) ⊎ Contains (runs_in more (suc place)) run → (Contains (runs_in more (suc place)) run → (suc place ≤ run.0) × (run.0 < suc place + room_of more)) → (place ≤ run.0) × (run.0 < place + suc (room_of more))
@@ -89,7 +90,7 @@ module _ (meta : MetaDesc) (outside : Externs) (o p : ℕ) where
   below_role (Stranger a) (inr h) number name attrs = absurd h
 
   all_below : (parent : Role) → IsValued parent → (nodes : Nodes) (place number : ℕ) (y : Item) → Contains (items_in meta outside parent nodes place number) y → IsBelow o p y.role
-  all_below parent v Ends place number y c = absurd (in_none y c)
+  all_below parent v Ends place number y c = absurd (nothing_in y c)
   all_below parent v (Run characters more) place number y c = all_below parent v more (suc place) number y c
   all_below parent v (Inner name attrs inner more) place number y c =
       by (Contains-append_cases (item ∷ inners) mores y c) (all_below role (inr here) inner (inner_place place attrs) (number_in role number) y)
@@ -174,9 +175,9 @@ module _ (meta : MetaDesc) (outside : Externs) where
 
   spread : (parent : Role) (nodes : Nodes) (place number : ℕ) → AreSpread (items_in meta outside parent nodes place number) nodes place
   spread parent Ends place number = record {
-    within = λ x c. absurd (in_none x c);
-    apart = λ x y q c d m n. absurd (in_none x c);
-    runs = λ run r x c m. in_none x c;
+    within = λ x c. absurd (nothing_in x c);
+    apart = λ x y q c d m n. absurd (nothing_in x c);
+    runs = λ run r x c m. nothing_in x c;
   }
   spread parent (Run characters more) place number = with_run (spread parent more (suc place) number)
     where

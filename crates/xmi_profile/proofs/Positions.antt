@@ -4,6 +4,7 @@ use Rattle.std.specs.Prelude.{nat_lt, not, slice_get, position, Option}
 use Rattle.std.specs.List.{position_or_len}
 use Rattle.std.specs.Option.{option_map, option_or, unwrap_or}
 use Rattle.std.proofs.lemmas.Bool.{true≢false, lt-ltb, le-ltb, cases_lt, cond-true, cond-false}
+use Rattle.std.proofs.lemmas.Option.{none-some}
 
 abbrev pub first_place : {X : Type 0} → (X → Bool) → List X → Option ℕ
 first_place p [] = None
@@ -55,11 +56,8 @@ pub position_push : {X : Type 0} (p : X → Bool) (xs : List X) (y : X) → posi
 position_push p xs y =
     position_is p (xs ++ y ∷ []) ∙ first_push p xs y ∙ ap (λ (o : Option ℕ). option_or o (cond (p y) (Some (length xs)) None)) (sym (position_is p xs))
 
-none_is_no_some : {X : Type 0} (x : X) → None ≡ Some x → ⊥
-none_is_no_some x e = cc
-
 pub first_passes : {X : Type 0} (p : X → Bool) (xs : List X) (i : ℕ) → first_place p xs ≡ Some i → (x : X) × (slice_get xs i ≡ Some x) × (p x ≡ true)
-first_passes p [] i e = absurd (none_is_no_some i e)
+first_passes p [] i e = absurd (none-some i e)
 first_passes {X = X} p (x ∷ xs) i e = by (p x) refl e (first_passes p xs)
   where
     by : (b : Bool) → p x ≡ b → cond b (Some 0) (option_map suc (first_place p xs)) ≡ Some i
@@ -68,21 +66,21 @@ first_passes {X = X} p (x ∷ xs) i e = by (p x) refl e (first_passes p xs)
     by false h f more = later (first_place p xs) refl f
       where
         later : (o : Option ℕ) → first_place p xs ≡ o → option_map suc o ≡ Some i → (y : X) × (slice_get (x ∷ xs) i ≡ Some y) × (p y ≡ true)
-        later None g f = absurd (none_is_no_some i f)
+        later None g f = absurd (none-some i f)
         later (Some k) g f =
             let r = more k g in
             (r.0, ap (slice_get (x ∷ xs)) (sym (ap (λ (o : Option ℕ). unwrap_or o i) f)) ∙ r.1, r.2)
 
 pub none_passes : {X : Type 0} (p : X → Bool) (xs : List X) (i : ℕ) (x : X) → first_place p xs ≡ None → slice_get xs i ≡ Some x → p x ≡ true → ⊥
-none_passes p [] i x e g t = none_is_no_some x g
+none_passes p [] i x e g t = none-some x g
 none_passes {X = X} p (y ∷ ys) i x e g t = by (p y) refl e (none_passes p ys) i g
   where
     by : (b : Bool) → p y ≡ b → cond b (Some 0) (option_map suc (first_place p ys)) ≡ None
         → ((k : ℕ) (z : X) → first_place p ys ≡ None → slice_get ys k ≡ Some z → p z ≡ true → ⊥) → (k : ℕ) → slice_get (y ∷ ys) k ≡ Some x → ⊥
-    by true h f more k g = none_is_no_some 0 (sym f)
+    by true h f more k g = none-some 0 (sym f)
     by false h f more zero g = true≢false (sym t ∙ ap p (sym (ap (λ o. unwrap_or o x) g)) ∙ h)
     by false h f more (suc k) g = later (first_place p ys) refl f
       where
         later : (o : Option ℕ) → first_place p ys ≡ o → option_map suc o ≡ None → ⊥
         later None q f = more k x q g t
-        later (Some j) q f = none_is_no_some (suc j) (sym f)
+        later (Some j) q f = none-some (suc j) (sym f)

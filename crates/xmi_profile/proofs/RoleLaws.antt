@@ -30,6 +30,7 @@ use Rattle.xmi_profile.specs.Firsts.{Before, Stands, FirstIn}
 use Rattle.xmi_profile.proofs.FirstLaws.{Either, first_as, first_of_both}
 use Rattle.xmi_profile.proofs.Prefixes.{same_bool}
 use Rattle.xmi_profile.proofs.SeenLaws.{kept, odd_from, odd_found, FirstOdd, text_at_is}
+use Rattle.std.proofs.lemmas.Option.{none-some, same_Some}
 
 -- ---- the three kinds
 
@@ -179,14 +180,6 @@ text_first item id prop = by (odd_from None (runs item)) (odd_found item.inner (
         before : (p : ℕ) → first ≤ p → Before first 4 p 4
         before p l = elim (cases_lt first p) [ inl m ↦ inl m | inr m ↦ inr (omega (arith, l, m), omega arith) ]
 
--- ---- options
-
-no_some : {X : Type 0} (x : X) → None ≡ Some x → ⊥
-no_some x e = cc
-
-same_some : {X : Type 0} (x y : X) → Some x ≡ Some y → x ≡ y
-same_some x y e = ap (λ o. unwrap_or o x) e
-
 -- ---- classes
 
 pub conforms_same : (meta : MetaDesc) (c d : ℕ) → c < class_count meta → (b : Bool) → ((b ≡ true) ↔ Conforms meta c d) → b ≡ conforms_within meta (class_count meta) c d
@@ -253,7 +246,7 @@ module _ (s : Source) (item : Item) where
       by true h v k =
           of_none NoClass NoProperty (RoleWrongs s item (elements.AValue o p)) (λ at n x. x) (λ at i q x. x) (λ at i q x. true≢false (sym h ∙ x.0.valued))
       by false h (Some v) k =
-          of_none NoClass NoProperty (RoleWrongs s item (elements.AValue o p)) (λ at n x. x) (λ at i q x. x) (λ at i q x. no_some v (sym x.0.wrong ∙ k))
+          of_none NoClass NoProperty (RoleWrongs s item (elements.AValue o p)) (λ at n x. x) (λ at i q x. x) (λ at i q x. none-some v (sym x.0.wrong ∙ k))
       by false h None k =
           let t = text_at_is (inner_place item.place item.attrs) (runs item) in
           one_wrong (judging.text_place here) (printed_id s o) (Some (prop_name s.meta p)) NoClass NoProperty (RoleWrongs s item (elements.AValue o p))
@@ -263,7 +256,7 @@ module _ (s : Source) (item : Item) where
   id_first object = by (value_where is_id_name item.attrs) refl
     where
       by : (w : Option (List ℕ)) → value_where is_id_name item.attrs ≡ w → FirstIn (OfElement NoClass NoProperty (IsWrongId item object)) (id_fault_by here object.number w)
-      by None h = of_none NoClass NoProperty (IsWrongId item object) (λ at n x. x) (λ at i q x. x) (λ at i q x. no_some x.written (sym h ∙ x.found))
+      by None h = of_none NoClass NoProperty (IsWrongId item object) (λ at n x. x) (λ at i q x. x) (λ at i q x. none-some x.written (sym h ∙ x.found))
       by (Some id) h = judged (is_identifier_text id) refl
         where
           judged : (b : Bool) → is_identifier_text id ≡ b
@@ -271,7 +264,7 @@ module _ (s : Source) (item : Item) where
               (if b then None else Some (found_at (place_of is_id_name here) (faults.WrongValue (given_id object.number) None)))
           judged true e =
               of_none NoClass NoProperty (IsWrongId item object) (λ at n x. x) (λ at i q x. x)
-              (λ at i q x. true≢false (sym e ∙ ap is_identifier_text (same_some id x.written (sym h ∙ x.found)) ∙ x.wrong))
+              (λ at i q x. true≢false (sym e ∙ ap is_identifier_text (same_Some id x.written (sym h ∙ x.found)) ∙ x.wrong))
           judged false e =
               let t = found_as item.place is_id_name item.attrs in
               one_wrong (place_of is_id_name here) (given_id object.number) None NoClass NoProperty (IsWrongId item object)
@@ -299,7 +292,7 @@ module _ (s : Source) (item : Item) where
   part_first object class is l = by object.within refl
     where
       by : (w : Option (ℕ × ℕ)) → object.within ≡ w → FirstIn (OfElement NoClass NoProperty (IsWrongPart s item object)) (part_fault s.meta ids here class w)
-      by None h = of_none NoClass NoProperty (IsWrongPart s item object) (λ at n x. x) (λ at i q x. x) (λ at i q x. no_some (x.container, x.property) (sym h ∙ x.within))
+      by None h = of_none NoClass NoProperty (IsWrongPart s item object) (λ at n x. x) (λ at i q x. x) (λ at i q x. none-some (x.container, x.property) (sym h ∙ x.within))
       by (Some w) h = typed (conforms_to s.meta class (type_of s.meta w.1)) refl
         where
           typed : (b : Bool) → conforms_to s.meta class (type_of s.meta w.1) ≡ b
@@ -307,8 +300,8 @@ module _ (s : Source) (item : Item) where
           typed true e =
               of_none NoClass NoProperty (IsWrongPart s item object) (λ at n x. x) (λ at i q x. x)
               (λ at i q x.
-              let same : w ≡ (x.container, x.property) = same_some w (x.container, x.property) (sym h ∙ x.within) in
-              let c : class ≡ x.class = same_some class x.class (sym is ∙ x.class_is) in
+              let same : w ≡ (x.container, x.property) = same_Some w (x.container, x.property) (sym h ∙ x.within) in
+              let c : class ≡ x.class = same_Some class x.class (sym is ∙ x.class_is) in
               x.other (subst (λ (k : ℕ). ConformsTo s.meta k (type_of s.meta x.property)) c
               (subst (λ (v : ℕ × ℕ). ConformsTo s.meta class (type_of s.meta v.1)) same (conforms_sound class (type_of s.meta w.1) e))))
           typed false e =
@@ -338,12 +331,12 @@ module _ (s : Source) (item : Item) where
     where
       nothing : (at : ℕ) (i : List ℕ) (q : Option (List ℕ)) → Telling object at i q → ⊥
       nothing at i q (inl x) = true≢false (sym x.known ∙ ap (λ (c : Option ℕ). is_some c) is)
-      nothing at i q (inr x) = no_some x.class (sym is ∙ x.class_is)
+      nothing at i q (inr x) = none-some x.class (sym is ∙ x.class_is)
   by_class object (Some class) is w =
       of_as (BothC NoClass NoClass) (IsAlien item (elements.AnObject object)) (BothU NoProperty NoProperty) NoProperty
       (BothW (TextFaults item (printed_id s object.number) None) (IsWrongPart s item object)) (Telling object)
       (first_of (found_if (odd_from None (runs item)) (faults.WrongValue (printed_id s object.number) None)) (part_fault s.meta ids here class object.within))
-      (λ at n. (nothing, λ x. absurd (no_some class (sym x.0 ∙ is))))
+      (λ at n. (nothing, λ x. absurd (none-some class (sym x.0 ∙ is))))
       (λ at i q. (nothing, λ x. absurd x))
       (λ at i q. (there at i q, back at i q))
       (of_both NoClass NoClass NoProperty NoProperty (TextFaults item (printed_id s object.number) None) (IsWrongPart s item object)

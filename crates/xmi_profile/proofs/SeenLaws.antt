@@ -11,28 +11,14 @@ use Rattle.xmi_profile.specs.Judged.{runs_in, runs, first_place}
 use Rattle.xmi_profile.specs.Listing.{begun, or_place, odd_place, with_run, with_runs, element_of}
 use Rattle.xmi_profile.specs.Source.{text_in}
 use Rattle.xmi_profile.specs.Values.{is_all_blank}
-
--- ---- lists
-
-in_one : {X : Type 0} (x y : X) → Contains (x ∷ []) y → x ≡ y
-in_one x y c = by (Contains-push_cases [] x y c)
-  where
-    by : Contains [] y ⊎ (x ≡ y) → x ≡ y
-    by (inl h) = absurd (omega (arith, h.1))
-    by (inr e) = e
+use Rattle.mof_metamodel.proofs.Facts.{only_one, nothing_in, contains_first}
 
 pub in_cons : {X : Type 0} (x : X) (xs : List X) (y : X) → Contains (x ∷ xs) y → (x ≡ y) ⊎ Contains xs y
 in_cons x xs y c = by (Contains-append_cases (x ∷ []) xs y c)
   where
     by : Contains (x ∷ []) y ⊎ Contains xs y → (x ≡ y) ⊎ Contains xs y
-    by (inl h) = inl (in_one x y h)
+    by (inl h) = inl (only_one x y h)
     by (inr h) = inr h
-
-pub in_none : {X : Type 0} (y : X) → Contains [] y → ⊥
-in_none y c = omega (arith, c.1)
-
-pub in_head : {X : Type 0} (x : X) (xs : List X) → Contains (x ∷ xs) x
-in_head x xs = Contains-append_left (x ∷ []) xs x (Contains-push [] x)
 
 pub in_tail : {X : Type 0} (x : X) (xs : List X) (y : X) → Contains xs y → Contains (x ∷ xs) y
 in_tail x xs y c = Contains-append_right (x ∷ []) xs y c
@@ -112,7 +98,7 @@ abbrev run_at : ℕ → List ℕ → ℕ × List ℕ
 run_at place characters = (place, characters)
 
 runs_later : (nodes : Nodes) (place : ℕ) (run : ℕ × List ℕ) → Contains (runs_in nodes place) run → place ≤ run.0
-runs_later Ends place run c = absurd (in_none run c)
+runs_later Ends place run c = absurd (nothing_in run c)
 runs_later (Run characters more) place run c = by (in_cons (run_at place characters) (runs_in more (suc place)) run c) (runs_later more (suc place) run)
   where
     by : (run_at place characters ≡ run) ⊎ Contains (runs_in more (suc place)) run → (Contains (runs_in more (suc place)) run → suc place ≤ run.0) → place ≤ run.0
@@ -144,7 +130,7 @@ odd_blank place characters rest (Some first) b h = (odd_in_tail (place, characte
     by at (inr x) = h.1 at x
 
 pub odd_found : (nodes : Nodes) (place : ℕ) → FirstOdd (runs_in nodes place) (odd_from None (runs_in nodes place))
-odd_found Ends place = λ at o. in_none (at, o.0) o.1
+odd_found Ends place = λ at o. nothing_in (at, o.0) o.1
 odd_found (Run characters more) place = by (is_all_blank characters) refl (odd_found more (suc place))
   where
     by : (b : Bool) → is_all_blank characters ≡ b → FirstOdd (runs_in more (suc place)) (odd_from None (runs_in more (suc place))) → FirstOdd ((place, characters) ∷ runs_in more (suc place)) (odd_from (odd_place b None place) (runs_in more (suc place)))
@@ -153,7 +139,7 @@ odd_found (Run characters more) place = by (is_all_blank characters) refl (odd_f
       where
         found : FirstOdd ((place, characters) ∷ runs_in more (suc place)) (Some place)
         found = (
-          (characters, in_head (place, characters) (runs_in more (suc place)), e),
+          (characters, contains_first (place, characters) (runs_in more (suc place)), e),
           λ at o. runs_later (Run characters more) place (at, o.0) o.1,
         )
 odd_found (Inner name attrs inner more) place = odd_found more (behind_place place attrs inner)

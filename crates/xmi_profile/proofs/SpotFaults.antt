@@ -11,7 +11,7 @@ use Rattle.xmi_profile.specs.FirstFault.{rank, IsFirstBy}
 use Rattle.xmi_profile.specs.Profile.{prop_name}
 use Rattle.xmi_profile.specs.References.{Target, target_text}
 use Rattle.xmi_profile.specs.Source.{Source, id_of, target_number, targets_at}
-use Rattle.xmi_profile.proofs.assembling.ListLaws.{some_same}
+use Rattle.std.proofs.lemmas.Option.{same_Some}
 use Rattle.xmi_profile.proofs.assembling.PartLaws.{not_both}
 
 -- ---- spots
@@ -41,11 +41,11 @@ same_spot a b f g = λ i. record { object = object i; property = property i; tar
 module _ (s : Source) (spot : Spot) where
   -- what is written at a spot
   written_property : (p q : ℕ) (t u : Target) → IsWritten s spot p t → IsWritten s spot q u → p ≡ q
-  written_property p q t u x y = some_same p q (sym x.property ∙ y.property)
+  written_property p q t u x y = same_Some p q (sym x.property ∙ y.property)
 
   written_target : (p q : ℕ) (t u : Target) → IsWritten s spot p t → IsWritten s spot q u → t ≡ u
   written_target p q t u x y =
-      some_same t u (sym x.target_is ∙ ap (λ r. slice_get (targets_at s spot.object r) spot.target) (written_property p q t u x y) ∙ y.target_is)
+      same_Some t u (sym x.target_is ∙ ap (λ r. slice_get (targets_at s spot.object r) spot.target) (written_property p q t u x y) ∙ y.target_is)
 
   -- ---- faults at a spot
 
@@ -70,10 +70,10 @@ module _ (s : Source) (spot : Spot) where
       near = written_property x.p y.p x.target y.target x.written y.written
 
       named : x.b ≡ y.b
-      named = some_same x.b y.b (sym x.named ∙ ap (target_number s) (written_target x.p y.p x.target y.target x.written y.written) ∙ y.named)
+      named = same_Some x.b y.b (sym x.named ∙ ap (target_number s) (written_target x.p y.p x.target y.target x.written y.written) ∙ y.named)
 
       far : x.q ≡ y.q
-      far = some_same x.q y.q (sym x.disputed.opposite ∙ ap (opposite_of s.meta) near ∙ y.disputed.opposite)
+      far = same_Some x.q y.q (sym x.disputed.opposite ∙ ap (opposite_of s.meta) near ∙ y.disputed.opposite)
 
       ids : id ≡ id'
       ids = x.id_is ∙ sym y.id_is
@@ -106,7 +106,7 @@ module _ (s : Source) (spot : Spot) where
         near = written_property x.part.r y.part.r x.part.target y.part.target x.part.written y.part.written
 
         named : x.part.c ≡ y.part.c
-        named = some_same x.part.c y.part.c (sym x.part.named ∙ ap (target_number s) (written_target x.part.r y.part.r x.part.target y.part.target x.part.written y.part.written) ∙ y.part.named)
+        named = same_Some x.part.c y.part.c (sym x.part.named ∙ ap (target_number s) (written_target x.part.r y.part.r x.part.target y.part.target x.part.written y.part.written) ∙ y.part.named)
 
         object : x.object ≡ y.object
         object = one_part x.part.r y.part.r x.part.c y.part.c x.a x.object x.p y.a y.object y.p near named x.part.composite y.part.composite x.part.part y.part.part

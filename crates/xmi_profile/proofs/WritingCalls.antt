@@ -12,6 +12,7 @@ use Rattle.xmi_text.specs.Names.{is_name}
 use Rattle.xmi_text.specs.Writing.{Written, has, is_new, is_inside, may_open, may_attr, opened, with_attr, with_data, more_names, tag_end, is_tag, escaped}
 use Rattle.xmi_text.specs.Calls.{Call, Open, Attr, Data, Close, Line, after_call, wrote}
 use Rattle.xmi_profile.specs.Writable.{CanWrite}
+use Rattle.mof_metamodel.proofs.Facts.{contains_first}
 
 -- ---- one list of calls behind another
 
@@ -47,16 +48,13 @@ fits_both d a b f g = record {
   open_still = λ w e. ap (λ v. length v.elements) (wrote_both w a b) ∙ g.open_still (wrote w a) (f.open_still w e);
 }
 
-pub contains_head : {X : Type 0} (x : X) (xs : List X) → Contains (x ∷ xs) x
-contains_head x xs = (0, omega arith, refl)
-
 pub contains_tail : {X : Type 0} (x y : X) (xs : List X) → Contains xs y → Contains (x ∷ xs) y
 contains_tail x y xs c = let (k, l, e) = c in (suc k, omega arith, e)
 
 pub fits_each : {X : Type 0} (d : ℕ) (f : X → List Call) (xs : List X) → ((x : X) → Contains xs x → Fits d (f x)) → Fits d (flat_map f xs)
 fits_each d f [] h = fits_none d
 fits_each d f (x ∷ xs) h =
-    fits_both d (f x) (flat_map f xs) (h x (contains_head x xs)) (fits_each d f xs (λ y c. h y (contains_tail x y xs c)))
+    fits_both d (f x) (flat_map f xs) (h x (contains_first x xs)) (fits_each d f xs (λ y c. h y (contains_tail x y xs c)))
 
 pub fits_line : (d depth : ℕ) (calls : List Call) → Fits d calls → Fits d (Line depth ∷ calls)
 fits_line d depth calls f = record { can = λ w e. (tt, f.can (after_call w (Line depth)) e); open_still = λ w e. f.open_still (after_call w (Line depth)) e }
@@ -151,7 +149,7 @@ pub attrs_come : (name : ℕ → List ℕ) (f : ℕ → List Call) (ps : List �
     → AllPairs (λ p q. name p ≢ name q) ps → AreAttrs w (flat_map f ps)
 attrs_come name f [] w names e h once = record { can = tt; elements = refl }
 attrs_come name f (p ∷ ps) w names e h once =
-    let here = h p (contains_head p ps) in
+    let here = h p (contains_first p ps) in
     let tail : AllPairs (λ p q. name p ≢ name q) ps = (λ i j d l lj. once (suc i) (suc j) d (omega arith) (omega arith)) in
     elim here.0 [
       | inl none ↦ subst (λ (calls : List Call). AreAttrs w (calls ++ flat_map f ps)) (sym none) (attrs_come name f ps w names e (λ q c. h q (contains_tail p q ps c)) tail)

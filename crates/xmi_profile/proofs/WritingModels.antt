@@ -34,7 +34,8 @@ use Rattle.xmi_profile.specs.Forms.{is_one, is_composite}
 use Rattle.xmi_profile.specs.Profile.{xmi_id, xmi_type, prop_name, class_name, id_or_none, id_text, name_or_none, class_text, props_or_none, object_props, live_numbers, is_part}
 use Rattle.xmi_profile.specs.Canon.{value_text, spaced, spaced_behind, typed_name, value_attr, partners_attr, attr_by, attr_calls, tag_calls, value_element, children_by, child_calls, depth_over, object_calls, top_calls, top_numbers, head, foot, canon_calls}
 use Rattle.xmi_profile.specs.Writable.{CanWrite, children_calls}
-use Rattle.xmi_profile.proofs.WritingCalls.{data_rooted, wrote_both, Fits, fits_none, fits_both, fits_each, fits_line, Begins, fits_element, fits_text, length-opened, length-closed, inside_of, may_open_inside, IsAttr, AreAttrs, attrs_come, contains_head, contains_tail}
+use Rattle.xmi_profile.proofs.WritingCalls.{data_rooted, wrote_both, Fits, fits_none, fits_both, fits_each, fits_line, Begins, fits_element, fits_text, length-opened, length-closed, inside_of, may_open_inside, IsAttr, AreAttrs, attrs_come, contains_tail}
+use Rattle.mof_metamodel.proofs.Facts.{contains_first}
 use Rattle.xmi_profile.proofs.WritingNames.{markup_name, prefixed_name, name_storable, number_storable}
 
 -- ---- metamodels
@@ -64,7 +65,7 @@ filtered p [] x (k, l, e) = absurd (omega arith)
 filtered p (y ∷ ys) x c = by (filtered p ys x) (p y) refl c
   where
     by : (Contains (filter p ys) x → Contains ys x × (p x ≡ true)) → (t : Bool) → p y ≡ t → Contains (cond t (y ∷ filter p ys) (filter p ys)) x → Contains (y ∷ ys) x × (p x ≡ true)
-    by later true e (zero, l, at) = (subst (Contains (y ∷ ys)) at (contains_head y ys), ap p (sym at) ∙ e)
+    by later true e (zero, l, at) = (subst (Contains (y ∷ ys)) at (contains_first y ys), ap p (sym at) ∙ e)
     by later true e (suc k, l, at) = let found = later (k, omega arith, at) in (contains_tail y x ys found.0, found.1)
     by later false e c = let found = later c in (contains_tail y x ys found.0, found.1)
 
@@ -193,7 +194,7 @@ module _ (m : ModelData) (k : Kept m) where
 
   attr_values : (o p : ℕ) → IsAttributeOf m o p → (vs : List Value) → values_at m o p ≡ vs → IsAttr (prop_name m.meta p) (value_attr m.meta p vs)
   attr_values o p a [] e = inl refl
-  attr_values o p a (v ∷ vs) e = inr (value_text m.meta v, refl, value_at_storable o p a v (subst (λ (xs : List Value). Contains xs v) (sym e) (contains_head v vs)))
+  attr_values o p a (v ∷ vs) e = inr (value_text m.meta v, refl, value_at_storable o p a v (subst (λ (xs : List Value). Contains xs v) (sym e) (contains_first v vs)))
 
   attr_partners : (p : ℕ) (bs : List ℕ) → IsAttr (prop_name m.meta p) (partners_attr m p bs)
   attr_partners p [] = inl refl

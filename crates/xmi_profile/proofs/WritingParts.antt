@@ -11,7 +11,8 @@ use Rattle.mof_metamodel.specs.Metamodels.{prop_at}
 use Rattle.object_tables.specs.Objects.{Object}
 use Rattle.object_tables.specs.Models.{ModelData, object_at, class_at, partners_at, IsReferenceOf, IsContainedIn, IsTop}
 use Rattle.xmi_profile.specs.Profile.{props_or_none, object_props, live_numbers, contains_by, is_part}
-use Rattle.xmi_profile.proofs.WritingCalls.{contains_head, contains_tail}
+use Rattle.xmi_profile.proofs.WritingCalls.{contains_tail}
+use Rattle.mof_metamodel.proofs.Facts.{contains_first}
 
 pub any_of : {X : Type 0} (p : X → Bool) (xs : List X) (x : X) → Contains xs x → p x ≡ true → list_any p xs ≡ true
 any_of p xs x (k, l, e) h = list_any_at p xs k x l (ap p e ∙ h)
@@ -19,7 +20,7 @@ any_of p xs x (k, l, e) h = list_any_at p xs k x l (ap p e ∙ h)
 pub one_of : {X : Type 0} (p : X → Bool) (xs : List X) → list_any p xs ≡ true → (x : X) × Contains xs x × (p x ≡ true)
 one_of p [] h = absurd cc
 one_of p (y ∷ ys) h = elim (or_cases (p y) (list_any p ys) h) [
-  | inl here ↦ (y, contains_head y ys, here)
+  | inl here ↦ (y, contains_first y ys, here)
   | inr there ↦ (let found = one_of p ys there in (found.0, contains_tail y found.0 ys found.1, found.2))
 ]
 
@@ -28,7 +29,7 @@ kept_in p [] x (k, l, e) h = absurd (omega arith)
 kept_in p (y ∷ ys) x c h = by (kept_in p ys x) (p y) refl c
   where
     by : (Contains ys x → p x ≡ true → Contains (filter p ys) x) → (t : Bool) → p y ≡ t → Contains (y ∷ ys) x → Contains (cond t (y ∷ filter p ys) (filter p ys)) x
-    by later true e (zero, l, at) = subst (Contains (y ∷ filter p ys)) at (contains_head y (filter p ys))
+    by later true e (zero, l, at) = subst (Contains (y ∷ filter p ys)) at (contains_first y (filter p ys))
     by later true e (suc k, l, at) = contains_tail y x (filter p ys) (later (k, omega arith, at) h)
     by later false e (zero, l, at) = absurd (true≢false (sym h ∙ ap p (sym at) ∙ e))
     by later false e (suc k, l, at) = later (k, omega arith, at) h

@@ -10,6 +10,7 @@ use Rattle.xmi_text.specs.Calls.{Call, Close, Line, wrote}
 use Rattle.xmi_profile.specs.Canon.{depth_over, tag_calls, object_calls}
 use Rattle.xmi_profile.specs.Writable.{CanWrite, Left, has_some, children_calls, end_calls}
 use Rattle.xmi_profile.proofs.WritingCalls.{wrote_both, can_first, can_rest}
+use Rattle.mof_metamodel.proofs.Facts.{or_false}
 
 pub left_start : (w : Written) (calls : List Call) → CanWrite w calls → Left w calls (wrote w calls)
 left_start w calls k = (k, refl)
@@ -41,10 +42,6 @@ some_both (c ∷ a) b = some_cons c (a ++ b) ∙ sym (ap (λ t. t || has_some b)
 either_of_three : (a b c : Bool) → ((a || b) || c) ≡ (a || (b || c))
 either_of_three true b c = refl
 either_of_three false b c = refl
-
-or_false : (a : Bool) → (a || false) ≡ a
-or_false true = refl
-or_false false = refl
 
 pub ended_calls : (depth : ℕ) (calls : List Call) → cond (length calls == 0) (Close ∷ []) (calls ++ (Line depth ∷ Close ∷ [])) ≡ calls ++ end_calls depth (has_some calls)
 ended_calls depth [] = refl

@@ -20,8 +20,10 @@ use Rattle.xmi_profile.specs.declared.form.Form.TheVariants as forms
 use Rattle.xmi_profile.specs.Forms.{form_of}
 use Rattle.xmi_profile.specs.Held.{IsHeld, IsHeldText, IsHeldModel}
 use Rattle.xmi_profile.specs.Profile.{prop_name, id_or_none, id_text, name_or_none, class_text, props_or_none, object_props, live_numbers}
-use Rattle.xmi_profile.proofs.SeenLaws.{in_cons, in_none}
-use Rattle.xmi_profile.proofs.WritingCalls.{contains_head, contains_tail}
+use Rattle.xmi_profile.proofs.SeenLaws.{in_cons}
+use Rattle.mof_metamodel.proofs.Facts.{nothing_in}
+use Rattle.xmi_profile.proofs.WritingCalls.{contains_tail}
+use Rattle.mof_metamodel.proofs.Facts.{contains_first}
 use Rattle.xmi_profile.proofs.WritingParts.{kept_in, numbered, known}
 use Rattle.xmi_profile.proofs.written.Known.{partner_live}
 use Rattle.xmi_profile.proofs.written.Reading.{live_count_is}
@@ -34,7 +36,7 @@ use Rattle.model_files.proofs.read_back.Objects.{rising_once, live_rise, listed_
 -- ---- lists
 
 rising_places : (xs : List ℕ) (a b : ℕ) → Rising xs → Contains xs a → Contains xs b → a < b → index_of xs a < index_of xs b
-rising_places [] a b r ca cb less = absurd (in_none a ca)
+rising_places [] a b r ca cb less = absurd (nothing_in a ca)
 rising_places (x ∷ xs) a b r ca cb less = by (in_cons x xs a ca) (in_cons x xs b cb) (λ da db. rising_places xs a b r.1 da db less)
   where
     at_first : (y : ℕ) → x ≡ y → index_of (x ∷ xs) y ≡ 0
@@ -52,7 +54,7 @@ rising_places (x ∷ xs) a b r ca cb less = by (in_cons x xs a ca) (in_cons x xs
 filtered_all : (p : ℕ → Bool) (xs : List ℕ) → ((x : ℕ) → Contains xs x → p x ≡ true) → filter p xs ≡ xs
 filtered_all p [] h = refl
 filtered_all p (x ∷ xs) h =
-    cond-true (p x) (x ∷ filter p xs) (filter p xs) (h x (contains_head x xs)) ∙ ap (λ (ys : List ℕ). x ∷ ys) (filtered_all p xs (λ y c. h y (contains_tail x y xs c)))
+    cond-true (p x) (x ∷ filter p xs) (filter p xs) (h x (contains_first x xs)) ∙ ap (λ (ys : List ℕ). x ∷ ys) (filtered_all p xs (λ y c. h y (contains_tail x y xs c)))
 
 range_mapped : (f : ℕ → ℕ) (a : ℕ) (xs : List ℕ) → ((i : ℕ) → i < length xs → f (get_or xs i 0) ≡ a + i) → map f xs ≡ range_with_len a (length xs)
 range_mapped f a [] h = refl
@@ -128,7 +130,7 @@ module _ (m : ModelData) (v : Valid m) (shallow : (o d : ℕ) → IsLive m o →
         (sym (orders.id_there m order v numbering (origin q) (orders.live_back m order v numbering q live)) ∙ ap (id_at dense) (orders.image_origin m order v numbering q live) ∙ e));
     values = λ q p w c. elim (cases_lt q (length dense.objects)) [
       | inl l ↦ held.values (origin q) p w (subst (λ (ws : List Value). Contains ws w) (values_live q p (lives_dense q l)) c)
-      | inr past ↦ absurd (in_none w (subst (λ (ws : List Value). Contains ws w) (values_past q p past) c))
+      | inr past ↦ absurd (nothing_in w (subst (λ (ws : List Value). Contains ws w) (values_past q p past) c))
     ];
   }
 

@@ -30,8 +30,9 @@ use Rattle.xmi_profile.specs.declared.fault.Externs.TheVariants as externs
 use Rattle.xmi_profile.specs.References.{fragment_target}
 use Rattle.xmi_profile.specs.Source.{Source, attr_text, all_ids, all_classes, object_count, id_of, class_of, targets_of, element_targets, targets_at, number_of, target_number, named_at}
 use Rattle.xmi_profile.specs.Values.{without_repeats}
-use Rattle.xmi_profile.proofs.SeenLaws.{in_none}
-use Rattle.xmi_profile.proofs.WritingCalls.{contains_head, contains_tail}
+use Rattle.mof_metamodel.proofs.Facts.{nothing_in}
+use Rattle.xmi_profile.proofs.WritingCalls.{contains_tail}
+use Rattle.mof_metamodel.proofs.Facts.{contains_first}
 use Rattle.xmi_profile.proofs.WritingForms.{class_typed, is_reference}
 use Rattle.xmi_profile.proofs.written.Items.{class_is}
 use Rattle.xmi_profile.proofs.written.Known.{partner_live}
@@ -85,7 +86,7 @@ map_twice {Z = Z} f g (x ∷ xs) = ap (λ (zs : List Z). f (g x) ∷ zs) (map_tw
 
 pub map_alike : {X Y : Type 0} (f g : X → Y) (xs : List X) → ((x : X) → Contains xs x → f x ≡ g x) → map f xs ≡ map g xs
 map_alike f g [] h = refl
-map_alike {Y = Y} f g (x ∷ xs) h = ap₂ (λ (y : Y) (ys : List Y). y ∷ ys) (h x (contains_head x xs)) (map_alike f g xs (λ z c. h z (contains_tail x z xs c)))
+map_alike {Y = Y} f g (x ∷ xs) h = ap₂ (λ (y : Y) (ys : List Y). y ∷ ys) (h x (contains_first x xs)) (map_alike f g xs (λ z c. h z (contains_tail x z xs c)))
 
 module _ (m : ModelData) (v : Valid m) (shallow : (o d : ℕ) → IsLive m o → IsDepth m o d → d ≤ MAX_DEPTH) (held : IsHeldModel m) (few : live_count m ≤ MAX_OBJECTS)
     (dense : live_numbers m ≡ range_with_len 0 (length m.objects)) (lives : (o : ℕ) → o < length m.objects → IsLive m o) where
@@ -225,7 +226,7 @@ module _ (m : ModelData) (v : Valid m) (shallow : (o d : ℕ) → IsLive m o →
 
   numbers_read : (bs : List ℕ) → ((b : ℕ) → Contains bs b → IsLive m b) → filter_map (target_number s) (map (fragment_target externs.None [] []) (map (id_text m) bs)) ≡ bs
   numbers_read [] h = refl
-  numbers_read (b ∷ bs) h = ap₂ (λ (x : Option ℕ) (ys : List ℕ). cons_option x ys) (number_read b (h b (contains_head b bs))) (numbers_read bs (λ c k. h c (contains_tail b c bs k)))
+  numbers_read (b ∷ bs) h = ap₂ (λ (x : Option ℕ) (ys : List ℕ). cons_option x ys) (number_read b (h b (contains_first b bs))) (numbers_read bs (λ c k. h c (contains_tail b c bs k)))
 
   no_form : (p : ℕ) (f : Form) → form_of m.meta p ≡ f → is_class_type (type_of m.meta p) ≡ true → is_reference f ≡ false → ⊥
   no_form p f e t h = true≢false (sym t ∙ class_typed m.meta p f e ∙ h)
@@ -308,7 +309,7 @@ module _ (m : ModelData) (v : Valid m) (shallow : (o d : ℕ) → IsLive m o →
       by : (f : Form) → form_of m.meta p ≡ f → Each (IsTold s m.objects o p) (targets_of (words_by o p f))
       by forms.Identifiers e = of_partners
       by forms.Parts e = of_partners
-      by forms.Nesting e = λ target c. absurd (in_none target c)
+      by forms.Nesting e = λ target c. absurd (nothing_in target c)
       by forms.Attribute e = absurd (no_form p forms.Attribute e t refl)
       by forms.Elements e = absurd (no_form p forms.Elements e t refl)
 

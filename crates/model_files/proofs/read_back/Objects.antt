@@ -30,7 +30,8 @@ use Rattle.xmi_profile.specs.Forms.{form_of}
 use Rattle.xmi_profile.specs.Held.{IsHeldText, IsHeld, IsHeldModel}
 use Rattle.xmi_profile.specs.Profile.{prop_name, id_text, class_text, object_props, live_numbers}
 use Rattle.xmi_profile.specs.Source.{proper}
-use Rattle.xmi_profile.proofs.WritingCalls.{contains_head, contains_tail}
+use Rattle.xmi_profile.proofs.WritingCalls.{contains_tail}
+use Rattle.mof_metamodel.proofs.Facts.{contains_first}
 use Rattle.xmi_profile.proofs.WritingModels.{filtered}
 use Rattle.xmi_profile.proofs.written.Documents.{id_held, class_held}
 use Rattle.xmi_profile.proofs.written.Items.{class_is}
@@ -78,7 +79,7 @@ text_well text h = (text, (h, refl))
 
 items_well : {X : Type 0} (f : X → Data) (xs : List X) → ((x : X) → Contains xs x → IsWell (f x)) → AreWellItems (items_of (map f xs))
 items_well f [] h = tt
-items_well f (x ∷ xs) h = (h x (contains_head x xs), items_well f xs (λ y c. h y (contains_tail x y xs c)))
+items_well f (x ∷ xs) h = (h x (contains_first x xs), items_well f xs (λ y c. h y (contains_tail x y xs c)))
 
 module _ (m : ModelData) (v : Valid m) (shallow : (o d : ℕ) → IsLive m o → IsDepth m o d → d ≤ MAX_DEPTH) (held : IsHeldModel m) where
   value_well : (w : Value) → IsHeld w → IsWell (value_data m.meta w)
@@ -174,8 +175,8 @@ module _ (m : ModelData) (v : Valid m) (shallow : (o d : ℕ) → IsLive m o →
           → (b || list_any (same_name (id_text m o)) (map (id_text m) before)) ≡ false
       by false e rest = rest
       by true e rest =
-          let same : o ≡ x = same_id m v shallow o x live (lives x (contains_head x before)) (same_true (id_text m o) (id_text m x) e) in
-          absurd (apart (subst (Contains (x ∷ before)) (sym same) (contains_head x before)))
+          let same : o ≡ x = same_id m v shallow o x live (lives x (contains_first x before)) (same_true (id_text m o) (id_text m x) e) in
+          absurd (apart (subst (Contains (x ∷ before)) (sym same) (contains_first x before)))
 
   right_object : (before : List ℕ) (place o : ℕ) → IsLive m o → ((x : ℕ) → Contains before x → IsLive m x) → (Contains before o → ⊥)
       → wrong_object m.meta (map (id_text m) before) place (written o) (concrete_class m.meta (class_text m o)) ≡ None
@@ -199,11 +200,11 @@ module _ (m : ModelData) (v : Valid m) (shallow : (o d : ℕ) → IsLive m o →
     where
       first : (xs ys : List ℕ) (x : ℕ) → Contains xs x → Contains (xs ++ ys) x
       first [] ys x (i, l, e) = absurd (omega (arith, l))
-      first (y ∷ xs) ys x (zero, l, e) = subst (Contains (y ∷ (xs ++ ys))) e (contains_head y (xs ++ ys))
+      first (y ∷ xs) ys x (zero, l, e) = subst (Contains (y ∷ (xs ++ ys))) e (contains_first y (xs ++ ys))
       first (y ∷ xs) ys x (suc i, l, e) = contains_tail y x (xs ++ ys) (first xs ys x (i, omega (arith, l), e))
 
       middle : (xs : List ℕ) (y : ℕ) (ys : List ℕ) → Contains (xs ++ y ∷ ys) y
-      middle [] y ys = contains_head y ys
+      middle [] y ys = contains_first y ys
       middle (x ∷ xs) y ys = contains_tail x y (xs ++ y ∷ ys) (middle xs y ys)
 
   nothing_wrong : first_wrong m.meta (objects_of (model_data m)) ≡ None

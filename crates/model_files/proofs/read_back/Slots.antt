@@ -30,7 +30,8 @@ use Rattle.xmi_profile.specs.Forms.{form_of}
 use Rattle.xmi_profile.specs.Held.{IsHeldText, IsHeld, HasHeldNames, IsHeldModel}
 use Rattle.xmi_profile.specs.Profile.{prop_name, id_text, object_props, props_or_none}
 use Rattle.xmi_profile.specs.Values as texts
-use Rattle.xmi_profile.proofs.WritingCalls.{contains_head, contains_tail}
+use Rattle.xmi_profile.proofs.WritingCalls.{contains_tail}
+use Rattle.mof_metamodel.proofs.Facts.{contains_first}
 use Rattle.xmi_profile.proofs.WritingForms.{class_typed}
 use Rattle.xmi_profile.proofs.WritingModels.{property_of}
 use Rattle.xmi_profile.proofs.written.Documents.{id_held}
@@ -54,7 +55,7 @@ items_listed (d ∷ ds) = ap (λ (xs : List Data). d ∷ xs) (items_listed ds)
 
 pub each_mapped : {X Y : Type 0} (P : Y → Type 0) (f : X → Y) (xs : List X) → ((x : X) → Contains xs x → P (f x)) → AllByRecursion P (map f xs)
 each_mapped P f [] h = tt
-each_mapped P f (x ∷ xs) h = (h x (contains_head x xs), each_mapped P f xs (λ y c. h y (contains_tail x y xs c)))
+each_mapped P f (x ∷ xs) h = (h x (contains_first x xs), each_mapped P f xs (λ y c. h y (contains_tail x y xs c)))
 
 -- ---- texts and values
 
@@ -133,7 +134,7 @@ module _ (m : ModelData) (v : Valid m) (shallow : (o d : ℕ) → IsLive m o →
   slots_put : (o : ℕ) (ps : List ℕ) (ms : Members) → ((p : ℕ) → Contains ps p → Contains (object_props m o) p) → EachMember (IsSlot m o) ms → EachMember (IsSlot m o) (with_slots m o ps ms)
   slots_put o [] ms has h = h
   slots_put o (p ∷ ps) ms has h =
-      slots_put o ps (with_slot (prop_name m.meta p) (slot_data m o p) ms) (λ q c. has q (contains_tail p q ps c)) (slot_put o p (has p (contains_head p ps)) ms (slot_data m o p) refl h)
+      slots_put o ps (with_slot (prop_name m.meta p) (slot_data m o p) ms) (λ q c. has q (contains_tail p q ps c)) (slot_put o p (has p (contains_first p ps)) ms (slot_data m o p) refl h)
 
   pub are_slots : (o : ℕ) → EachMember (IsSlot m o) (slots_data m o)
   are_slots o = slots_put o (object_props m o) no_members (λ p c. c) tt
@@ -181,7 +182,7 @@ module _ (m : ModelData) (v : Valid m) (shallow : (o d : ℕ) → IsLive m o →
   others_kept o p [] ms apart = refl
   others_kept o p (q ∷ qs) ms apart =
       others_kept o p qs (with_slot (prop_name m.meta q) (slot_data m o q) ms) (λ x c. apart x (contains_tail q x qs c))
-      ∙ other_kept o p q (slot_data m o q) ms (apart q (contains_head q qs))
+      ∙ other_kept o p q (slot_data m o q) ms (apart q (contains_first q qs))
 
   own_filled : (p : ℕ) (ds : List Data) (ms : Members) → get_member (key_of m p) ms ≡ None → get_member (key_of m p) (with_slot (prop_name m.meta p) ds ms) ≡ filled ds
   own_filled p [] ms none = none
@@ -197,7 +198,7 @@ module _ (m : ModelData) (v : Valid m) (shallow : (o d : ℕ) → IsLive m o →
   found_in o p has (q ∷ qs) ms within once (suc i, l, e) none =
       let there : Contains qs p = (i, omega (arith, l), e) in
       found_in o p has qs (with_slot (prop_name m.meta q) (slot_data m o q) ms) (λ x c. within x (contains_tail q x qs c)) (once_behind q qs once) there
-      (other_kept o p q (slot_data m o q) ms (λ same. once_first q p qs once there (sym (same_key o p q has (within q (contains_head q qs)) same))) ∙ none)
+      (other_kept o p q (slot_data m o q) ms (λ same. once_first q p qs once there (sym (same_key o p q has (within q (contains_first q qs)) same))) ∙ none)
 
   pub slot_found : (o p : ℕ) → Contains (object_props m o) p → get_member (key_of m p) (slots_data m o) ≡ filled (slot_data m o p)
   slot_found o p has = found_in o p has (object_props m o) no_members (λ q c. c) (object_props_once m v.kept o) has refl

@@ -23,7 +23,8 @@ use Rattle.xmi_profile.specs.Forms.{form_of}
 use Rattle.xmi_profile.specs.Held.{IsHeldModel}
 use Rattle.xmi_profile.specs.Profile.{object_props}
 use Rattle.xmi_profile.specs.Source.{is_at}
-use Rattle.xmi_profile.proofs.WritingCalls.{contains_head, contains_tail}
+use Rattle.xmi_profile.proofs.WritingCalls.{contains_tail}
+use Rattle.mof_metamodel.proofs.Facts.{contains_first}
 use Rattle.xmi_profile.proofs.WritingForms.{class_typed}
 use Rattle.model_files.specs.CanonJson.{value_data, data_by, slot_data, slots_data}
 use Rattle.model_files.specs.JsonContent.{Written, class_in, in_list, slots_list, type_in, value_of}
@@ -198,7 +199,7 @@ module _ (m : ModelData) (v : Valid m) (shallow : (o d : ℕ) → IsLive m o →
   read_values : (read : Data → Option Value) (ws : List Value) → ((w : Value) → Contains ws w → read (value_data m.meta w) ≡ Some w) → filter_map read (map (value_data m.meta) ws) ≡ ws
   read_values read [] h = refl
   read_values read (w ∷ ws) h =
-      ap₂ (λ (x : Option Value) (ys : List Value). cons_option x ys) (h w (contains_head w ws)) (read_values read ws (λ x c. h x (contains_tail w x ws c)))
+      ap₂ (λ (x : Option Value) (ys : List Value). cons_option x ys) (h w (contains_first w ws)) (read_values read ws (λ x c. h x (contains_tail w x ws c)))
 
   valued_present : (p : ℕ) (ds : List Data) → valued m.meta p (present ds) ≡ filter_map (value_of m.meta (type_of m.meta p)) ds
   valued_present p [] = refl

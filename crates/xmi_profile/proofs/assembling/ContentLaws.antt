@@ -29,7 +29,7 @@ use Rattle.xmi_profile.specs.FirstFault.{IsFirstFault}
 use Rattle.xmi_profile.specs.Links.{AreOrdered, HasLinks}
 use Rattle.xmi_profile.specs.Profile.{props_or_none}
 use Rattle.xmi_profile.specs.Source.{Source, object_count, class_of, id_of}
-use Rattle.xmi_profile.proofs.assembling.ListLaws.{none_some}
+use Rattle.std.proofs.lemmas.Option.{none-some}
 use Rattle.xmi_profile.proofs.assembling.FaultLaws.{none_dangles}
 use Rattle.xmi_profile.proofs.assembling.MismatchLaws.{none_mismatch}
 use Rattle.xmi_profile.proofs.assembling.PartLaws.{AreNamings, naming_count, none_twice}
@@ -94,7 +94,7 @@ module _ (s : Source) (f : Filed) (xs : List Naming) (m : ModelData) (filed : Is
     where
       by : (o < object_count s) ⊎ (object_count s ≤ o) → o < object_count s
       by (inl l) = l
-      by (inr le) = absurd (none_some c (sym (class_bare o ∙ none_past s.meta f.classes f.ids o sound.objects.same (let k = count in omega (arith, le, k))) ∙ e))
+      by (inr le) = absurd (none-some c (sym (class_bare o ∙ none_past s.meta f.classes f.ids o sound.objects.same (let k = count in omega (arith, le, k))) ∙ e))
 
   has_property : (o p c : ℕ) → class_at m o ≡ Some c → Contains (props_of m.meta c) p → Contains (props_or_none s.meta (class_of s o)) p
   has_property o p c e g =

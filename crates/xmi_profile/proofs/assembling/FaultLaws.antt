@@ -23,7 +23,9 @@ use Rattle.xmi_profile.specs.Judging.{conforms_to}
 use Rattle.xmi_profile.specs.Profile.{prop_name}
 use Rattle.xmi_profile.specs.References.{Target}
 use Rattle.xmi_profile.specs.Source.{Source, object_count, id_of, target_number}
-use Rattle.xmi_profile.proofs.assembling.ListLaws.{none_some, some_same, get_within, get_is, get_some}
+use Rattle.xmi_profile.proofs.assembling.ListLaws.{get_within, get_is, get_some}
+use Rattle.std.proofs.lemmas.Option.{same_Some}
+use Rattle.std.proofs.lemmas.Option.{none-some}
 use Rattle.xmi_profile.proofs.assembling.SpotLaws.{class_known, class_counted, spot_at, AreEntries, IsSpotOf, spot_of_entry, IsEntryOf, entry_of_spot, no_earlier}
 
 -- ---- dangling references
@@ -47,11 +49,11 @@ conforms_complete meta class None l h = absurd h
 -- the target of an entry that dangles is no object of the type
 astray_nothing : (s : Source) (f : Filed) → IsFiled s f → ((o : ℕ) → o < length f.classes → (class_in f.classes o).0 < class_count s.meta) → (p : ℕ) (target : Target) (t : Option ℕ)
     → target_number s target ≡ t → is_astray s.meta f.classes p t ≡ true → (b : ℕ) → IsNamed s p target b → ⊥
-astray_nothing s f h known p target None e a b n = none_some b (sym e ∙ n.number)
+astray_nothing s f h known p target None e a b n = none-some b (sym e ∙ n.number)
 astray_nothing s f h known p target (Some c) e a b n = true≢false (sym fits ∙ not-true _ misfit)
   where
     same : c ≡ b
-    same = some_same c b (sym e ∙ n.number)
+    same = same_Some c b (sym e ∙ n.number)
 
     inside : b < length f.classes
     inside = class_counted s f h b n.class n.class_is
@@ -63,7 +65,7 @@ astray_nothing s f h known p target (Some c) e a b n = true≢false (sym fits �
     misfit = sym (ap (is_unfit s.meta p) here) ∙ a
 
     class : n.class ≡ (class_in f.classes b).0
-    class = some_same n.class (class_in f.classes b).0 (sym n.class_is ∙ class_known s f h b inside)
+    class = same_Some n.class (class_in f.classes b).0 (sym n.class_is ∙ class_known s f h b inside)
 
     fits : conforms_to s.meta (class_in f.classes b).0 (type_of s.meta p) ≡ true
     fits = conforms_complete s.meta (class_in f.classes b).0 (type_of s.meta p) (known b inside) (subst (λ k. ConformsTo s.meta k (type_of s.meta p)) class n.conforms)

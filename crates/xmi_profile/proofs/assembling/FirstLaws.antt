@@ -1,7 +1,7 @@
 -- The search for an object that is contained twice: what is known of the namings so far.
 use Rattle.std.proofs.Common.{◌≡◌, ℕ, zero, suc, ◌+◌, ◌<◌, ◌⊎◌, Bool, true, false, cond, List, [], ◌∷◌, length, get_or, refl, sym, ◌∙◌, ap, arith, subst, Option, Some, None, inl, inr, true≢false, eq-eqb, replicate, set}
 use Rattle.std.specs.Prelude.{◌==◌, ◌&&◌, not}
-use Rattle.std.proofs.lemmas.Bool.{eqb-true, and_parts, cases_eq, cases_lt}
+use Rattle.std.proofs.lemmas.Bool.{eqb-true, and_parts, cases_eq, cases_lt, not-false}
 use Rattle.mof_metamodel.specs.declared.desc.MetaDesc.{MetaDesc}
 use Rattle.mof_metamodel.specs.Metamodels.{prop_at, opposite_of}
 use Rattle.object_tables.specs.Lists.{update_at}
@@ -10,14 +10,11 @@ use Rattle.xmi_profile.specs.declared.assembly.naming.Naming.{Naming}
 use Rattle.xmi_profile.specs.declared.assembly.first.Part.{Part}
 use Rattle.xmi_profile.specs.AssemblyNamings.{at, part_of, part_by_opposite, IsSecondWhole}
 use Rattle.xmi_profile.specs.AssemblyFirsts.{is_other, is_contradicted_if, is_contradicted_by, or_part, with_part, with_part_if, with_naming}
-
-not_back : (b : Bool) → not b ≡ false → b ≡ true
-not_back true e = refl
-not_back false e = absurd (true≢false e)
+use Rattle.std.proofs.lemmas.Option.{none-some, same_Some}
 
 same_part : (w v : Part) → is_other w (Some v) ≡ false → v ≡ w
 same_part w v e =
-    let all = and_parts (v.part == w.part) ((v.whole == w.whole) && (v.property == w.property)) (not_back _ e) in
+    let all = and_parts (v.part == w.part) ((v.whole == w.whole) && (v.property == w.property)) (not-false _ e) in
     let rest = and_parts (v.whole == w.whole) (v.property == w.property) all.1 in
     let a = eqb-true v.part w.part all.0 in
     let b = eqb-true v.whole w.whole rest.0 in
@@ -53,12 +50,6 @@ pub record AreParts (meta : MetaDesc) (xs : List Naming) (i : ℕ) (parts : List
   pub known : (x : ℕ) (w : Part) → get_or parts x None ≡ Some w → (w.part ≡ x) × ((j : ℕ) × (j < i) × (part_of meta (at xs j) ≡ Some w))
   pub all : (j : ℕ) (w : Part) → j < i → part_of meta (at xs j) ≡ Some w → get_or parts w.part None ≡ Some w
 
-none_is_no_some : {X : Type 0} (x : X) → None ≡ Some x → ⊥
-none_is_no_some x e = cc
-
-some_same : {X : Type 0} (x y : X) → Some x ≡ Some y → x ≡ y
-some_same x y e = cc
-
 abbrev nones : ℕ → List (Option Part)
 nones n = replicate n None
 
@@ -69,7 +60,7 @@ nothing (suc n) (suc x) = nothing n x
 
 pub no_parts : (meta : MetaDesc) (xs : List Naming) (n : ℕ) → AreParts meta xs 0 (replicate n None)
 no_parts meta xs n = record {
-  known = λ x w e. absurd (none_is_no_some w (sym (nothing n x) ∙ e));
+  known = λ x w e. absurd (none-some w (sym (nothing n x) ∙ e));
   all = λ j w l e. absurd (omega (arith, l));
 }
 
@@ -117,7 +108,7 @@ parts_more meta xs i parts h e within = by (part_of meta (at xs i)) refl e
         known : (x : ℕ) (v : Part) → get_or (with_part parts w) x None ≡ Some v → (v.part ≡ x) × ((j : ℕ) × (j < suc i) × (part_of meta (at xs j) ≡ Some v))
         known x v k = elim (cases_eq x w.part) [
           | inl q ↦ (
-              let same : w ≡ v = some_same w v (sym at_part ∙ sym (ap (λ y. get_or (with_part parts w) y None) q) ∙ k) in
+              let same : w ≡ v = same_Some w v (sym at_part ∙ sym (ap (λ y. get_or (with_part parts w) y None) q) ∙ k) in
               (sym (ap (λ (u : Part). u.part) same) ∙ sym q, (i, omega arith, p ∙ ap Some same)))
           | inr ne ↦ (
               let old = h.known x v (sym (get_or-update_at_other parts w.part x (or_part w) None ne) ∙ k) in
@@ -130,11 +121,11 @@ parts_more meta xs i parts h e within = by (part_of meta (at xs i)) refl e
           | inl a ↦ (
               let old = h.all j v a q in
               elim (cases_eq v.part w.part) [
-                | inl s ↦ absurd (none_is_no_some v (sym g ∙ sym (ap (λ y. get_or parts y None) s) ∙ old))
+                | inl s ↦ absurd (none-some v (sym g ∙ sym (ap (λ y. get_or parts y None) s) ∙ old))
                 | inr ne ↦ get_or-update_at_other parts w.part v.part (or_part w) None ne ∙ old
               ])
           | inr s ↦ (
-              let same : w ≡ v = some_same w v (sym p ∙ sym (ap (λ n. part_of meta (at xs n)) s) ∙ q) in
+              let same : w ≡ v = same_Some w v (sym p ∙ sym (ap (λ n. part_of meta (at xs n)) s) ∙ q) in
               subst (λ (u : Part). get_or (with_part parts w) u.part None ≡ Some u) same at_part)
         ]
 
@@ -145,14 +136,14 @@ parts_more meta xs i parts h e within = by (part_of meta (at xs i)) refl e
         unchanged = sym (there_at w v parts w.part g)
 
         here : (u : Part) → part_of meta (at xs i) ≡ Some u → get_or parts u.part None ≡ Some u
-        here u q = let s : w ≡ u = some_same w u (sym p ∙ q) in subst (λ (z : Part). get_or parts z.part None ≡ Some z) s (g ∙ ap Some same)
+        here u q = let s : w ≡ u = same_Some w u (sym p ∙ q) in subst (λ (z : Part). get_or parts z.part None ≡ Some z) s (g ∙ ap Some same)
 
     met : (w : Part) → part_of meta (at xs i) ≡ Some w → (o : Option Part) → get_or parts w.part None ≡ o → is_other w o ≡ false → AreParts meta xs (suc i) (with_part parts w)
     met w p None g f = new w p g
     met w p (Some v) g f = old w v p g (same_part w v f)
 
     by : (o : Option Part) → part_of meta (at xs i) ≡ o → is_contradicted_if parts o ≡ false → AreParts meta xs (suc i) (with_part_if parts o)
-    by None p f = later parts h (λ w q. absurd (none_is_no_some w (sym p ∙ q)))
+    by None p f = later parts h (λ w q. absurd (none-some w (sym p ∙ q)))
     by (Some w) p f = met w p (get_or parts w.part None) refl f
 
 -- ---- the steps of the search
@@ -168,15 +159,15 @@ part_within : (meta : MetaDesc) (n : Naming) (k : ℕ) (w : Part) → n.object <
 part_within meta n k w o t e = by (prop_at meta n.property).composite e
   where
     if_whole : (q : ℕ) (b : Bool) → cond b (Some (record { part = n.object; whole = n.target; property = q })) None ≡ Some w → w.part < k
-    if_whole q true g = subst (λ (u : Part). u.part < k) (some_same (record { part = n.object; whole = n.target; property = q }) w g) o
-    if_whole q false g = absurd (none_is_no_some w g)
+    if_whole q true g = subst (λ (u : Part). u.part < k) (same_Some (record { part = n.object; whole = n.target; property = q }) w g) o
+    if_whole q false g = absurd (none-some w g)
 
     over : (m : Option ℕ) → part_by_opposite meta n m ≡ Some w → w.part < k
-    over None g = absurd (none_is_no_some w g)
+    over None g = absurd (none-some w g)
     over (Some q) g = if_whole q (prop_at meta q).composite g
 
     by : (b : Bool) → cond b (Some (record { part = n.target; whole = n.object; property = n.property })) (part_by_opposite meta n (opposite_of meta n.property)) ≡ Some w → w.part < k
-    by true g = subst (λ (u : Part). u.part < k) (some_same (record { part = n.target; whole = n.object; property = n.property }) w g) t
+    by true g = subst (λ (u : Part). u.part < k) (same_Some (record { part = n.target; whole = n.object; property = n.property }) w g) t
     by false g = over (opposite_of meta n.property) g
 
 pub count_step : (meta : MetaDesc) (parts new : List (Option Part)) (n : Naming) (k : ℕ) → new ≡ with_naming meta parts n → length parts ≡ k → length new ≡ k

@@ -29,7 +29,7 @@ use Rattle.xmi_profile.specs.AssemblyObjects.{AreObjects, bare_model}
 use Rattle.xmi_profile.specs.AssemblyOrders.{ordered}
 use Rattle.xmi_profile.specs.AssemblyReferences.{MayBeAssembled, IsTold, AreSorted, AreNamed, AreAnswered, dangling_of, mismatch_of, listed_id}
 use Rattle.xmi_profile.specs.AssemblyValues.{HasValues, IsSortedValues, valued}
-use Rattle.xmi_profile.proofs.SeenLaws.{in_none}
+use Rattle.mof_metamodel.proofs.Facts.{nothing_in}
 use Rattle.xmi_profile.proofs.assembling.ContentLaws.{content_told, model_told, fault_told}
 use Rattle.xmi_profile.proofs.assembling.DecidedLaws.{Checked, sound, fault, checked}
 use Rattle.xmi_profile.proofs.assembling.EntryLaws.{sorted_twice}
@@ -91,8 +91,8 @@ kept_none meta well = record {
   identifiers = λ a b id e f. absurd (no_text id e);
   attributes = λ o p a. absurd (no_number a.class a.class_is);
   references = λ o p a. absurd (no_number a.class a.class_is);
-  opposites = λ p q a b e. ((λ h. absurd (in_none b h)), (λ h. absurd (in_none a h)));
-  containers = λ o a b p q h g. absurd (in_none o h.linked);
+  opposites = λ p q a b e. ((λ h. absurd (nothing_in b h)), (λ h. absurd (nothing_in a h)));
+  containers = λ o a b p q h g. absurd (nothing_in o h.linked);
 }
 
 kept_bare_to : (meta : MetaDesc) → WellMeta meta → (cs : List ClassId) (ids : List (List ℕ)) → AreObjects meta cs ids → (n : ℕ) → n ≤ length ids → Kept (bare_model meta (take n cs) (take n ids))

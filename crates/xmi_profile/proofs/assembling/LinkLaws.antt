@@ -17,7 +17,9 @@ use Rattle.xmi_profile.specs.AssemblyFirsts.{same_naming}
 use Rattle.xmi_profile.specs.AssemblyLinks.{has_partner, IsLinkable, linked_once, linked_all, MayBeLinked, is_back, is_pair_of, ArePairs}
 use Rattle.xmi_profile.specs.AssemblyNamings.{naming}
 use Rattle.xmi_profile.proofs.assembling.EntrySteps.{drop_here}
-use Rattle.xmi_profile.proofs.assembling.ListLaws.{none_some, some_same, contains_any}
+use Rattle.xmi_profile.proofs.assembling.ListLaws.{contains_any}
+use Rattle.std.proofs.lemmas.Option.{same_Some}
+use Rattle.std.proofs.lemmas.Option.{none-some}
 
 pub partner_is : (m : ModelData) (n : Naming) → has_partner m n ≡ true → IsLinked m n.property n.object n.target
 partner_is m n h = Contains-from_Has (Rattle.object_tables.specs.Models.partners_at m n.object n.property) n.target h
@@ -34,8 +36,8 @@ class_within : (m : ModelData) → Kept m → (o c : ℕ) → class_at m o ≡ S
 class_within m k o c e = by (object_at m o) refl e
   where
     by : (x : Option Object) → object_at m o ≡ x → option_map (λ (ob : Object). ob.class) x ≡ Some c → c < class_count m.meta
-    by None g h = absurd (none_some c h)
-    by (Some object) g h = subst (λ n. n < class_count m.meta) (some_same object.class c h) (k.objects o object g).class
+    by None g h = absurd (none-some c h)
+    by (Some object) g h = subst (λ n. n < class_count m.meta) (same_Some object.class c h) (k.objects o object g).class
 
 -- the parts of a naming that is another one
 pub same_parts : (r a b : ℕ) (o : Naming) → same_naming (naming a r b) o ≡ true → (o.property ≡ r) × (o.object ≡ a) × (o.target ≡ b)

@@ -4,22 +4,18 @@ use Rattle.std.specs.Prelude.{slice_get, Contains}
 use Rattle.std.specs.List.{filter, list_any}
 use Rattle.std.proofs.lemmas.Bool.{cond-true, cond-false, or_cases, or_left, or_right}
 use Rattle.object_tables.proofs.ListLemmas.{Contains-cons}
-
-pub none_some : {X : Type 0} (x : X) → None ≡ Some x → ⊥
-none_some x e = cc
-
-pub some_same : {X : Type 0} (x y : X) → Some x ≡ Some y → x ≡ y
-some_same x y e = cc
+use Rattle.std.proofs.lemmas.Option.{none-some, same_Some}
+use Rattle.mof_metamodel.proofs.Facts.{contains_at}
 
 -- what stands at a place
 pub get_within : {X : Type 0} (xs : List X) (i : ℕ) (x : X) → slice_get xs i ≡ Some x → i < length xs
-get_within [] i x e = absurd (none_some x e)
+get_within [] i x e = absurd (none-some x e)
 get_within (y ∷ ys) zero x e = omega arith
 get_within (y ∷ ys) (suc i) x e = let l = get_within ys i x e in omega (arith, l)
 
 pub get_is : {X : Type 0} (xs : List X) (i : ℕ) (x d : X) → slice_get xs i ≡ Some x → get_or xs i d ≡ x
-get_is [] i x d e = absurd (none_some x e)
-get_is (y ∷ ys) zero x d e = some_same y x e
+get_is [] i x d e = absurd (none-some x e)
+get_is (y ∷ ys) zero x d e = same_Some y x e
 get_is (y ∷ ys) (suc i) x d e = get_is ys i x d e
 
 pub get_some : {X : Type 0} (xs : List X) (i : ℕ) (d : X) → i < length xs → slice_get xs i ≡ Some (get_or xs i d)
@@ -27,19 +23,16 @@ get_some [] i d l = absurd (omega (arith, l))
 get_some (y ∷ ys) zero d l = refl
 get_some (y ∷ ys) (suc i) d l = get_some ys i d (omega (arith, l))
 
-pub contains_get : {X : Type 0} (xs : List X) (i : ℕ) (x : X) → slice_get xs i ≡ Some x → Contains xs x
-contains_get xs i x e = (i, get_within xs i x e, get_is xs i x x e)
-
 -- what a filter keeps, and where it stood
 pub get_filter : {X : Type 0} (q : X → Bool) (xs : List X) (n : ℕ) (x : X) → slice_get (filter q xs) n ≡ Some x
     → (i : ℕ) × (slice_get xs i ≡ Some x) × (q x ≡ true) × (length (filter q (take i xs)) ≡ n)
-get_filter q [] n x e = absurd (none_some x e)
+get_filter q [] n x e = absurd (none-some x e)
 get_filter {X} q (y ∷ ys) n x e = by (q y) refl (λ k. get_filter q ys k x) n e
   where
     by : (b : Bool) → q y ≡ b → ((k : ℕ) → slice_get (filter q ys) k ≡ Some x → (i : ℕ) × (slice_get ys i ≡ Some x) × (q x ≡ true) × (length (filter q (take i ys)) ≡ k))
         → (n : ℕ) → slice_get (cond b (y ∷ filter q ys) (filter q ys)) n ≡ Some x
         → (i : ℕ) × (slice_get (y ∷ ys) i ≡ Some x) × (q x ≡ true) × (length (filter q (take i (y ∷ ys))) ≡ n)
-    by true t more zero g = (0, g, sym (ap q (some_same y x g)) ∙ t, refl)
+    by true t more zero g = (0, g, sym (ap q (same_Some y x g)) ∙ t, refl)
     by true t more (suc n) g =
         let r = more n g in
         (suc r.0, r.1, r.2, ap length (cond-true (q y) (y ∷ filter q (take r.0 ys)) (filter q (take r.0 ys)) t) ∙ ap suc r.3)
@@ -48,8 +41,8 @@ get_filter {X} q (y ∷ ys) n x e = by (q y) refl (λ k. get_filter q ys k x) n 
         (suc r.0, r.1, r.2, ap length (cond-false (q y) (y ∷ filter q (take r.0 ys)) (filter q (take r.0 ys)) t) ∙ r.3)
 
 pub filter_get : {X : Type 0} (q : X → Bool) (xs : List X) (i : ℕ) (x : X) → slice_get xs i ≡ Some x → q x ≡ true → slice_get (filter q xs) (length (filter q (take i xs))) ≡ Some x
-filter_get q [] i x e t = absurd (none_some x e)
-filter_get q (y ∷ ys) zero x e t = ap (λ zs. slice_get zs 0) (cond-true (q y) (y ∷ filter q ys) (filter q ys) (ap q (some_same y x e) ∙ t)) ∙ e
+filter_get q [] i x e t = absurd (none-some x e)
+filter_get q (y ∷ ys) zero x e t = ap (λ zs. slice_get zs 0) (cond-true (q y) (y ∷ filter q ys) (filter q ys) (ap q (same_Some y x e) ∙ t)) ∙ e
 filter_get q (y ∷ ys) (suc i) x e t = by (q y) refl (filter_get q ys i x e t)
   where
     by : (b : Bool) → q y ≡ b → slice_get (filter q ys) (length (filter q (take i ys))) ≡ Some x → slice_get (filter q (y ∷ ys)) (length (filter q (take (suc i) (y ∷ ys)))) ≡ Some x
@@ -79,21 +72,21 @@ filter_rises q (y ∷ ys) (suc i) (suc j) l = by (q y) (filter_rises q ys i j (o
 
 -- what a map gives at a place
 pub get_map : {X Y : Type 0} (f : X → Y) (xs : List X) (n : ℕ) (y : Y) → slice_get (map f xs) n ≡ Some y → (x : X) × (slice_get xs n ≡ Some x) × (f x ≡ y)
-get_map f [] n y e = absurd (none_some y e)
-get_map f (x ∷ xs) zero y e = (x, refl, some_same (f x) y e)
+get_map f [] n y e = absurd (none-some y e)
+get_map f (x ∷ xs) zero y e = (x, refl, same_Some (f x) y e)
 get_map f (x ∷ xs) (suc n) y e = get_map f xs n y e
 
 pub map_get : {X Y : Type 0} (f : X → Y) (xs : List X) (n : ℕ) (x : X) → slice_get xs n ≡ Some x → slice_get (map f xs) n ≡ Some (f x)
-map_get f [] n x e = absurd (none_some x e)
-map_get f (y ∷ ys) zero x e = ap (λ z. Some (f z)) (some_same y x e)
+map_get f [] n x e = absurd (none-some x e)
+map_get f (y ∷ ys) zero x e = ap (λ z. Some (f z)) (same_Some y x e)
 map_get f (y ∷ ys) (suc n) x e = map_get f ys n x e
 
 -- what passes is kept, so that there is more behind it
 pub filter_over : {X : Type 0} (q : X → Bool) (xs : List X) (i j : ℕ) (x : X) → i < j → slice_get xs i ≡ Some x → q x ≡ true → length (filter q (take i xs)) < length (filter q (take j xs))
-filter_over q [] i j x l e t = absurd (none_some x e)
+filter_over q [] i j x l e t = absurd (none-some x e)
 filter_over q (y ∷ ys) i zero x l e t = absurd (omega (arith, l))
 filter_over q (y ∷ ys) zero (suc j) x l e t =
-    let more : length (cond (q y) (y ∷ filter q (take j ys)) (filter q (take j ys))) ≡ suc (length (filter q (take j ys))) = ap length (cond-true (q y) (y ∷ filter q (take j ys)) (filter q (take j ys)) (ap q (some_same y x e) ∙ t)) in
+    let more : length (cond (q y) (y ∷ filter q (take j ys)) (filter q (take j ys))) ≡ suc (length (filter q (take j ys))) = ap length (cond-true (q y) (y ∷ filter q (take j ys)) (filter q (take j ys)) (ap q (same_Some y x e) ∙ t)) in
     omega (arith, more)
 filter_over q (y ∷ ys) (suc i) (suc j) x l e t = by (q y) (filter_over q ys i j x (omega (arith, l)) e t)
   where

@@ -30,7 +30,8 @@ use Rattle.xmi_profile.specs.Links.{speaks}
 use Rattle.xmi_profile.specs.Profile.{prop_name, props_or_none}
 use Rattle.xmi_profile.specs.References.{Target}
 use Rattle.xmi_profile.specs.Source.{Source, object_count, class_of, id_of, is_at, names}
-use Rattle.xmi_profile.proofs.assembling.ListLaws.{some_same, any_contains, contains_any}
+use Rattle.xmi_profile.proofs.assembling.ListLaws.{any_contains, contains_any}
+use Rattle.std.proofs.lemmas.Option.{same_Some}
 use Rattle.xmi_profile.proofs.assembling.SpotLaws.{class_known, class_counted, reference_sourced, entry_good, IsSpotOf, spot_at, spot_of_entry, IsEntryOf, entry_of_spot, no_earlier}
 use Rattle.xmi_profile.proofs.assembling.FaultLaws.{fit_named, none_dangles}
 use Rattle.xmi_profile.proofs.assembling.PartLaws.{AreNamings, naming_at, named_there}
@@ -120,7 +121,7 @@ far_reference s f es xs a known i l q o = record {
     named = fit_named s f a.entries.filed p spot.0 (entry_at es i).target (ap (λ (t : Option ℕ × List ℕ). t.0) spot.1.told) (a.fit i l)
 
     same : named.0 ≡ b
-    same = some_same named.0 b (sym named.1.number ∙ named_there s f es xs a i l spot.0 spot.1.told)
+    same = same_Some named.0 b (sym named.1.number ∙ named_there s f es xs a i l spot.0 spot.1.told)
 
     class_is : class_of s b ≡ Some named.1.class
     class_is = sym (ap (class_of s) same) ∙ named.1.class_is
@@ -132,7 +133,7 @@ far_reference s f es xs a known i l q o = record {
     class = class_known s f a.entries.filed b counted
 
     conforms : ConformsTo s.meta (class_in f.classes b).0 (type_of s.meta p)
-    conforms = subst (λ k. ConformsTo s.meta k (type_of s.meta p)) (some_same named.1.class (class_in f.classes b).0 (sym class_is ∙ class)) named.1.conforms
+    conforms = subst (λ k. ConformsTo s.meta k (type_of s.meta p)) (same_Some named.1.class (class_in f.classes b).0 (sym class_is ∙ class)) named.1.conforms
 
 -- the reference at which an entry stands
 near_reference : (s : Source) (f : Filed) (es : List Entry) (xs : List Naming) → AreNamings s f es xs → (i : ℕ) → i < length es → IsReferenceIn s (entry_at es i).object (entry_at es i).property.0
@@ -207,7 +208,7 @@ mismatch_entry s f es xs a known spot id prop other other_prop x =
     op = ap (opposite_of s.meta) k.property ∙ x.disputed.opposite
 
     target : n.target ≡ x.b
-    target = some_same n.target x.b (sym (named_there s f es xs a j k.within x.target k.told) ∙ x.named)
+    target = same_Some n.target x.b (sym (named_there s f es xs a j k.within x.target k.told) ∙ x.named)
 
     object : n.object ≡ spot.object
     object = ap (λ (z : Spot). z.object) k.spot_is

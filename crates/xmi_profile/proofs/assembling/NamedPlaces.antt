@@ -19,7 +19,8 @@ use Rattle.xmi_profile.specs.Links.{is_some_target, speaks}
 use Rattle.xmi_profile.specs.Profile.{props_or_none}
 use Rattle.xmi_profile.specs.References.{Target, Contained}
 use Rattle.xmi_profile.specs.Source.{Source, all_items, item_at, item_class, ids_from, file_ids, added_names, primitive_class, object_count, class_of, is_number, attr_in, attr_of, attr_text, is_at, target_if, part_target, element_target_at, element_targets, targets_of, targets_at, target_number, names}
-use Rattle.xmi_profile.proofs.assembling.ListLaws.{none_some, map_get}
+use Rattle.xmi_profile.proofs.assembling.ListLaws.{map_get}
+use Rattle.std.proofs.lemmas.Option.{none-some}
 use Rattle.xmi_profile.proofs.filed_laws.PlaceLaws.{IsOwned, IsPlaced, IsParent, placed_tree}
 
 abbrev own_classes : Source → List (Option ℕ)
@@ -127,7 +128,7 @@ ids_length number [] = refl
 ids_length number (item ∷ items) = ap (λ (n : ℕ). suc n) (ids_length (suc number) items)
 
 get_left : {X : Type 0} (xs ys : List X) (j : ℕ) (x : X) → slice_get xs j ≡ Some x → slice_get (xs ++ ys) j ≡ Some x
-get_left [] ys j x e = absurd (none_some x e)
+get_left [] ys j x e = absurd (none-some x e)
 get_left (z ∷ xs) ys zero x e = e
 get_left (z ∷ xs) ys (suc j) x e = get_left xs ys j x e
 

@@ -24,7 +24,9 @@ use Rattle.xmi_profile.specs.FirstFault.{rank, IsFirstBy}
 use Rattle.xmi_profile.specs.Filed.{reference_of}
 use Rattle.xmi_profile.specs.References.{Target}
 use Rattle.xmi_profile.specs.Source.{Source, object_count, id_of, target_number}
-use Rattle.xmi_profile.proofs.assembling.ListLaws.{none_some, some_same, get_some, filter_over}
+use Rattle.xmi_profile.proofs.assembling.ListLaws.{get_some, filter_over}
+use Rattle.std.proofs.lemmas.Option.{same_Some}
+use Rattle.std.proofs.lemmas.Option.{none-some}
 use Rattle.xmi_profile.proofs.assembling.SpotLaws.{told_by, number_at, spot_at, AreEntries, IsSpotOf, spot_of_entry, IsEntryOf, entry_of_spot, places_far, no_earlier}
 use Rattle.xmi_profile.proofs.assembling.FaultLaws.{none_dangles}
 
@@ -87,7 +89,7 @@ spot_before s f es a j i l k = by_object (cases_lt (entry_at es j).object (entry
 opposite_within : (meta : MetaDesc) (p q : ℕ) → opposite_of meta p ≡ Some q → p < prop_count meta
 opposite_within meta p q e = elim (cases_lt p (prop_count meta)) [
   | inl l ↦ l
-  | inr le ↦ absurd (none_some q (sym (ap (λ (d : ℕ × PropDesc). opposite_number meta d.1.opposite) (get_or_past (declared_props meta) p (0, no_prop) le)) ∙ e))
+  | inr le ↦ absurd (none-some q (sym (ap (λ (d : ℕ × PropDesc). opposite_number meta d.1.opposite) (get_or_past (declared_props meta) p (0, no_prop) le)) ∙ e))
 ]
 
 pub back : (meta : MetaDesc) (p q : ℕ) → WellMeta meta → opposite_of meta p ≡ Some q → opposite_of meta q ≡ Some p
@@ -107,15 +109,15 @@ made : (meta : MetaDesc) (n : Naming) (x : Part) → part_of meta n ≡ Some x �
 made meta n x e = by (prop_at meta n.property).composite refl e
   where
     if_whole : (q : ℕ) → opposite_of meta n.property ≡ Some q → (b : Bool) → (prop_at meta q).composite ≡ b → cond b (Some (part n.object n.target q)) None ≡ Some x → IsMade meta n x
-    if_whole q o true c g = oppositely q o c (some_same (part n.object n.target q) x g)
-    if_whole q o false c g = absurd (none_some x g)
+    if_whole q o true c g = oppositely q o c (same_Some (part n.object n.target q) x g)
+    if_whole q o false c g = absurd (none-some x g)
 
     over : (o : Option ℕ) → opposite_of meta n.property ≡ o → part_by_opposite meta n o ≡ Some x → IsMade meta n x
-    over None o g = absurd (none_some x g)
+    over None o g = absurd (none-some x g)
     over (Some q) o g = if_whole q o (prop_at meta q).composite refl g
 
     by : (b : Bool) → (prop_at meta n.property).composite ≡ b → cond b (Some (part n.target n.object n.property)) (part_by_opposite meta n (opposite_of meta n.property)) ≡ Some x → IsMade meta n x
-    by true c g = directly c (some_same (part n.target n.object n.property) x g)
+    by true c g = directly c (same_Some (part n.target n.object n.property) x g)
     by false c g = over (opposite_of meta n.property) refl g
 
 part_written : (s : Source) (f : Filed) (es : List Entry) (xs : List Naming) → AreNamings s f es xs → (i : ℕ) → i < length es → (x : Part) → part_of s.meta (at xs i) ≡ Some x
@@ -157,7 +159,7 @@ written_part s f es xs a spot w b p x = (j, k.within, k.spot_is, ap (part_of s.m
     k = found.1
 
     target : (naming_of (entry_at es j)).target ≡ x.c
-    target = some_same (naming_of (entry_at es j)).target x.c (sym (named_there s f es xs a j k.within x.target k.told) ∙ x.named)
+    target = same_Some (naming_of (entry_at es j)).target x.c (sym (named_there s f es xs a j k.within x.target k.told) ∙ x.named)
 
     shown : naming_of (entry_at es j) ≡ record { object = spot.object; property = x.r; target = x.c }
     shown = λ m. record { object = (ap (λ (z : Spot). z.object) k.spot_is) m; property = k.property m; target = target m }

@@ -21,7 +21,8 @@ use Rattle.xmi_profile.specs.Filed.{IsReferenceIn}
 use Rattle.xmi_profile.specs.Links.{speaks, NamesBack, IsPair}
 use Rattle.xmi_profile.specs.Source.{Source, is_at, names}
 use Rattle.xmi_profile.proofs.assembling.LinkLaws.{partner_is, is_partner, same_parts}
-use Rattle.xmi_profile.proofs.assembling.ListLaws.{any_contains, contains_get, get_some}
+use Rattle.xmi_profile.proofs.assembling.ListLaws.{any_contains, get_some}
+use Rattle.mof_metamodel.proofs.Facts.{contains_at}
 use Rattle.xmi_profile.proofs.assembling.MismatchLaws.{sayings_told, speaks_listed}
 use Rattle.xmi_profile.proofs.assembling.NameLaws.{names_listed, naming_found, naming_there, same_itself}
 use Rattle.xmi_profile.proofs.assembling.NamedPlaces.{names_reference, speaks_reference}
@@ -34,7 +35,7 @@ at_member : (xs : List Naming) (n : Naming) (c : Contains xs n) → at xs c.0 �
 at_member xs n c = Rattle.std.proofs.lemmas.List.get_or_default xs c.0 (naming 0 0 0) n c.1 ∙ c.2
 
 member_at : (xs : List Naming) (j : ℕ) → j < length xs → Contains xs (at xs j)
-member_at xs j l = contains_get xs j (at xs j) (get_some xs j (naming 0 0 0) l)
+member_at xs j l = contains_at xs j (at xs j) (get_some xs j (naming 0 0 0) l)
 
 module _ (s : Source) (f : Filed) (es : List Entry) (xs : List Naming) (named : AreNamings s f es xs) where
   -- a naming stands at a reference of its object's class

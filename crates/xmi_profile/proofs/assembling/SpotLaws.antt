@@ -23,7 +23,10 @@ use Rattle.xmi_profile.specs.Filed.{reference_at, reference_of, IsFiled, IsRefer
 use Rattle.xmi_profile.specs.Profile.{props_or_none}
 use Rattle.xmi_profile.specs.References.{Target}
 use Rattle.xmi_profile.specs.Source.{Source, class_of, is_at, targets_at}
-use Rattle.xmi_profile.proofs.assembling.ListLaws.{none_some, some_same, get_within, get_is, get_some, contains_get, get_filter, filter_get, filter_rises, get_map, map_get}
+use Rattle.xmi_profile.proofs.assembling.ListLaws.{get_within, get_is, get_some, get_filter, filter_get, filter_rises, get_map, map_get}
+use Rattle.mof_metamodel.proofs.Facts.{contains_at}
+use Rattle.std.proofs.lemmas.Option.{same_Some}
+use Rattle.std.proofs.lemmas.Option.{none-some}
 
 -- ---- classes
 
@@ -33,7 +36,7 @@ class_there (c ∷ cs) zero l = refl
 class_there (c ∷ cs) (suc o) l = class_there cs o (omega (arith, l))
 
 class_within : (cs : List ClassId) (o c : ℕ) → unwrap_or (slice_get (map (λ c. Some c.0) cs) o) None ≡ Some c → o < length cs
-class_within [] o c e = absurd (none_some c e)
+class_within [] o c e = absurd (none-some c e)
 class_within (k ∷ cs) zero c e = omega arith
 class_within (k ∷ cs) (suc o) c e = let l = class_within cs o c e in omega (arith, l)
 
@@ -52,7 +55,7 @@ pub reference_listed : (s : Source) (f : Filed) → IsFiled s f → (o p : ℕ) 
 reference_listed s f h o p r =
     let k = has_class s.meta (class_of s o) p r.has in
     let l = class_counted s f h o k.0 k.1 in
-    let same : k.0 ≡ (class_in f.classes o).0 = some_same k.0 (class_in f.classes o).0 (sym k.1 ∙ class_known s f h o l) in
+    let same : k.0 ≡ (class_in f.classes o).0 = same_Some k.0 (class_in f.classes o).0 (sym k.1 ∙ class_known s f h o l) in
     record { object = l; has = subst (λ c. Contains (props_of s.meta c) p) same k.2; class_type = r.class_type }
 
 pub reference_sourced : (s : Source) (f : Filed) → IsFiled s f → length f.classes ≡ length f.ids → (o p : ℕ) → IsReferenceAt s.meta f.classes o p → IsReferenceIn s o p
@@ -225,7 +228,7 @@ entry_of_spot s f es a spot p target w = (i, record { within = within; spot_is =
     o = spot.object
 
     class : (c : ℕ) × (class_of s o ≡ Some c) × Contains (props_of s.meta c) p
-    class = has_class s.meta (class_of s o) p (contains_get (props_or_none s.meta (class_of s o)) spot.property p w.property)
+    class = has_class s.meta (class_of s o) p (contains_at (props_or_none s.meta (class_of s o)) spot.property p w.property)
 
     counted : o < length f.classes
     counted = class_counted s f a.filed o class.0 class.1
@@ -233,7 +236,7 @@ entry_of_spot s f es a spot p target w = (i, record { within = within; spot_is =
     inside : IsReferenceIn s o p
     inside = record {
       object = let e = ap length a.filed.ids in let n = a.counted in let l = counted in omega (arith, e, n, l);
-      has = contains_get (props_or_none s.meta (class_of s o)) spot.property p w.property;
+      has = contains_at (props_or_none s.meta (class_of s o)) spot.property p w.property;
       class_type = w.reference;
     }
 

@@ -3,8 +3,10 @@ use Rattle.std.proofs.Common.{◌≡◌, ◌⊎◌, ℕ, zero, suc, ◌+◌, ◌
 use Rattle.std.specs.List.Sorted.{IsSortedByKey, IsStableByKey, ties}
 use Rattle.std.proofs.lemmas.Bool.{ltb-true, ltb-false, le-ltb, eqb-true}
 use Rattle.std.proofs.lemmas.List.Sorted.{IsPermutation-refl, IsPermutation-trans, IsPermutation-cons, IsPermutation-insert}
-use Rattle.xmi_profile.proofs.SeenLaws.{in_cons, in_none}
-use Rattle.xmi_profile.proofs.WritingCalls.{contains_head, contains_tail}
+use Rattle.xmi_profile.proofs.SeenLaws.{in_cons}
+use Rattle.mof_metamodel.proofs.Facts.{nothing_in}
+use Rattle.xmi_profile.proofs.WritingCalls.{contains_tail}
+use Rattle.mof_metamodel.proofs.Facts.{contains_first}
 use Rattle.xmi_profile.proofs.assembling.EntryLaws.{less_is, tie_is}
 
 -- a stable order of the list
@@ -49,7 +51,7 @@ module _ {X : Type 0} (key : X → ℕ) where
     where
       by : (x ≡ z) ⊎ Contains [] z → (x ≡ z) ⊎ Contains [] z
       by (inl e) = inl e
-      by (inr d) = absurd (in_none z d)
+      by (inr d) = absurd (nothing_in z d)
   in_inserted x z (y ∷ ys) c = by (nat_lt (key y) (key x)) (in_inserted x z ys) c
     where
       later : (x ≡ z) ⊎ Contains ys z → (x ≡ z) ⊎ Contains (y ∷ ys) z
@@ -57,7 +59,7 @@ module _ {X : Type 0} (key : X → ℕ) where
       later (inr d) = inr (contains_tail y z ys d)
 
       first : (y ≡ z) ⊎ Contains (inserted x ys) z → (Contains (inserted x ys) z → (x ≡ z) ⊎ Contains ys z) → (x ≡ z) ⊎ Contains (y ∷ ys) z
-      first (inl e) f = inr (subst (Contains (y ∷ ys)) e (contains_head y ys))
+      first (inl e) f = inr (subst (Contains (y ∷ ys)) e (contains_first y ys))
       first (inr d) f = later (f d)
 
       by : (b : Bool) → (Contains (inserted x ys) z → (x ≡ z) ⊎ Contains ys z) → Contains (cond b (y ∷ inserted x ys) (x ∷ y ∷ ys)) z → (x ≡ z) ⊎ Contains (y ∷ ys) z
@@ -65,7 +67,7 @@ module _ {X : Type 0} (key : X → ℕ) where
       by false f d = in_cons x (y ∷ ys) z d
 
   insert_ascends : (x : X) (ys : List X) → Ascends ys → Ascends (inserted x ys)
-  insert_ascends x [] h = ((λ y c. absurd (in_none y c)), tt)
+  insert_ascends x [] h = ((λ y c. absurd (nothing_in y c)), tt)
   insert_ascends x (y ∷ ys) h = by (nat_lt (key y) (key x)) refl (insert_ascends x ys h.1)
     where
       from_first : key y < key x → (z : X) → (x ≡ z) ⊎ Contains ys z → key y ≤ key z
@@ -87,7 +89,7 @@ module _ {X : Type 0} (key : X → ℕ) where
   rises_from : (xs : List X) → Ascends xs → IsSortedByKey key nat_cmp xs
   rises_from [] h k d low high = absurd (omega (arith, high))
   rises_from (x ∷ []) h k d low high = absurd (omega (arith, high))
-  rises_from (x ∷ y ∷ ys) h zero d low high = less_is (key y) (key x) ∙ le-ltb (key y) (key x) (h.0 y (contains_head y ys))
+  rises_from (x ∷ y ∷ ys) h zero d low high = less_is (key y) (key x) ∙ le-ltb (key y) (key x) (h.0 y (contains_first y ys))
   rises_from (x ∷ y ∷ ys) h (suc k) d low high =
       let next : suc k + 1 ≡ suc (k + 1) = omega arith in
       ap (λ (n : ℕ). is_lt (nat_cmp (key (get_or (x ∷ y ∷ ys) n d)) (key (get_or (x ∷ y ∷ ys) (suc k) d)))) next ∙ rises_from (y ∷ ys) h.1 k d (omega arith) (omega (arith, high))

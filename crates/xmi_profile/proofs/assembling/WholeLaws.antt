@@ -18,7 +18,7 @@ use Rattle.xmi_profile.specs.AssemblyValues.{AreValuesOf}
 use Rattle.xmi_profile.specs.Filed.{IsFiled, IsAttributeIn}
 use Rattle.xmi_profile.specs.SoundFiled.{HasInstances, IsSoundFiled}
 use Rattle.xmi_profile.specs.Source.{Source, class_of}
-use Rattle.xmi_profile.proofs.assembling.ListLaws.{some_same}
+use Rattle.std.proofs.lemmas.Option.{same_Some}
 use Rattle.xmi_profile.proofs.assembling.SpotLaws.{class_known, class_counted, has_class, places_listed}
 use Rattle.xmi_profile.proofs.assembling.StartLaws.{class_of_bare}
 
@@ -43,7 +43,7 @@ attribute_of_bare : (s : Source) (f : Filed) → IsFiled s f → length f.classe
 attribute_of_bare s f h n o p r =
     let k = has_class s.meta (class_of s o) p r.has in
     let l = class_counted s f h o k.0 k.1 in
-    let same : k.0 ≡ (class_in f.classes o).0 = some_same k.0 (class_in f.classes o).0 (sym k.1 ∙ class_known s f h o l) in
+    let same : k.0 ≡ (class_in f.classes o).0 = same_Some k.0 (class_in f.classes o).0 (sym k.1 ∙ class_known s f h o l) in
     record {
       class = (class_in f.classes o).0;
       class_is = class_of_bare s.meta f.classes f.ids o n l;

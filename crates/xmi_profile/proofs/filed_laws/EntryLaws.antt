@@ -26,6 +26,7 @@ use Rattle.xmi_profile.specs.References.{Target, Named, Contained, attribute_tar
 use Rattle.xmi_profile.specs.Source.{is_at}
 use Rattle.xmi_profile.specs.Values.{value_of}
 use Rattle.xmi_profile.proofs.SeenLaws.{kept, element_kept}
+use Rattle.mof_metamodel.proofs.Facts.{second_true, first_true}
 
 -- ---- entries
 
@@ -267,20 +268,11 @@ is_mention_at o p m = is_at o p m.object m.property.0
 abbrev pub reference_pair : Numbers → Target → Option ℕ × List ℕ
 reference_pair n target = (number_by n.names target, text_by n.ids target)
 
--- where it is so, the object and the property are the same
-and_right : (a b : Bool) → (a && b) ≡ true → b ≡ true
-and_right true b h = h
-and_right false b h = absurd (true≢false (sym h))
-
-and_left : (a b : Bool) → (a && b) ≡ true → a ≡ true
-and_left true b h = refl
-and_left false b h = absurd (true≢false (sym h))
-
 pub at_property : (o p object property : ℕ) → is_at o p object property ≡ true → property ≡ p
-at_property o p object property h = eqb-true property p (and_right (object == o) (property == p) h)
+at_property o p object property h = eqb-true property p (second_true (object == o) (property == p) h)
 
 pub at_object : (o p object property : ℕ) → is_at o p object property ≡ true → object ≡ o
-at_object o p object property h = eqb-true object o (and_left (object == o) (property == p) h)
+at_object o p object property h = eqb-true object o (first_true (object == o) (property == p) h)
 
 -- one more item of a filtered list
 one_more : {X Y : Type 0} (f : X → Option Y) (xs : List X) (x : X) → filter_map f (xs ++ x ∷ []) ≡ filter_map f xs ++ filter_map f (x ∷ [])

@@ -3,7 +3,7 @@ use Rattle.std.proofs.Common.{◌≡◌, ◌≢◌, ℕ, ◌^◌, ◌<◌, ◌�
 use Rattle.std.specs.Prelude.{codes, if◌then◌else◌, is_some, position, All, AllPairs, Contains, IfSome, Option}
 use Rattle.std.proofs.lemmas.List.{length-append, length-map}
 use Rattle.std.proofs.lemmas.List.Elements.{All-nil, All-cons, All-push, All-head, All-tail}
-use Rattle.std.proofs.lemmas.Option.{slice_get_within}
+use Rattle.std.proofs.lemmas.Option.{slice_get_within, none-some}
 use Rattle.mof_metamodel.specs.declared.desc.MetaDesc.{MetaDesc}
 use Rattle.object_tables.specs.declared.limit.TheConstants.{MAX_OBJECTS}
 use Rattle.mof_metamodel.specs.Characters.{same_name, is_identifier_text}
@@ -36,12 +36,10 @@ use Rattle.xmi_profile.proofs.filed_laws.FiledLaws.{all_entries, class_by_is, Kn
 use Rattle.xmi_profile.proofs.filed_laws.IdentifierLaws.{ids_proper, ids_distinct}
 use Rattle.xmi_profile.proofs.filed_laws.PlaceLaws.{IsNoPart, IsOwned, IsConcrete, IsPlaced, IsParent, placed_tree}
 use Rattle.xmi_profile.proofs.Positions.{position_is, first_passes}
-use Rattle.xmi_profile.proofs.SeenLaws.{element_kept, in_head, in_tail}
+use Rattle.xmi_profile.proofs.SeenLaws.{element_kept, in_tail}
+use Rattle.mof_metamodel.proofs.Facts.{contains_first}
 use Rattle.xmi_profile.proofs.filed_laws.StorableLaws.{Stored, stored_tree}
 use Rattle.xmi_profile.proofs.filed_laws.TypedLaws.{entries_typed, all_stored, added_names_stored}
-
-none_is_no_some : {X : Type 0} (x : X) → None ≡ Some x → ⊥
-none_is_no_some x e = cc
 
 few_objects : MAX_OBJECTS < 2 ^ 32
 few_objects = omega arith
@@ -70,7 +68,7 @@ class_known s item none c = by item.role refl
 
 each_known : (items : List Item) → ((item : Item) → Contains items item → KnownItem item) → All KnownItem items
 each_known [] f = All-nil KnownItem
-each_known (item ∷ items) f = All-cons KnownItem item items (f item (in_head item items)) (each_known items (λ i c. f i (in_tail item items i c)))
+each_known (item ∷ items) f = All-cons KnownItem item items (f item (contains_first item items)) (each_known items (λ i c. f i (in_tail item items i c)))
 
 -- ---- numbers
 

@@ -6,7 +6,7 @@ use Rattle.std.specs.Option.{unwrap_or}
 use Rattle.std.proofs.lemmas.Bool.{true≢false, cases_lt, ne_eqb}
 use Rattle.std.proofs.lemmas.List.{length-append, length-map, map-append}
 use Rattle.std.proofs.lemmas.List.Elements.{All-nil, All-head, All-tail, All-append, filter_map-append}
-use Rattle.std.proofs.lemmas.Option.{slice_get_within, slice_get_past}
+use Rattle.std.proofs.lemmas.Option.{slice_get_within, slice_get_past, none-some}
 use Rattle.mof_metamodel.specs.declared.desc.ClassId.{ClassId}
 use Rattle.mof_metamodel.specs.declared.desc.MetaDesc.{MetaDesc}
 use Rattle.mof_metamodel.specs.Characters.{same_name}
@@ -36,15 +36,12 @@ use Rattle.xmi_profile.proofs.filed_laws.NamedLaws.{name_values}
 use Rattle.xmi_profile.proofs.filed_laws.PlaceLaws.{IsOwned, IsPlaced, IsParent, AreNumberedFrom, placed_tree}
 use Rattle.xmi_profile.proofs.filed_laws.PlacedLaws.{IsEntry, AreAt, ValueAt, ReferenceAt, MentionAt, nothing_at, entries_at, all_attrs_are, elements_are, added_are}
 use Rattle.xmi_profile.proofs.filed_laws.SaidLaws.{attr_said, attr_texts, attr_targets, attr_is, attrs_at, texts-append, targets-append, attr-append, elements_texts, elements_targets, elements_attr, added_targets, added_attr, added_before, added_at}
-use Rattle.xmi_profile.proofs.SeenLaws.{element_kept, in_head, in_tail, in_cons, in_none}
-
--- ---- lists
-
-none_is_no_some : {X : Type 0} (x : X) → None ≡ Some x → ⊥
-none_is_no_some x e = cc
+use Rattle.xmi_profile.proofs.SeenLaws.{element_kept, in_tail, in_cons}
+use Rattle.mof_metamodel.proofs.Facts.{contains_first}
+use Rattle.mof_metamodel.proofs.Facts.{nothing_in}
 
 get_left : {X : Type 0} (xs ys : List X) (j : ℕ) (x : X) → slice_get xs j ≡ Some x → slice_get (xs ++ ys) j ≡ Some x
-get_left [] ys j x e = absurd (none_is_no_some x e)
+get_left [] ys j x e = absurd (none-some x e)
 get_left (z ∷ xs) ys zero x e = e
 get_left (z ∷ xs) ys (suc j) x e = get_left xs ys j x e
 
@@ -68,11 +65,11 @@ any_in f [] h = absurd (true≢false (sym h))
 any_in {X = X} f (x ∷ xs) h = by (f x) refl h (any_in f xs)
   where
     by : (b : Bool) → f x ≡ b → (b || list_any f xs) ≡ true → (list_any f xs ≡ true → (y : X) × Contains xs y × (f y ≡ true)) → (y : X) × Contains (x ∷ xs) y × (f y ≡ true)
-    by true e t more = (x, in_head x xs, e)
+    by true e t more = (x, contains_first x xs, e)
     by false e t more = let (y, c, g) = more t in (y, in_tail x xs y c, g)
 
 pub in_any : {X : Type 0} (f : X → Bool) (xs : List X) (x : X) → Contains xs x → f x ≡ true → list_any f xs ≡ true
-in_any f [] x c h = absurd (in_none x c)
+in_any f [] x c h = absurd (nothing_in x c)
 in_any f (y ∷ xs) x c h = by (in_cons y xs x c) (λ d. in_any f xs x d h)
   where
     or_true : (b : Bool) → (b || true) ≡ true
@@ -91,7 +88,7 @@ first_or [] d = d
 first_or (x ∷ xs) d = x
 
 all_member : {X : Type 0} (P : X → Type 0) (xs : List X) (x : X) → All P xs → Contains xs x → P x
-all_member P [] x a c = absurd (in_none x c)
+all_member P [] x a c = absurd (nothing_in x c)
 all_member P (y ∷ ys) x a c = by (in_cons y ys x c) (λ d. all_member P ys x (All-tail P y ys a) d)
   where
     by : (y ≡ x) ⊎ Contains ys x → (Contains ys x → P x) → P x
@@ -491,7 +488,7 @@ module _ (s : Source) (n : Numbers) (ids_are : n.ids ≡ all_ids s) (names_are :
 
     named_values : (class : Option ℕ) (j : ℕ) (id : List ℕ) → Contains (props_or_none s.meta class) p → slice_get more_ids j ≡ Some id → o ≡ count + j
         → without_repeats (read (behind class)) ≡ (if is_name_prop s.meta p then values.Str id ∷ [] else [])
-    named_values None j id h e f = absurd (in_none p h)
+    named_values None j id h e f = absurd (nothing_in p h)
     named_values (Some c) j id h e f =
         ap (λ (ss : List Said). without_repeats (read (all_texts ss))) (added_at o p s.meta c count j more_ids id e f) ∙ name_values s.meta o p id (props_of s.meta c) h
 

@@ -10,7 +10,7 @@ use Rattle.std.proofs.lemmas.Fmt.{digits_decimal}
 use Rattle.std.proofs.lemmas.List.{length-append}
 use Rattle.std.proofs.lemmas.List.Elements.{All-nil, All-cons, All-append, All-head, All-tail}
 use Rattle.std.proofs.lemmas.List.Kept.{AllPairs-cons, AllPairs-filter}
-use Rattle.std.proofs.lemmas.Option.{slice_get_within, slice_get-get_or, get_or_from_slice_get}
+use Rattle.std.proofs.lemmas.Option.{slice_get_within, slice_get-get_or, get_or_from_slice_get, none-some}
 use Rattle.std.proofs.lemmas.Str.Parse.{IsDigitsTest, numerals_by_value}
 use Rattle.object_tables.specs.declared.limit.TheConstants.{MAX_OBJECTS}
 use Rattle.mof_metamodel.specs.Characters.{same_name, is_blank, is_storable_character, is_storable_text, is_identifier_text}
@@ -23,10 +23,9 @@ use Rattle.xmi_profile.specs.Faults.{StandsAt}
 use Rattle.xmi_profile.specs.Judged.{IsWrong, id_place}
 use Rattle.xmi_profile.specs.Source.{Source, all_items, given_id, ids_from, file_ids, is_added, added_names, all_ids, object_count, uses, primitive_class}
 use Rattle.xmi_profile.proofs.filed_laws.FiledLaws.{get_right, in_any}
-use Rattle.xmi_profile.proofs.SeenLaws.{in_head, in_tail}
-
-none_is_no_some : {X : Type 0} (x : X) → None ≡ Some x → ⊥
-none_is_no_some x e = cc
+use Rattle.xmi_profile.proofs.SeenLaws.{in_tail}
+use Rattle.mof_metamodel.proofs.Facts.{contains_first}
+use Rattle.mof_metamodel.proofs.Facts.{contains_at}
 
 -- ---- an identifier that is given
 
@@ -86,7 +85,7 @@ given_proper n h =
 
 ids_at : (number : ℕ) (items : List Item) (o : ℕ) (id : List ℕ) → slice_get (ids_from number items) o ≡ Some id
     → (item : Item) × (slice_get items o ≡ Some item) × (id ≡ unwrap_or (written_id item.attrs) (given_id (number + o)))
-ids_at number [] o id e = absurd (none_is_no_some id e)
+ids_at number [] o id e = absurd (none-some id e)
 ids_at number (item ∷ items) zero id e =
     let z : number ≡ number + 0 = omega arith in
     (item, refl, sym (ap (λ (x : Option (List ℕ)). unwrap_or x id) e) ∙ ap (λ (k : ℕ). unwrap_or (written_id item.attrs) (given_id k)) z)
@@ -96,13 +95,13 @@ ids_at number (item ∷ items) (suc o) id e =
     (r.0, r.1, r.2 ∙ ap (λ (k : ℕ). unwrap_or (written_id r.0.attrs) (given_id k)) z)
 
 in_filter : {X : Type 0} (f : X → Bool) (xs : List X) (j : ℕ) (x : X) → slice_get (filter f xs) j ≡ Some x → Contains xs x × (f x ≡ true)
-in_filter f [] j x e = absurd (none_is_no_some x e)
+in_filter f [] j x e = absurd (none-some x e)
 in_filter {X = X} f (y ∷ ys) j x e = by (f y) refl j e (λ i g. in_filter f ys i x g)
   where
     by : (b : Bool) → f y ≡ b → (i : ℕ) → slice_get (if b then y ∷ filter f ys else filter f ys) i ≡ Some x
         → ((k : ℕ) → slice_get (filter f ys) k ≡ Some x → Contains ys x × (f x ≡ true)) → Contains (y ∷ ys) x × (f x ≡ true)
     by true h zero g more =
-        let same : y ≡ x = ap (λ (o : Option X). unwrap_or o y) g in (subst (λ (z : X). Contains (y ∷ ys) z) same (in_head y ys), ap f (sym same) ∙ h)
+        let same : y ≡ x = ap (λ (o : Option X). unwrap_or o y) g in (subst (λ (z : X). Contains (y ∷ ys) z) same (contains_first y ys), ap f (sym same) ∙ h)
     by true h (suc i) g more = let r = more i g in (in_tail y ys x r.0, r.1)
     by false h i g more = let r = more i g in (in_tail y ys x r.0, r.1)
 
@@ -114,11 +113,6 @@ get_first (x ∷ xs) ys (suc i) l = get_first xs ys i (omega (arith, l))
 all_by : {X : Type 0} (P : X → Type 0) (xs : List X) → ((i : ℕ) (x : X) → slice_get xs i ≡ Some x → P x) → All P xs
 all_by P [] f = All-nil P
 all_by P (x ∷ xs) f = All-cons P x xs (f 0 x refl) (all_by P xs (λ i y e. f (suc i) y e))
-
-member_at : {X : Type 0} (xs : List X) (i : ℕ) (x : X) → slice_get xs i ≡ Some x → Contains xs x
-member_at [] i x e = absurd (none_is_no_some x e)
-member_at {X = X} (y ∷ ys) zero x e = subst (λ (z : X). Contains (y ∷ ys) z) (ap (λ (o : Option X). unwrap_or o y) e) (in_head y ys)
-member_at (y ∷ ys) (suc i) x e = in_tail y ys x (member_at ys i x e)
 
 object_role_of : (role : Role) → is_some (object_of role) ≡ true → (object : ObjectRole) × (role ≡ AnObject object)
 object_role_of Document h = absurd (true≢false (sym h))
@@ -222,7 +216,7 @@ module _ (s : Source) (none : (fault : ModelFault) (place : ℕ) → ¬ StandsAt
   added_apart : (i j : ℕ) (id : List ℕ) → slice_get (file_ids s) i ≡ Some id → slice_get (added_names s) j ≡ Some id → ⊥
   added_apart i j id e f =
       let a = in_filter (is_added s) three j id f in
-      let here = in_any (same_name id) (file_ids s) id (member_at (file_ids s) i id e) (true_same id id refl) in
+      let here = in_any (same_name id) (file_ids s) id (contains_at (file_ids s) i id e) (true_same id id refl) in
       true≢false (sym here ∙ added_out id a.1)
     where
       added_out : (name : List ℕ) → is_added s name ≡ true → list_any (same_name name) (file_ids s) ≡ false

@@ -8,10 +8,7 @@ use Rattle.std.proofs.lemmas.Bool.{eq-eqb, ne_eqb}
 use Rattle.std.proofs.lemmas.Bool.Decides.{eqb_tells}
 use Rattle.std.proofs.lemmas.List.Folds.{list_any-append}
 use Rattle.xmi_profile.specs.Filing.{is_met}
-
-or_false : (x : Bool) → (x || false) ≡ x
-or_false true = refl
-or_false false = refl
+use Rattle.mof_metamodel.proofs.Facts.{or_false}
 
 or_swap : (x y : Bool) → (x || y) ≡ cond y true x
 or_swap true true = refl

@@ -18,7 +18,9 @@ use Rattle.xmi_profile.specs.Profile.{prop_name}
 use Rattle.xmi_profile.specs.Source.{is_at}
 use Rattle.xmi_profile.specs.Values.{value_of, unmet, without_repeats}
 use Rattle.xmi_profile.proofs.filed_laws.EntryLaws.{OfInner, name_entries_if, name_entries, said_if, said_at, all_texts, at_property}
-use Rattle.xmi_profile.proofs.SeenLaws.{in_cons, in_none}
+use Rattle.xmi_profile.proofs.SeenLaws.{in_cons}
+use Rattle.mof_metamodel.proofs.Facts.{nothing_in}
+use Rattle.mof_metamodel.proofs.Facts.{second_true}
 
 abbrev Texts : Type 0
 Texts = List (List ℕ)
@@ -40,12 +42,8 @@ is_text_type (Some (types.Enum e)) h = absurd (true≢false (sym h))
 is_text_type (Some (types.Class c)) h = absurd (true≢false (sym h))
 is_text_type None h = absurd (true≢false (sym h))
 
-and_right : (a b : Bool) → (a && b) ≡ true → b ≡ true
-and_right true b h = h
-and_right false b h = absurd (true≢false (sym h))
-
 name_type : (meta : MetaDesc) (p : ℕ) → is_name_prop meta p ≡ true → type_of meta p ≡ Some types.Str
-name_type meta p h = is_text_type (type_of meta p) (and_right (same_name (prop_name meta p) (codes "name")) (is_string (type_of meta p)) h)
+name_type meta p h = is_text_type (type_of meta p) (second_true (same_name (prop_name meta p) (codes "name")) (is_string (type_of meta p)) h)
 
 pub name_is_attribute : (meta : MetaDesc) (p : ℕ) → is_name_prop meta p ≡ true → is_class_type (type_of meta p) ≡ false
 name_is_attribute meta p h = ap is_class_type (name_type meta p h)
@@ -89,7 +87,7 @@ module _ (meta : MetaDesc) (o p : ℕ) (id : List ℕ) where
   some_with true true ps h = refl
 
   told_some : is_name_prop meta p ≡ true → (ps : List ℕ) → Contains ps p → has_text (told ps) ≡ true
-  told_some h [] c = absurd (in_none p c)
+  told_some h [] c = absurd (nothing_in p c)
   told_some h (q ∷ ps) c = elim (in_cons q ps p c) [
     | inl e ↦
         ap has_text

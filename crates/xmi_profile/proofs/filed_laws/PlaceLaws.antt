@@ -17,6 +17,7 @@ use Rattle.xmi_profile.specs.Elements.{Item, Role, ObjectRole, Document, Skipped
 use Rattle.xmi_profile.specs.References.{Target, Named, Extern, Contained, Nowhere, is_primitive_type, divided, extern_target, fragment_target, parts_target, href_target, unless_identified, or_by_href, element_target}
 use Rattle.xmi_profile.specs.Source.{item_class}
 use Rattle.xmi_profile.proofs.ListingLaws.{counted}
+use Rattle.std.proofs.lemmas.Option.{none-some}
 
 -- ---- what an element names is no contained object
 
@@ -191,11 +192,8 @@ classes_of items = map item_class (object_items items)
 abbrev Begins : List (Option ℕ) → ℕ → List Item → Type 0
 Begins classes number items = (j : ℕ) (x : Option ℕ) → slice_get (classes_of items) j ≡ Some x → slice_get classes (number + j) ≡ Some x
 
-none_is_no_some : {X : Type 0} (x : X) → None ≡ Some x → ⊥
-none_is_no_some x e = cc
-
 get_left : {X : Type 0} (xs ys : List X) (j : ℕ) (x : X) → slice_get xs j ≡ Some x → slice_get (xs ++ ys) j ≡ Some x
-get_left [] ys j x e = absurd (none_is_no_some x e)
+get_left [] ys j x e = absurd (none-some x e)
 get_left (z ∷ xs) ys zero x e = e
 get_left (z ∷ xs) ys (suc j) x e = get_left xs ys j x e
 

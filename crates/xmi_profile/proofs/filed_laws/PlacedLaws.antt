@@ -21,7 +21,8 @@ use Rattle.xmi_profile.specs.Values.{value_of}
 use Rattle.xmi_profile.proofs.filed_laws.EntryLaws.{Said, OfAttr, OfInner, OfTarget, Entry, entry, with_said, with_entries, attr_entries_if, attr_entry, attr_entries, own_entries_by, own_entries, all_attr_entries, inner_entries, part_entries, role_entries, element_entries, name_entries_if, name_entries, added_entries}
 use Rattle.xmi_profile.proofs.filed_laws.NamedLaws.{name_is_attribute}
 use Rattle.xmi_profile.proofs.filed_laws.PlaceLaws.{IsOwned, IsPlaced, IsParent}
-use Rattle.xmi_profile.proofs.SeenLaws.{kept, in_head, in_tail}
+use Rattle.xmi_profile.proofs.SeenLaws.{kept, in_tail}
+use Rattle.mof_metamodel.proofs.Facts.{contains_first}
 
 -- ---- what entries may be, given which objects have which properties
 
@@ -183,7 +184,7 @@ module _ (meta : MetaDesc) (P : Slots) where
   names_are o id [] h = All-nil IsEntry
   names_are o id (p ∷ ps) h =
       All-append IsEntry (name_entries_if (is_name_prop meta p) o id p) (name_entries meta o id ps)
-      (name_is o id p (h p (in_head p ps))) (names_are o id ps (λ q c. h q (in_tail p ps q c)))
+      (name_is o id p (h p (contains_first p ps))) (names_are o id ps (λ q c. h q (in_tail p ps q c)))
 
   pub added_are : (c o : ℕ) (ids : List (List ℕ)) → ((j p : ℕ) → j < length ids → Contains (props_of meta c) p → P (o + j) p) → All IsEntry (added_entries meta c o ids)
   added_are c o [] h = All-nil IsEntry

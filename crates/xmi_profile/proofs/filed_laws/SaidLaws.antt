@@ -16,6 +16,8 @@ use Rattle.xmi_profile.proofs.filed_laws.EntryLaws.{Said, OfAttr, OfInner, OfTar
 use Rattle.xmi_profile.proofs.filed_laws.MetLaws.{met_push, equal_swap}
 use Rattle.xmi_profile.proofs.filed_laws.PlaceLaws.{IsNumbered, AreNumberedFrom}
 use Rattle.xmi_profile.proofs.SeenLaws.{kept}
+use Rattle.mof_metamodel.proofs.Facts.{or_false}
+use Rattle.std.proofs.lemmas.Option.{none-some}
 
 -- ---- joined
 
@@ -34,16 +36,9 @@ or_assoc : (x y z : Bool) → ((x || y) || z) ≡ (x || (y || z))
 or_assoc true y z = refl
 or_assoc false y z = refl
 
-or_false : (x : Bool) → (x || false) ≡ x
-or_false true = refl
-or_false false = refl
-
 pub attr-append : (xs ys : Saids) → has_attr (xs ++ ys) ≡ (has_attr xs || has_attr ys)
 attr-append [] ys = refl
 attr-append (x ∷ xs) ys = ap (λ b. is_attr x || b) (attr-append xs ys) ∙ sym (or_assoc (is_attr x) (has_attr xs) (has_attr ys))
-
-none_is_no_some : {X : Type 0} (x : X) → None ≡ Some x → ⊥
-none_is_no_some x e = cc
 
 -- ---- attributes of one object
 
@@ -425,7 +420,7 @@ module _ (o p : ℕ) where
 
   pub added_at : (meta : MetaDesc) (c object j : ℕ) (ids : List (List ℕ)) (id : List ℕ) → slice_get ids j ≡ Some id → o ≡ object + j
       → said_at o p (added_entries meta c object ids) ≡ said_at o p (name_entries meta o id (props_of meta c))
-  added_at meta c object j [] id e f = absurd (none_is_no_some id e)
+  added_at meta c object j [] id e f = absurd (none-some id e)
   added_at meta c object zero (i ∷ ids) id e f =
       let same : object ≡ o = omega (arith, f) in
       let own : i ≡ id = ap (λ (x : Option (List ℕ)). unwrap_or x i) e in

@@ -3,7 +3,7 @@ use Rattle.std.proofs.Common.{◌≡◌, ℕ, suc, Bool, true, false, List, [], 
 use Rattle.std.specs.Prelude.{◌==◌, ◌||◌, ◌&&◌, not, All, if◌then◌else◌}
 use Rattle.std.specs.List.{list_all}
 use Rattle.std.specs.Str.{all_scalars}
-use Rattle.std.proofs.lemmas.Bool.{true≢false}
+use Rattle.std.proofs.lemmas.Bool.{true≢false, and_from}
 use Rattle.std.proofs.lemmas.List.Folds.{list_all-append}
 use Rattle.std.proofs.lemmas.List.Elements.{All-nil, All-cons, All-append}
 use Rattle.mof_metamodel.specs.declared.desc.MetaDesc.{MetaDesc}
@@ -14,33 +14,23 @@ use Rattle.xmi_profile.specs.declared.fault.Externs.{Externs}
 use Rattle.xmi_profile.specs.Attributes.{Attrs}
 use Rattle.xmi_profile.specs.Elements.{Item, Role, role_of_root, role_in, number_in, number_behind, inner_place, behind_place, items_in, items}
 use Rattle.xmi_profile.specs.Source.{text_in}
+use Rattle.mof_metamodel.proofs.Facts.{first_true, second_true}
 
 abbrev pub Stored : List ℕ → Type 0
 Stored text = is_storable_text text ≡ true
 
-both : (a b : Bool) → a ≡ true → b ≡ true → (a && b) ≡ true
-both a b h i = ap (λ (x : Bool). x && b) h ∙ i
-
-left : (a b : Bool) → (a && b) ≡ true → a ≡ true
-left true b h = refl
-left false b h = absurd (true≢false (sym h))
-
-right : (a b : Bool) → (a && b) ≡ true → b ≡ true
-right true b h = h
-right false b h = absurd (true≢false (sym h))
-
 stored_cons : (c : ℕ) (cs : List ℕ) → is_storable_character c ≡ true → Stored cs → Stored (c ∷ cs)
-stored_cons c cs h i = both (is_storable_character c) (is_storable_text cs) h i
+stored_cons c cs h i = and_from (is_storable_character c) (is_storable_text cs) h i
 
 stored_append : (xs ys : List ℕ) → Stored xs → Stored ys → Stored (xs ++ ys)
-stored_append xs ys h i = list_all-append is_storable_character xs ys ∙ both (is_storable_text xs) (is_storable_text ys) h i
+stored_append xs ys h i = list_all-append is_storable_character xs ys ∙ and_from (is_storable_text xs) (is_storable_text ys) h i
 
 -- ---- characters
 
 stored_ends : (returned : Bool) (cs : List ℕ) → Stored cs → Stored (line_ends returned cs)
 stored_ends returned [] h = refl
 stored_ends returned (c ∷ cs) h =
-    by (c == 13) ((c == 10) && returned) (left (is_storable_character c) (is_storable_text cs) h) (λ b. stored_ends b cs (right (is_storable_character c) (is_storable_text cs) h))
+    by (c == 13) ((c == 10) && returned) (first_true (is_storable_character c) (is_storable_text cs) h) (λ b. stored_ends b cs (second_true (is_storable_character c) (is_storable_text cs) h))
   where
     by : (a b : Bool) → is_storable_character c ≡ true → ((r : Bool) → Stored (line_ends r cs))
         → Stored (if a then 10 ∷ line_ends true cs else if b then line_ends false cs else c ∷ line_ends false cs)
@@ -58,18 +48,18 @@ stored_spaced c h = by ((c == 10) || (c == 9))
 stored_spaces : (cs : List ℕ) → Stored cs → Stored (map spaced cs)
 stored_spaces [] h = refl
 stored_spaces (c ∷ cs) h =
-    stored_cons (spaced c) (map spaced cs) (stored_spaced c (left (is_storable_character c) (is_storable_text cs) h)) (stored_spaces cs (right (is_storable_character c) (is_storable_text cs) h))
+    stored_cons (spaced c) (map spaced cs) (stored_spaced c (first_true (is_storable_character c) (is_storable_text cs) h)) (stored_spaces cs (second_true (is_storable_character c) (is_storable_text cs) h))
 
 -- characters that are more than storable
 stored_where : (p : ℕ → Bool) → ((c : ℕ) → p c ≡ true → is_storable_character c ≡ true) → (cs : List ℕ) → list_all p cs ≡ true → Stored cs
 stored_where p f [] h = refl
-stored_where p f (c ∷ cs) h = stored_cons c cs (f c (left (p c) (list_all p cs) h)) (stored_where p f cs (right (p c) (list_all p cs) h))
+stored_where p f (c ∷ cs) h = stored_cons c cs (f c (first_true (p c) (list_all p cs) h)) (stored_where p f cs (second_true (p c) (list_all p cs) h))
 
 stored_number : (is_one : ℕ → Bool) (digits : List ℕ) (c : ℕ) → is_number is_one digits c ≡ true → is_storable_character c ≡ true
 stored_number is_one digits c h =
-    right (all_scalars (c ∷ [])) (is_storable_character c)
-    (right (list_all is_one digits) (all_scalars (c ∷ []) && is_storable_character c)
-    (right (not (length digits == 0)) (list_all is_one digits && (all_scalars (c ∷ []) && is_storable_character c)) h))
+    second_true (all_scalars (c ∷ [])) (is_storable_character c)
+    (second_true (list_all is_one digits) (all_scalars (c ∷ []) && is_storable_character c)
+    (second_true (not (length digits == 0)) (list_all is_one digits && (all_scalars (c ∷ []) && is_storable_character c)) h))
 
 stored_referred : (r : Reference) → is_reference r ≡ true → is_storable_character (referred r) ≡ true
 stored_referred Amp h = refl
@@ -84,14 +74,14 @@ stored_part : (quote : ℕ) (part : ValuePart) → is_part quote part ≡ true �
 stored_part quote (Literal text) h =
     stored_spaces (line_ends false text)
     (stored_ends false text
-    (stored_where (is_value_character quote) (λ c k. left (is_storable_character c) (not (c == 60) && (not (c == 38) && not (c == quote))) k) text h))
+    (stored_where (is_value_character quote) (λ c k. first_true (is_storable_character c) (not (c == 60) && (not (c == 38) && not (c == quote))) k) text h))
 stored_part quote (Named reference) h = stored_cons (referred reference) [] (stored_referred reference h) refl
 
 stored_value : (quote : ℕ) (parts : List ValuePart) → list_all (is_part quote) parts ≡ true → Stored (value_of parts)
 stored_value quote [] h = refl
 stored_value quote (part ∷ parts) h =
-    stored_append (part_value part) (value_of parts) (stored_part quote part (left (is_part quote part) (list_all (is_part quote) parts) h))
-    (stored_value quote parts (right (is_part quote part) (list_all (is_part quote) parts) h))
+    stored_append (part_value part) (value_of parts) (stored_part quote part (first_true (is_part quote part) (list_all (is_part quote) parts) h))
+    (stored_value quote parts (second_true (is_part quote part) (list_all (is_part quote) parts) h))
 
 -- ---- events
 
@@ -117,7 +107,7 @@ stored_attrs names [] h = tt
 stored_attrs names (a ∷ attributes) h = (stored_value a.quote a.value h.0.value, stored_attrs (names ++ a.name ∷ []) attributes h.2)
 
 content_stored : (text : List ℕ) → list_all is_content_character text ≡ true → Stored text
-content_stored text h = stored_where is_content_character (λ c k. left (is_storable_character c) (not (c == 60) && not (c == 38)) k) text h
+content_stored text h = stored_where is_content_character (λ c k. first_true (is_storable_character c) (not (c == 60) && not (c == 38)) k) text h
 
 stored_piece : (piece : Piece) → IsPiece piece → StoredEvents (said piece)
 stored_piece (Characters text) h = (stored_ends false text (content_stored text h), tt)

@@ -27,9 +27,7 @@ use Rattle.xmi_profile.proofs.filed_laws.EntryLaws.{Said, OfAttr, OfInner, OfTar
 use Rattle.xmi_profile.proofs.filed_laws.FiledLaws.{added_by, all_entries}
 use Rattle.xmi_profile.proofs.SeenLaws.{kept}
 use Rattle.xmi_profile.proofs.filed_laws.StorableLaws.{Stored, StoredAttrs, StoredItem}
-
-none_is_no_some : {X : Type 0} (x : X) → None ≡ Some x → ⊥
-none_is_no_some x e = cc
+use Rattle.std.proofs.lemmas.Option.{none-some}
 
 -- ---- one value
 
@@ -38,16 +36,16 @@ module _ (meta : MetaDesc) where
   some_value t u v e h = ap (λ (x : Option Value). is_value_of meta t (unwrap_or x u)) (sym e) ∙ h
 
   integer_typed : (i : Option ℤ) (v : Value) → option_map (λ j. values.Int j) i ≡ Some v → is_value_of meta (Some types.Int) v ≡ true
-  integer_typed None v e = absurd (none_is_no_some v e)
+  integer_typed None v e = absurd (none-some v e)
   integer_typed (Some i) v e = some_value (Some types.Int) (values.Int i) v e refl
 
   boolean_typed : (b : Option Bool) (v : Value) → option_map (λ c. values.Bool c) b ≡ Some v → is_value_of meta (Some types.Bool) v ≡ true
-  boolean_typed None v e = absurd (none_is_no_some v e)
+  boolean_typed None v e = absurd (none-some v e)
   boolean_typed (Some b) v e = some_value (Some types.Bool) (values.Bool b) v e refl
 
   literal_typed : (enum : EnumId) (text : List ℕ) (n : Option ℕ) (v : Value) → n ≡ literal_number meta enum.0 text → option_map (λ k. values.Lit enum k) n ≡ Some v
       → is_value_of meta (Some (types.Enum enum)) v ≡ true
-  literal_typed enum text None v h e = absurd (none_is_no_some v e)
+  literal_typed enum text None v h e = absurd (none-some v e)
   literal_typed enum text (Some n) v h e =
       some_value (Some (types.Enum enum)) (values.Lit enum n) v e
       (ap (λ (b : Bool). b && nat_lt n (length (enum_at meta enum.0).literals)) (eq-eqb enum.0 enum.0 refl)
@@ -58,8 +56,8 @@ module _ (meta : MetaDesc) where
   value_typed (Some types.Int) text v h e = integer_typed (integer_of (trimmed text)) v e
   value_typed (Some types.Bool) text v h e = boolean_typed (boolean_of (trimmed text)) v e
   value_typed (Some (types.Enum enum)) text v h e = literal_typed enum text (literal_number meta enum.0 text) v refl e
-  value_typed (Some (types.Class c)) text v h e = absurd (none_is_no_some v e)
-  value_typed None text v h e = absurd (none_is_no_some v e)
+  value_typed (Some (types.Class c)) text v h e = absurd (none-some v e)
+  value_typed None text v h e = absurd (none-some v e)
 
   -- ---- all values of entries
 

@@ -25,7 +25,8 @@ use Rattle.xmi_profile.specs.Held.{IsHeldText, IsHeld, IsHeldModel}
 use Rattle.xmi_profile.specs.Profile.{prop_name, id_or_none, id_text, name_or_none, class_text, object_props}
 use Rattle.xmi_profile.specs.Writable.{CanWrite}
 use Rattle.xmi_profile.specs.WrittenTree.{written_tree}
-use Rattle.xmi_profile.proofs.WritingCalls.{can_both, contains_head, contains_tail}
+use Rattle.xmi_profile.proofs.WritingCalls.{can_both, contains_tail}
+use Rattle.mof_metamodel.proofs.Facts.{contains_first}
 use Rattle.xmi_profile.proofs.WritingModels.{AreCanonSteps, canon_steps}
 use Rattle.xmi_profile.proofs.written.Meaning.{tree_meant}
 
@@ -49,7 +50,7 @@ texts_both (c ∷ a) b x y = (x.0, texts_both a b x.1 y)
 
 texts_each : {X : Type 0} (f : X → List Call) (xs : List X) → ((x : X) → Contains xs x → HaveTexts (f x)) → HaveTexts (flat_map f xs)
 texts_each f [] h = tt
-texts_each f (x ∷ xs) h = texts_both (f x) (flat_map f xs) (h x (contains_head x xs)) (texts_each f xs (λ y c. h y (contains_tail x y xs c)))
+texts_each f (x ∷ xs) h = texts_both (f x) (flat_map f xs) (h x (contains_first x xs)) (texts_each f xs (λ y c. h y (contains_tail x y xs c)))
 
 all_may : (w : Written) (calls : List Call) → CanWrite w calls → HaveTexts calls → AllMay w calls
 all_may w [] k h = tt
@@ -104,7 +105,7 @@ module _ (m : ModelData) (held : IsHeldModel m) where
 
   value_attr_held : (p : ℕ) (vs : List Value) → ((v : Value) → Contains vs v → IsHeld v) → HaveTexts (value_attr m.meta p vs)
   value_attr_held p [] h = tt
-  value_attr_held p (v ∷ vs) h = ((held.names.props p, value_held v (h v (contains_head v vs))), tt)
+  value_attr_held p (v ∷ vs) h = ((held.names.props p, value_held v (h v (contains_first v vs))), tt)
 
   partners_attr_held : (p : ℕ) (bs : List ℕ) → HaveTexts (partners_attr m p bs)
   partners_attr_held p [] = tt

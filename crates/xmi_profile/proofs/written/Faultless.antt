@@ -38,8 +38,10 @@ use Rattle.xmi_profile.specs.Source.{Source, all_items, file_ids, class_of, targ
 use Rattle.xmi_profile.specs.Values.{is_all_blank, value_of}
 use Rattle.xmi_profile.specs.WrittenOrder.{written_order}
 use Rattle.xmi_profile.specs.WrittenTree.{value_pair, partners_pair, pair_by, pair_at, object_attrs, each_before, value_nodes, nodes_by, child_nodes, unless_none, lined, object_nodes, top_nodes, written_tree}
-use Rattle.xmi_profile.proofs.SeenLaws.{in_cons, in_none}
-use Rattle.xmi_profile.proofs.WritingCalls.{contains_head, contains_tail}
+use Rattle.xmi_profile.proofs.SeenLaws.{in_cons}
+use Rattle.mof_metamodel.proofs.Facts.{nothing_in}
+use Rattle.xmi_profile.proofs.WritingCalls.{contains_tail}
+use Rattle.mof_metamodel.proofs.Facts.{contains_first}
 use Rattle.xmi_profile.proofs.WritingForms.{class_typed}
 use Rattle.xmi_profile.proofs.WritingModels.{property_of}
 use Rattle.xmi_profile.proofs.written.Items.{bare, good_name, known_class, inner_nodes, value_row, object_row, root_row}
@@ -47,7 +49,8 @@ use Rattle.xmi_profile.proofs.written.Known.{IsRow, Root, ValueRow, ObjectRow, I
 use Rattle.xmi_profile.proofs.written.Linking.{id_proper, same_id, number_found, attribute_names, written_targets, targets_are, no_reference, reference_of, links_are}
 use Rattle.xmi_profile.proofs.written.Renumbering.{image, origin, renumbered, there, origin_live, class_there, image_origin, reference_back, linked_there, kept_there}
 use Rattle.xmi_profile.proofs.written.Reordered.{moved}
-use Rattle.xmi_profile.proofs.written.Spotless.{IsTold, WritesLinks, get_contained, none_by}
+use Rattle.xmi_profile.proofs.written.Spotless.{IsTold, WritesLinks, none_by}
+use Rattle.mof_metamodel.proofs.Facts.{contains_at}
 use Rattle.xmi_profile.proofs.written.Naming.{prop_read, prop_not_id, prop_not_type, prop_not_idref, prop_not_nil}
 use Rattle.xmi_profile.proofs.written.Sources.{source, first_text, item_known, file_ids_are, class_of_is, class_of_past, no_property, slice_get-map}
 use Rattle.xmi_profile.proofs.written.Texts.{text_in_nodes, told_value}
@@ -64,7 +67,7 @@ attrs_both P (x ∷ a) b h k = (h.0, attrs_both P a b h.1 k)
 
 attrs_each : {X : Type 0} (P : List ℕ × List ℕ → Type 0) (f : X → Attrs) (xs : List X) → ((x : X) → Contains xs x → AllAttrs P (f x)) → AllAttrs P (flat_map f xs)
 attrs_each P f [] h = tt
-attrs_each P f (x ∷ xs) h = attrs_both P (f x) (flat_map f xs) (h x (contains_head x xs)) (attrs_each P f xs (λ y c. h y (contains_tail x y xs c)))
+attrs_each P f (x ∷ xs) h = attrs_both P (f x) (flat_map f xs) (h x (contains_first x xs)) (attrs_each P f xs (λ y c. h y (contains_tail x y xs c)))
 
 attr_at : (P : List ℕ × List ℕ → Type 0) (attrs : Attrs) (n : ℕ) (a : List ℕ × List ℕ) → AllAttrs P attrs → slice_get attrs n ≡ Some a → P a
 attr_at P [] n a h e = absurd cc
@@ -120,7 +123,7 @@ blank_root : (m : ModelData) → BlankRuns (written_tree m).inner
 blank_root m = blank_each (top_nodes m) (top_numbers m) (Run (line_end 0) Ends) (λ o rest h. blank_object m MAX_DEPTH (typed_name m o) o rest h) (line_blank 0, tt)
 
 no_text : (nodes : Nodes) (place : ℕ) (run : ℕ × List ℕ) → BlankRuns nodes → Contains (runs_in nodes place) run → is_all_blank run.1 ≡ true
-no_text Ends place run b c = absurd (in_none run c)
+no_text Ends place run b c = absurd (nothing_in run c)
 no_text (Run characters more) place run b c = elim (in_cons (place, characters) (runs_in more (suc place)) run c) [
   | inl same ↦ ap (λ r. is_all_blank r.1) (sym same) ∙ b.0
   | inr there ↦ no_text more (suc place) run b.1 there
@@ -250,7 +253,7 @@ module _ (m : ModelData) (v : Valid m) (shallow : (o d : ℕ) → IsLive m o →
   told a p target t forms.Parts e c =
       let (b, cb, eb) = Contains-from_map (λ b. Contained (number b)) (partners_at m a p) target c in
       record { object = b; partner = cb; number_is = ap (target_number s) (sym eb) }
-  told a p target t forms.Nesting e c = absurd (in_none target c)
+  told a p target t forms.Nesting e c = absurd (nothing_in target c)
   told a p target t forms.Attribute e c = absurd (no_reference m v shallow p forms.Attribute e t refl)
   told a p target t forms.Elements e c = absurd (no_reference m v shallow p forms.Elements e t refl)
 
@@ -312,7 +315,7 @@ module _ (m : ModelData) (v : Valid m) (shallow : (o d : ℕ) → IsLive m o →
               let same : q ≡ p = property q p has h in
               let r : IsPropertyOf m o q = property_of m v.kept o q has in
               let a : IsAttributeOf m o q = record { class = r.class; class_is = r.class_is; has = r.has; attribute = class_typed m.meta q forms.Attribute f } in
-              let told : value_of m.meta (type_of m.meta q) (value_text m.meta w) ≡ Some w = told_value m v shallow held o q a w (subst (λ (ws : List Value). Contains ws w) (sym g) (contains_head w vs)) in
+              let told : value_of m.meta (type_of m.meta q) (value_text m.meta w) ≡ Some w = told_value m v shallow held o q a w (subst (λ (ws : List Value). Contains ws w) (sym g) (contains_first w vs)) in
               no_value w (sym x ∙ ap (λ y. value_of m.meta (type_of m.meta y) (value_text m.meta w)) (sym same) ∙ told)),
           tt,
         )

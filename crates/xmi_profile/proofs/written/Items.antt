@@ -32,7 +32,8 @@ use Rattle.xmi_profile.specs.Profile.{prop_name, class_text, name_or_none, objec
 use Rattle.xmi_profile.specs.References.{element_target, or_by_href}
 use Rattle.xmi_profile.specs.WrittenOrder.{parts_by, parts_at, parts_of, order_of, written_order}
 use Rattle.xmi_profile.specs.WrittenTree.{value_pair, partners_pair, pair_by, pair_at, object_attrs, each_before, text_nodes, value_nodes, nodes_by, child_nodes, unless_none, lined, object_nodes, top_nodes, written_tree}
-use Rattle.xmi_profile.proofs.WritingCalls.{contains_head, contains_tail}
+use Rattle.xmi_profile.proofs.WritingCalls.{contains_tail}
+use Rattle.mof_metamodel.proofs.Facts.{contains_first}
 use Rattle.xmi_profile.proofs.WritingModels.{property_of}
 use Rattle.xmi_profile.proofs.WritingForms.{class_typed}
 use Rattle.xmi_profile.proofs.written.Naming.{class_read, prop_read, prop_not_skipped, prop_not_alien, prop_not_idref}
@@ -178,7 +179,7 @@ module _ (meta : MetaDesc) where
     lists_each parent f os rows [] n h num = lists_none parent n
     lists_each parent f os rows (x ∷ xs) n h num =
         lists_both parent (f x) (each_before f xs) n (os x) (flat_map os xs) (rows x) (flat_map rows xs)
-        (h x n (contains_head x xs) (numbered_first n (os x) (flat_map os xs) num))
+        (h x n (contains_first x xs) (numbered_first n (os x) (flat_map os xs) num))
         (lists_each parent f os rows xs (n + length (os x)) (λ y k c. h y k (contains_tail x y xs c)) (numbered_rest n (os x) (flat_map os xs) num))
 
 -- ---- attributes
@@ -194,7 +195,7 @@ none_pass_both passes (x ∷ a) b h k = (h.0, none_pass_both passes a b h.1 k)
 none_pass_each : {X : Type 0} (passes : List ℕ → Bool) (f : X → Attrs) (xs : List X) → ((x : X) → Contains xs x → NonePass passes (f x)) → NonePass passes (flat_map f xs)
 none_pass_each passes f [] h = tt
 none_pass_each passes f (x ∷ xs) h =
-    none_pass_both passes (f x) (flat_map f xs) (h x (contains_head x xs)) (none_pass_each passes f xs (λ y c. h y (contains_tail x y xs c)))
+    none_pass_both passes (f x) (flat_map f xs) (h x (contains_first x xs)) (none_pass_each passes f xs (λ y c. h y (contains_tail x y xs c)))
 
 pub none_first : (passes : List ℕ → Bool) (attrs : Attrs) → NonePass passes attrs → first_attr passes attrs ≡ None
 none_first passes [] h = refl

@@ -18,7 +18,7 @@ use Rattle.object_tables.specs.Models.{ModelData, object_at, id_at, partners_at,
 use Rattle.object_tables.specs.Objects.{Object}
 use Rattle.object_tables.specs.Validity.{Valid, IsPropertyOf, count_at}
 use Rattle.object_tables.proofs.KeptLemmas.{sound_of, linked_reference}
-use Rattle.object_tables.proofs.ListLemmas.{Contains-map}
+use Rattle.mof_metamodel.proofs.Facts.{contains_map}
 use Rattle.object_tables.proofs.ModelLemmas.{live_from_class}
 use Rattle.xmi_profile.specs.declared.form.Form.{Form}
 use Rattle.xmi_profile.specs.declared.form.Form.TheVariants as forms
@@ -29,7 +29,8 @@ use Rattle.xmi_profile.specs.References.{Target, Named, Contained}
 use Rattle.xmi_profile.specs.Source.{Source, attr_text, targets_of, element_targets, targets_at, number_of, target_number, named_at}
 use Rattle.xmi_profile.specs.WrittenOrder.{written_order}
 use Rattle.xmi_profile.specs.WrittenTree.{partners_pair, pair_by}
-use Rattle.xmi_profile.proofs.WritingCalls.{contains_head, contains_tail}
+use Rattle.xmi_profile.proofs.WritingCalls.{contains_tail}
+use Rattle.mof_metamodel.proofs.Facts.{contains_first}
 use Rattle.xmi_profile.proofs.WritingForms.{class_typed, is_reference}
 use Rattle.xmi_profile.proofs.WritingModels.{property_of}
 use Rattle.xmi_profile.proofs.WritingParts.{any_of, one_of}
@@ -53,7 +54,7 @@ apart_from [] y ys once (i, l, e) = omega (arith, l)
 apart_from (x ∷ xs) y ys once (zero, l, e) = once_first x y (xs ++ y ∷ ys) once (there_in xs y ys) e
   where
     there_in : (zs : List ℕ) (y : ℕ) (ys : List ℕ) → Contains (zs ++ y ∷ ys) y
-    there_in [] y ys = contains_head y ys
+    there_in [] y ys = contains_first y ys
     there_in (z ∷ zs) y ys = contains_tail z y (zs ++ y ∷ ys) (there_in zs y ys)
 apart_from (x ∷ xs) y ys once (suc i, l, e) = apart_from xs y ys (once_behind x (xs ++ y ∷ ys) once) (i, omega (arith, l), e)
 
@@ -118,7 +119,7 @@ module _ (m : ModelData) (v : Valid m) (shallow : (o d : ℕ) → IsLive m o →
 
   read_names : (bs : List ℕ) → ((b : ℕ) → Contains bs b → IsLive m b) → filter_map (target_number s) (map Named (map (id_text m) bs)) ≡ map number bs
   read_names [] h = refl
-  read_names (b ∷ bs) h = ap₂ (λ x ys. cons_option x ys) (number_found b (h b (contains_head b bs))) (read_names bs (λ c k. h c (contains_tail b c bs k)))
+  read_names (b ∷ bs) h = ap₂ (λ x ys. cons_option x ys) (number_found b (h b (contains_first b bs))) (read_names bs (λ c k. h c (contains_tail b c bs k)))
 
   pub read_parts : (bs : List ℕ) → filter_map (target_number s) (map (λ b. Contained (number b)) bs) ≡ map number bs
   read_parts [] = refl
@@ -126,7 +127,7 @@ module _ (m : ModelData) (v : Valid m) (shallow : (o d : ℕ) → IsLive m o →
 
   proper_ids : (bs : List ℕ) → ((b : ℕ) → Contains bs b → IsLive m b) → All (λ (id : List ℕ). IsTrue (is_identifier_text id)) (map (id_text m) bs)
   proper_ids [] h k d l = absurd (omega (arith, l))
-  proper_ids (b ∷ bs) h zero d l = id_proper b (h b (contains_head b bs))
+  proper_ids (b ∷ bs) h zero d l = id_proper b (h b (contains_first b bs))
   proper_ids (b ∷ bs) h (suc k) d l = proper_ids bs (λ c g. h c (contains_tail b c bs g)) k d (omega (arith, l))
 
   -- the targets of an attribute of identifiers
@@ -224,7 +225,7 @@ module _ (m : ModelData) (v : Valid m) (shallow : (o d : ℕ) → IsLive m o →
   -- where links are written, what is linked is named
   linked_named : (q b c : ℕ) → IsReferenceOf m b q → named_by b q (form_of m.meta q) ≡ map number (partners_at m b q) → IsLinked m q b c → Names s q (number b) (number c)
   linked_named q b c r e h =
-      ap (list_any (nat_eq (number c))) (named_is b q r ∙ e) ∙ to_any (number c) (map number (partners_at m b q)) (Contains-map number (partners_at m b q) c h)
+      ap (list_any (nat_eq (number c))) (named_is b q r ∙ e) ∙ to_any (number c) (map number (partners_at m b q)) (contains_map number (partners_at m b q) c h)
 
   -- ---- opposites
 

@@ -16,7 +16,7 @@ use Rattle.xmi_profile.specs.Forms.{is_one, is_composite, form_of}
 use Rattle.xmi_profile.specs.Links.{speaks, Names, IsPair, HasLinks}
 use Rattle.xmi_profile.specs.Profile.{object_props}
 use Rattle.xmi_profile.specs.Source.{Source, named_at}
-use Rattle.xmi_profile.proofs.SeenLaws.{in_none}
+use Rattle.mof_metamodel.proofs.Facts.{nothing_in}
 use Rattle.xmi_profile.proofs.WritingForms.{class_typed, is_reference}
 use Rattle.xmi_profile.proofs.WritingModels.{property_of}
 use Rattle.xmi_profile.proofs.written.Linking.{from_any, to_any, few_rise}
@@ -50,9 +50,9 @@ module _ (s : Source) (objects : List (Option Object)) where
     from_partners : (a p b : ℕ) (f : Form) → Contains (partners_by model a p f) b → IsLinked model p a b
     from_partners a p b forms.Identifiers c = c
     from_partners a p b forms.Parts c = c
-    from_partners a p b forms.Nesting c = absurd (in_none b c)
-    from_partners a p b forms.Attribute c = absurd (in_none b c)
-    from_partners a p b forms.Elements c = absurd (in_none b c)
+    from_partners a p b forms.Nesting c = absurd (nothing_in b c)
+    from_partners a p b forms.Attribute c = absurd (nothing_in b c)
+    from_partners a p b forms.Elements c = absurd (nothing_in b c)
 
     reference_at : (a p : ℕ) → Contains (object_props model a) p → is_class_type (type_of s.meta p) ≡ true → IsReferenceOf model a p
     reference_at a p has t = let r : IsPropertyOf model a p = property_of model v.kept a p has in record { class = r.class; class_is = r.class_is; has = r.has; reference = t }

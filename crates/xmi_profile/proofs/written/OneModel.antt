@@ -20,8 +20,10 @@ use Rattle.xmi_profile.specs.Content.{Content}
 use Rattle.xmi_profile.specs.Links.{speaks, HasLinks}
 use Rattle.xmi_profile.specs.Reads.{Spells, source_of}
 use Rattle.xmi_profile.specs.Source.{Source, object_count}
-use Rattle.xmi_profile.proofs.SeenLaws.{in_cons, in_none}
-use Rattle.xmi_profile.proofs.WritingCalls.{contains_head, contains_tail}
+use Rattle.xmi_profile.proofs.SeenLaws.{in_cons}
+use Rattle.mof_metamodel.proofs.Facts.{nothing_in}
+use Rattle.xmi_profile.proofs.WritingCalls.{contains_tail}
+use Rattle.mof_metamodel.proofs.Facts.{contains_first}
 use Rattle.xmi_profile.proofs.written.Reordered.{Rising, rising_all}
 
 -- ---- lists that rise
@@ -44,10 +46,10 @@ tail_in x xs y ys rx e h b c = elim (in_cons y ys b (h b (contains_tail x b xs c
 
 rising_same : (xs ys : List ℕ) → Rising xs → Rising ys → ((b : ℕ) → Contains xs b → Contains ys b) → ((b : ℕ) → Contains ys b → Contains xs b) → xs ≡ ys
 rising_same [] [] rx ry h g = refl
-rising_same [] (y ∷ ys) rx ry h g = absurd (in_none y (g y (contains_head y ys)))
-rising_same (x ∷ xs) [] rx ry h g = absurd (in_none x (h x (contains_head x xs)))
+rising_same [] (y ∷ ys) rx ry h g = absurd (nothing_in y (g y (contains_first y ys)))
+rising_same (x ∷ xs) [] rx ry h g = absurd (nothing_in x (h x (contains_first x xs)))
 rising_same (x ∷ xs) (y ∷ ys) rx ry h g =
-    let same : x ≡ y = first_same x xs y ys rx ry (h x (contains_head x xs)) (g y (contains_head y ys)) in
+    let same : x ≡ y = first_same x xs y ys rx ry (h x (contains_first x xs)) (g y (contains_first y ys)) in
     ap (λ z. z ∷ xs) same ∙ ap (λ zs. y ∷ zs) (rising_same xs ys rx.1 ry.1 (tail_in x xs y ys rx same h) (tail_in y ys x xs ry (sym same) g))
 
 map_same : (xs : List ℕ) → xs ≡ map (λ x. x) xs

@@ -23,7 +23,8 @@ use Rattle.xmi_profile.specs.Canon.{top_numbers}
 use Rattle.xmi_profile.specs.Forms.{is_one, is_composite, form_of}
 use Rattle.xmi_profile.specs.Profile.{props_or_none, object_props, live_numbers, contains_by, is_part}
 use Rattle.xmi_profile.specs.WrittenOrder.{parts_by, parts_at, parts_of, order_of, written_order}
-use Rattle.xmi_profile.proofs.WritingCalls.{contains_head, contains_tail}
+use Rattle.xmi_profile.proofs.WritingCalls.{contains_tail}
+use Rattle.mof_metamodel.proofs.Facts.{contains_first}
 use Rattle.xmi_profile.proofs.WritingModels.{filtered, property_of}
 use Rattle.xmi_profile.proofs.WritingParts.{part_where_contained, no_part_at_top, one_of, kept_in, numbered, known}
 
@@ -51,11 +52,11 @@ pub once_each : (f : ℕ → List ℕ) (xs : List ℕ) → IsOnce xs → ((x : �
     → ((x y z : ℕ) → Contains xs x → Contains xs y → x ≢ y → Contains (f x) z → Contains (f y) z → ⊥) → IsOnce (flat_map f xs)
 once_each f [] o h apart = once_nil
 once_each f (x ∷ xs) o h apart =
-    once_append (f x) (flat_map f xs) (h x (contains_head x xs))
+    once_append (f x) (flat_map f xs) (h x (contains_first x xs))
     (once_each f xs (once_behind x xs o) (λ y c. h y (contains_tail x y xs c)) (λ y z w cy cz. apart y z w (contains_tail x y xs cy) (contains_tail x z xs cz)))
     (λ z here there.
     let (y, cy, hz) = from_flat_map f xs z there in
-    apart x y z (contains_head x xs) (contains_tail x y xs cy) (once_first x y xs o cy) here hz)
+    apart x y z (contains_first x xs) (contains_tail x y xs cy) (once_first x y xs o cy) here hz)
 
 module _ (m : ModelData) (k : Kept m) where
   -- ---- parts
@@ -223,7 +224,7 @@ module _ (m : ModelData) (k : Kept m) where
   deeper zero o b x (i, l, e) c = absurd (omega (arith, l))
   deeper (suc levels) o b x (zero, l, e) c =
       contains_tail o x (flat_map (order_of m (suc levels)) (parts_of m o))
-      (to_flat_map (order_of m (suc levels)) (parts_of m o) x x (contained_part x o (subst (IsContainer m x) (sym e) c)) (contains_head x (flat_map (order_of m levels) (parts_of m x))))
+      (to_flat_map (order_of m (suc levels)) (parts_of m o) x x (contained_part x o (subst (IsContainer m x) (sym e) c)) (contains_first x (flat_map (order_of m levels) (parts_of m x))))
   deeper (suc levels) o b x (suc i, l, e) c =
       let (a, ca, ha) = from_flat_map (order_of m levels) (parts_of m o) b (i, omega (arith, l), e) in
       contains_tail o x (flat_map (order_of m (suc levels)) (parts_of m o))

@@ -26,7 +26,8 @@ use Rattle.xmi_profile.specs.WrittenOrder.{written_order}
 use Rattle.xmi_profile.specs.WrittenTree.{written_tree}
 use Rattle.xmi_profile.proofs.written.OneModel.{one_spelled_model}
 use Rattle.xmi_profile.proofs.SeenLaws.{in_cons}
-use Rattle.xmi_profile.proofs.WritingCalls.{contains_head, contains_tail}
+use Rattle.xmi_profile.proofs.WritingCalls.{contains_tail}
+use Rattle.mof_metamodel.proofs.Facts.{contains_first}
 use Rattle.xmi_profile.proofs.WritingParts.{kept_in, numbered, known}
 use Rattle.xmi_profile.proofs.written.Faultless.{faultless}
 use Rattle.xmi_profile.proofs.written.Linking.{id_known, links_are}
@@ -57,7 +58,7 @@ without x (y ∷ ys) (suc i, l, e) =
       rest = y ∷ w.rest;
       count = ap suc w.count;
       others = λ z c differs. elim (in_cons y ys z c) [
-        | inl same ↦ subst (Contains (y ∷ w.rest)) same (contains_head y w.rest)
+        | inl same ↦ subst (Contains (y ∷ w.rest)) same (contains_first y w.rest)
         | inr later ↦ contains_tail y z w.rest (w.others z later differs)
       ];
     }
@@ -65,7 +66,7 @@ without x (y ∷ ys) (suc i, l, e) =
 once_within : (xs ys : List ℕ) → IsOnce xs → ((x : ℕ) → Contains xs x → Contains ys x) → length xs ≤ length ys
 once_within [] ys once h = omega arith
 once_within (x ∷ xs) ys once h =
-    let w : IsWithout x ys = without x ys (h x (contains_head x xs)) in
+    let w : IsWithout x ys = without x ys (h x (contains_first x xs)) in
     let less = once_within xs w.rest (once_behind x xs once) (λ y c. w.others y (h y (contains_tail x y xs c)) (λ same. once_first x y xs once c (sym same))) in
     let count = w.count in
     omega (arith, less, count)

@@ -19,9 +19,10 @@ use Rattle.object_tables.specs.Sameness.{IsSame}
 use Rattle.object_tables.specs.Validity.{IsPropertyOf, count_at, KeepsBounds, Valid}
 use Rattle.object_tables.proofs.ContainmentLemmas.{live-below, path-live}
 use Rattle.object_tables.proofs.KeptLemmas.{sound_of, linked_reference, linked_partner}
-use Rattle.object_tables.proofs.ListLemmas.{Contains-map}
+use Rattle.mof_metamodel.proofs.Facts.{contains_map}
 use Rattle.object_tables.proofs.ModelLemmas.{index-within, index-found, live_from_class, live_from_id}
-use Rattle.xmi_profile.proofs.WritingCalls.{contains_head, contains_tail}
+use Rattle.xmi_profile.proofs.WritingCalls.{contains_tail}
+use Rattle.mof_metamodel.proofs.Facts.{contains_first}
 use Rattle.xmi_profile.proofs.WritingModels.{filtered}
 
 -- ---- lists
@@ -33,7 +34,7 @@ get_or_mapped f (x ∷ xs) (suc i) d = get_or_mapped f xs i d
 
 mapped_from : (f : ℕ → ℕ) (xs : List ℕ) (y : ℕ) → Contains (map f xs) y → (x : ℕ) × Contains xs x × (f x ≡ y)
 mapped_from f [] y (i, l, e) = absurd (omega (arith, l))
-mapped_from f (x ∷ xs) y (zero, l, e) = (x, contains_head x xs, e)
+mapped_from f (x ∷ xs) y (zero, l, e) = (x, contains_first x xs, e)
 mapped_from f (x ∷ xs) y (suc i, l, e) =
     let (z, c, h) = mapped_from f xs y (i, omega (arith, l), e) in
     (z, contains_tail x z xs c, h)
@@ -204,7 +205,7 @@ module _ (m : ModelData) (order : List ℕ) where
 
     pub linked_there : (p a b : ℕ) → IsLinked m p a b → IsLinked renumbered p (image a) (image b)
     linked_there p a b h =
-        subst (λ xs. Contains xs (image b)) (sym (partners_there a p (linked_live a p b h))) (Contains-map image (partners_at m a p) b h)
+        subst (λ xs. Contains xs (image b)) (sym (partners_there a p (linked_live a p b h))) (contains_map image (partners_at m a p) b h)
 
     none_past : (a p : ℕ) → length order ≤ a → partners_at renumbered a p ≡ []
     none_past a p l =

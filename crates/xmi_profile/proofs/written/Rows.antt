@@ -23,7 +23,8 @@ use Rattle.xmi_profile.specs.Profile.{prop_name, object_props}
 use Rattle.xmi_profile.specs.Source.{item_class}
 use Rattle.xmi_profile.specs.WrittenOrder.{parts_by, parts_at, parts_of, order_of, written_order}
 use Rattle.xmi_profile.specs.WrittenTree.{object_attrs}
-use Rattle.xmi_profile.proofs.WritingCalls.{contains_head, contains_tail}
+use Rattle.xmi_profile.proofs.WritingCalls.{contains_tail}
+use Rattle.mof_metamodel.proofs.Facts.{contains_first}
 use Rattle.xmi_profile.proofs.written.Items.{flat_map-flat_map, value_row, value_rows, rows_by, prop_rows, object_row, object_rows, root_row}
 use Rattle.xmi_profile.proofs.written.Ordering.{once_behind, once_first, not_inside, part_of, live_part}
 
@@ -31,11 +32,11 @@ use Rattle.xmi_profile.proofs.written.Ordering.{once_behind, once_first, not_ins
 
 pub same_each : {X Y : Type 0} (f g : X → List Y) (xs : List X) → ((x : X) → Contains xs x → f x ≡ g x) → flat_map f xs ≡ flat_map g xs
 same_each f g [] h = refl
-same_each f g (x ∷ xs) h = ap₂ (λ a b. a ++ b) (h x (contains_head x xs)) (same_each f g xs (λ y c. h y (contains_tail x y xs c)))
+same_each f g (x ∷ xs) h = ap₂ (λ a b. a ++ b) (h x (contains_first x xs)) (same_each f g xs (λ y c. h y (contains_tail x y xs c)))
 
 pub none_each : {X Y : Type 0} (f : X → List Y) (xs : List X) → ((x : X) → Contains xs x → f x ≡ []) → flat_map f xs ≡ []
 none_each f [] h = refl
-none_each f (x ∷ xs) h = ap₂ (λ a b. a ++ b) (h x (contains_head x xs)) (none_each f xs (λ y c. h y (contains_tail x y xs c)))
+none_each f (x ∷ xs) h = ap₂ (λ a b. a ++ b) (h x (contains_first x xs)) (none_each f xs (λ y c. h y (contains_tail x y xs c)))
 
 -- where one number alone gives something
 pub one_each : {Y : Type 0} (f : ℕ → List Y) (xs : List ℕ) (a : ℕ) → IsOnce xs → Contains xs a → ((x : ℕ) → Contains xs x → x ≢ a → f x ≡ []) → flat_map f xs ≡ f a
@@ -45,7 +46,7 @@ one_each f (x ∷ xs) a once (zero, l, e) h =
     ∙ append-nil (f x) ∙ ap f e
 one_each f (x ∷ xs) a once (suc i, l, e) h =
     let there : Contains xs a = (i, omega (arith, l), e) in
-    ap₂ (λ s t. s ++ t) (h x (contains_head x xs) (once_first x a xs once there)) (one_each f xs a (once_behind x xs once) there (λ y c. h y (contains_tail x y xs c)))
+    ap₂ (λ s t. s ++ t) (h x (contains_first x xs) (once_first x a xs once there)) (one_each f xs a (once_behind x xs once) there (λ y c. h y (contains_tail x y xs c)))
 
 pub filter_map-flat_map : {X Y Z : Type 0} (h : Y → Option Z) (f : X → List Y) (xs : List X) → filter_map h (flat_map f xs) ≡ flat_map (λ x. filter_map h (f x)) xs
 filter_map-flat_map h f [] = refl
@@ -65,7 +66,7 @@ filter_map_none h (x ∷ xs) e = ap (λ a. cons_option a (filter_map h xs)) (e x
 
 pub filter_map_none_in : {X Z : Type 0} (h : X → Option Z) (xs : List X) → ((x : X) → Contains xs x → h x ≡ None) → filter_map h xs ≡ []
 filter_map_none_in h [] e = refl
-filter_map_none_in h (x ∷ xs) e = ap (λ a. cons_option a (filter_map h xs)) (e x (contains_head x xs)) ∙ filter_map_none_in h xs (λ y c. e y (contains_tail x y xs c))
+filter_map_none_in h (x ∷ xs) e = ap (λ a. cons_option a (filter_map h xs)) (e x (contains_first x xs)) ∙ filter_map_none_in h xs (λ y c. e y (contains_tail x y xs c))
 
 cons_first : {Z : Type 0} (o : Option Z) (zs : List Z) → cons_option o [] ++ zs ≡ cons_option o zs
 cons_first None zs = refl

@@ -18,7 +18,7 @@ use Rattle.object_tables.specs.declared.value.Value.{Value}
 use Rattle.object_tables.specs.Containment.{IsDepth}
 use Rattle.object_tables.specs.Models.{ModelData, class_at, values_at, partners_at, IsLive}
 use Rattle.object_tables.specs.Validity.{Valid, IsPropertyOf}
-use Rattle.object_tables.proofs.ListLemmas.{Contains-map}
+use Rattle.mof_metamodel.proofs.Facts.{contains_map}
 use Rattle.xmi_profile.specs.declared.fault.Externs.TheVariants as externs
 use Rattle.xmi_profile.specs.declared.form.Form.{Form}
 use Rattle.xmi_profile.specs.declared.form.Form.TheVariants as forms
@@ -30,7 +30,8 @@ use Rattle.xmi_profile.specs.Profile.{xmi_id, xmi_type, prop_name, id_text, obje
 use Rattle.xmi_profile.specs.Source.{Source, primitive_class, all_items, item_at, item_class, given_id, ids_from, file_ids, uses, is_added, added_names, all_ids, all_classes, object_count, id_of, class_of, is_number, attr_in, attr_of, attr_text, is_at}
 use Rattle.xmi_profile.specs.WrittenOrder.{written_order}
 use Rattle.xmi_profile.specs.WrittenTree.{value_pair, partners_pair, pair_by, pair_at, object_attrs, written_tree}
-use Rattle.xmi_profile.proofs.WritingCalls.{contains_head, contains_tail}
+use Rattle.xmi_profile.proofs.WritingCalls.{contains_tail}
+use Rattle.mof_metamodel.proofs.Facts.{contains_first}
 use Rattle.xmi_profile.proofs.WritingModels.{property_of}
 use Rattle.xmi_profile.proofs.written.Items.{bare, NonePass, known_class, tree_rows}
 use Rattle.xmi_profile.proofs.written.Known.{IsRow, Root, ValueRow, ObjectRow, tree_known}
@@ -58,7 +59,7 @@ mapped_get f (x ∷ xs) (suc i) = mapped_get f xs i
 
 pub none_any : {X : Type 0} (p : X → Bool) (xs : List X) → ((x : X) → Contains xs x → p x ≡ false) → list_any p xs ≡ false
 none_any p [] h = refl
-none_any p (x ∷ xs) h = ap₂ (λ a b. a || b) (h x (contains_head x xs)) (none_any p xs (λ y c. h y (contains_tail x y xs c)))
+none_any p (x ∷ xs) h = ap₂ (λ a b. a || b) (h x (contains_first x xs)) (none_any p xs (λ y c. h y (contains_tail x y xs c)))
 
 none_kept : {X : Type 0} (p : X → Bool) (xs : List X) → ((x : X) → p x ≡ false) → filter p xs ≡ []
 none_kept p [] h = refl
@@ -119,7 +120,7 @@ module _ (m : ModelData) where
   none_in_props : (passes : List ℕ → Bool) (o : ℕ) (qs : List ℕ) → ((q : ℕ) → Contains qs q → passes (prop_name m.meta q) ≡ false) → value_where passes (flat_map (pair_at m o) qs) ≡ None
   none_in_props passes o [] h = refl
   none_in_props passes o (q ∷ qs) h =
-      where_skip_all passes (pair_at m o q) (flat_map (pair_at m o) qs) (none_of_name passes o q (h q (contains_head q qs)))
+      where_skip_all passes (pair_at m o q) (flat_map (pair_at m o) qs) (none_of_name passes o q (h q (contains_first q qs)))
       ∙ none_in_props passes o qs (λ r c. h r (contains_tail q r qs c))
 
   one_in_props : (passes : List ℕ → Bool) (o p : ℕ) (qs : List ℕ) → IsOnce qs → ((q : ℕ) → Contains qs q → passes (prop_name m.meta q) ≡ (q == p)) → Contains qs p
@@ -127,7 +128,7 @@ module _ (m : ModelData) where
   one_in_props passes o p [] once h (i, l, e) = absurd (omega (arith, l))
   one_in_props passes o p (q ∷ qs) once h (zero, l, e) =
       let rest : Attrs = flat_map (pair_at m o) qs in
-      let passing : passes (prop_name m.meta q) ≡ true = h q (contains_head q qs) ∙ eq-eqb q p e in
+      let passing : passes (prop_name m.meta q) ≡ true = h q (contains_first q qs) ∙ eq-eqb q p e in
       let none : value_where passes rest ≡ None =
       none_in_props passes o qs (λ r c. h r (contains_tail q r qs c) ∙ ne_eqb r p (λ same. once_first q r qs once c (e ∙ sym same))) in
       elim (pair_of_name o q) [
@@ -140,7 +141,7 @@ module _ (m : ModelData) where
       ]
   one_in_props passes o p (q ∷ qs) once h (suc i, l, e) =
       let there : Contains qs p = (i, omega (arith, l), e) in
-      let other : passes (prop_name m.meta q) ≡ false = h q (contains_head q qs) ∙ ne_eqb q p (once_first q p qs once there) in
+      let other : passes (prop_name m.meta q) ≡ false = h q (contains_first q qs) ∙ ne_eqb q p (once_first q p qs once there) in
       where_skip_all passes (pair_at m o q) (flat_map (pair_at m o) qs) (none_of_name passes o q other)
       ∙ one_in_props passes o p qs (once_behind q qs once) (λ r c. h r (contains_tail q r qs c)) there
 
@@ -162,7 +163,7 @@ module _ (m : ModelData) where
 
     pub item_known : (item : Item) → Contains (all_items source) item → IsRow m v.kept number (bare item)
     item_known item c =
-        tree_known m v.kept number top_live (bare item) (subst (λ (xs : List Item). Contains xs (bare item)) tree_is (Contains-map bare (all_items source) item c))
+        tree_known m v.kept number top_live (bare item) (subst (λ (xs : List Item). Contains xs (bare item)) tree_is (contains_map bare (all_items source) item c))
 
     -- ---- objects
 

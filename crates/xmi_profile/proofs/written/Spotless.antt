@@ -16,13 +16,10 @@ use Rattle.xmi_profile.specs.Links.{HasLinks}
 use Rattle.xmi_profile.specs.Profile.{props_or_none}
 use Rattle.xmi_profile.specs.References.{Target}
 use Rattle.xmi_profile.specs.Source.{Source, class_of, targets_at, target_number, named_at}
-use Rattle.xmi_profile.proofs.WritingCalls.{contains_head, contains_tail}
+use Rattle.xmi_profile.proofs.WritingCalls.{contains_tail}
+use Rattle.mof_metamodel.proofs.Facts.{contains_first}
 use Rattle.xmi_profile.proofs.written.Linking.{to_any}
-
-pub get_contained : {X : Type 0} (xs : List X) (i : ℕ) (x : X) → slice_get xs i ≡ Some x → Contains xs x
-get_contained [] i x e = absurd cc
-get_contained (y ∷ ys) zero x e = subst (Contains (y ∷ ys)) (ap (λ o. unwrap_or o x) e) (contains_head y ys)
-get_contained (y ∷ ys) (suc i) x e = contains_tail y x ys (get_contained ys i x e)
+use Rattle.mof_metamodel.proofs.Facts.{contains_at}
 
 module _ (s : Source) (objects : List (Option Object)) where
   abbrev pub model : ModelData
@@ -45,10 +42,10 @@ module _ (s : Source) (objects : List (Option Object)) where
       where
         by : (c : Option ℕ) → class_of s spot.object ≡ c → slice_get (props_or_none s.meta c) spot.property ≡ Some p → IsReferenceOf model spot.object p
         by None e at = absurd cc
-        by (Some c) e at = record { class = c; class_is = sym (w.classes spot.object) ∙ e; has = get_contained (props_of s.meta c) spot.property p at; reference = x.reference }
+        by (Some c) e at = record { class = c; class_is = sym (w.classes spot.object) ∙ e; has = contains_at (props_of s.meta c) spot.property p at; reference = x.reference }
 
     told_at : (spot : Spot) (p : ℕ) (target : Target) → IsWritten s spot p target → IsTold spot.object p target
-    told_at spot p target x = w.told spot.object p target (writer spot p target x) (get_contained (targets_at s spot.object p) spot.target target x.target_is)
+    told_at spot p target x = w.told spot.object p target (writer spot p target x) (contains_at (targets_at s spot.object p) spot.target target x.target_is)
 
     no_dangling : (spot : Spot) (id prop reference : List ℕ) → IsDangling s spot id prop reference → ⊥
     no_dangling spot id prop reference d =

@@ -28,7 +28,8 @@ use Rattle.xmi_profile.specs.Source.{Source, all_items, file_ids, listed, text_i
 use Rattle.xmi_profile.specs.Values.{value_of, same_value, unmet, without_repeats}
 use Rattle.xmi_profile.specs.WrittenOrder.{written_order}
 use Rattle.xmi_profile.specs.WrittenTree.{value_pair, pair_by, text_nodes}
-use Rattle.xmi_profile.proofs.WritingCalls.{contains_head, contains_tail}
+use Rattle.xmi_profile.proofs.WritingCalls.{contains_tail}
+use Rattle.mof_metamodel.proofs.Facts.{contains_first}
 use Rattle.xmi_profile.proofs.WritingForms.{class_typed, is_reference}
 use Rattle.xmi_profile.proofs.SeenLaws.{in_cons}
 use Rattle.xmi_profile.proofs.written.Items.{bare, value_row}
@@ -73,7 +74,7 @@ unmet_all met (v ∷ vs) fresh apart =
     ∙ ap (λ ws. v ∷ ws) (unmet_all (v ∷ met) vs later (λ i j d l lj. apart (suc i) (suc j) d (omega (arith, l)) (omega (arith, lj))))
   where
     by : (w : Value) → Contains met w → (b : Bool) → same_value v w ≡ b → b ≡ false
-    by w c true e = absurd (fresh v (contains_head v vs) (subst (Contains met) (sym (same_is v w e)) c))
+    by w c true e = absurd (fresh v (contains_first v vs) (subst (Contains met) (sym (same_is v w e)) c))
     by w c false e = refl
 
     later : (w : Value) → Contains vs w → Contains (v ∷ met) w → ⊥
@@ -296,7 +297,7 @@ module _ (m : ModelData) (v : Valid m) (shallow : (o d : ℕ) → IsLive m o →
 
     read_all : (read : List ℕ → Option Value) (vs : List Value) → ((w : Value) → Contains vs w → read (value_text m.meta w) ≡ Some w) → filter_map read (map (value_text m.meta) vs) ≡ vs
     read_all read [] h = refl
-    read_all read (w ∷ vs) h = ap₂ (λ x ys. cons_option x ys) (h w (contains_head w vs)) (read_all read vs (λ x c. h x (contains_tail w x vs c)))
+    read_all read (w ∷ vs) h = ap₂ (λ x ys. cons_option x ys) (h w (contains_first w vs)) (read_all read vs (λ x c. h x (contains_tail w x vs c)))
 
     pub values_are : (o p : ℕ) → IsAttributeOf m o p → written_values s (number o) p ≡ values_at m o p
     values_are o p a =

@@ -37,7 +37,7 @@ fn add(model: &mut Model<'_>, class: ClassId, id: Text) -> Result<(), NoMemory>
 fn key_of(ids: &[Text]) -> HashKey {
     let mut key = HashKey::none();
     for id in ids {
-        key = key.after(id.as_str().as_bytes());
+        key = key.after_text(id.as_str());
     }
     key
 }

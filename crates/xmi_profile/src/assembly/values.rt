@@ -84,7 +84,7 @@ fn is_at(written: &WrittenValue, object: u32, property: PropId) -> bool
 /// A key with what a value is besides.
 fn with_value(key: HashKey, value: &Value) -> HashKey {
     match value {
-        Value::Str(text) => key.after(text.as_str().as_bytes()),
+        Value::Str(text) => key.after_text(text.as_str()),
         Value::Int(number) => key.after(&number.to_le_bytes()),
         Value::Bool(_) => key,
         Value::Lit(_, place) => key.after(&place.to_le_bytes()),

@@ -1,7 +1,7 @@
 -- The bytes of a character from U+0080 on are stepped over as one character.
 use Rattle.std.proofs.Common.{◌≡◌, ℕ, ◌+◌, ◌*◌, ◌/◌, ◌%◌, ◌≤◌, ◌<◌, Bool, true, false, List, [], ◌∷◌, length, refl, sym, ◌∙◌, ap, arith, cond, None, Some, inl, inr, ⊎_elim}
 use Rattle.std.specs.Prelude.{◌==◌, ◌||◌, ◌&&◌, not, nat_lt, nat_le, if◌then◌else◌}
-use Rattle.std.proofs.lemmas.Bool.{cases_lt, cases_eq, or_from, lt-ltb, le-ltb, le-leb, lt-leb, ne_eqb}
+use Rattle.std.proofs.lemmas.Bool.{cases_lt, cases_eq, or_from, lt-ltb, le-ltb, le-leb, lt-leb, ne_eqb, or_right}
 use lib.Utf8.{encode, scalar_cases}
 use lib.Utf8 as utf8
 use Rattle.xmi_text.specs.ByteClass.{within, holds_in_name}
@@ -67,15 +67,11 @@ no_twin s (AttrName colon) b h = ap (λ t. not t && has_name s.attrs s.attr.name
 no_twin s Start b h = refl
 no_twin s _ b h = refl
 
-or_true : (x y : Bool) → y ≡ true → (x || y) ≡ true
-or_true true y e = refl
-or_true false y e = e
-
 -- a first byte
 lead_step : (s : State) (m : Mode) (at b : ℕ) (p : Partial) → 194 ≤ b → b ≤ 244 → begun at b ≡ Some p → character_by s m at b None ≡ record s { partial = Some p }
 lead_step s m at b p low high e =
     if_false (nat_lt b 128) (ascii s m at b) (lead s m at b) (le-ltb b 128 (omega arith))
-    ∙ if_false (ends_twin s m b) _ (lead_on s at (begun at b)) (no_twin s m b (or_true _ _ (within_from 194 244 b low high)))
+    ∙ if_false (ends_twin s m b) _ (lead_on s at (begun at b)) (no_twin s m b (or_right _ _ (within_from 194 244 b low high)))
     ∙ ap (lead_on s at) e
 
 first : (s : State) (m : Mode) (r : Bool) (at b : ℕ) (p : Partial) → IsPlain m → 194 ≤ b → b ≤ 244 → begun at b ≡ Some p → step (at_mode s m r) at b ≡ within_character s m r p

@@ -7,14 +7,11 @@ use Rattle.mof_metamodel.specs.Characters.{text_cmp}
 use Rattle.mof_metamodel.specs.TextLaws.{text_ties}
 use Rattle.xmi_text.specs.declared.mark.Attr.{Attr}
 use Rattle.xmi_text.specs.AttrNames.{has_name}
+use Rattle.mof_metamodel.proofs.Facts.{or_false}
 
 or_last : (x y z : Bool) → (x || (y || z)) ≡ ((x || y) || z)
 or_last true y z = refl
 or_last false y z = refl
-
-or_false : (x : Bool) → (x || false) ≡ x
-or_false true = refl
-or_false false = refl
 
 or_swap : (x y : Bool) → (x || y) ≡ cond y true x
 or_swap true true = refl
