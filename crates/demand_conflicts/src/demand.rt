@@ -5,7 +5,7 @@ use term_table::NumberedValue;
 #[derive(Drop)]
 pub struct NumberedDemand {
     /// The number of the entry in the order of entries.
-    pub entry: u32,
+    pub entry: usize,
     pub owner: usize,
     pub prop: PropId,
     pub value: NumberedValue,

@@ -7,7 +7,7 @@ use mof_metamodel::PropId;
 #[derive(Drop)]
 pub struct Demand {
     /// The number of the entry in the order of entries.
-    pub entry: u32,
+    pub entry: usize,
     pub owner: Term,
     pub prop: PropId,
     pub value: TermValue,
