@@ -1,8 +1,8 @@
 -- Each binding of an entry is found: where its calls have their matches, the join comes to it.
-use Rattle.std.specs.Prelude.{◌≡◌, ◌⊎◌, ◌<◌, ℕ, zero, suc, Bool, true, false, ◌&&◌, ◌==◌, List, [], ◌∷◌, map, length, Option, None, Some, slice_get, slice_set, Contains, if◌then◌else◌}
-use Rattle.std.specs.List.{AllByRecursion, filter_map, flat_map}
+use Rattle.std.specs.Prelude.{◌≡◌, ◌⊎◌, ℕ, Bool, true, false, ◌==◌, List, [], ◌∷◌, map, Option, None, Some, slice_get, slice_set, Contains, if◌then◌else◌}
+use Rattle.std.specs.List.{AllByRecursion, flat_map}
 use Rattle.std.specs.Option.{option_map, option_and_then}
-use Rattle.std.proofs.Common.{refl, sym, ap, subst, ◌∙◌, inl, inr, arith}
+use Rattle.std.proofs.Common.{refl, sym, ap, subst, ◌∙◌, inl, inr}
 use Rattle.std.proofs.lemmas.Bool.{and_from, true≢false, eq-eqb}
 use Rattle.std.proofs.lemmas.Option.{same_Some}
 use Rattle.object_tables.specs.Models.{ModelData}
@@ -15,18 +15,18 @@ use Rattle.qvtr_semantics.specs.declared.datum.Datum.{Datum}
 use Rattle.qvtr_semantics.specs.Outs.{datum_of, all_given}
 use Rattle.qvtr_semantics.specs.Expressions.{value_for}
 use Rattle.qvtr_semantics.specs.Templates.{Values, value_at}
-use Rattle.mof_metamodel.proofs.Facts.{nothing_in, contains_first}
-use Rattle.template_match.specs.Sources.{is_target_variable, SourceWithoutTarget}
+use Rattle.mof_metamodel.proofs.Facts.{contains_first}
+use Rattle.template_match.specs.Sources.{is_target_variable}
 use Rattle.template_match.proofs.ListLaws.{contains_later}
 use Rattle.repair_semantics.specs.declared.term.Term.{Term}
 use Rattle.repair_semantics.specs.declared.term.TermValue.{TermValue}
 use Rattle.repair_semantics.specs.declared.term.TermValue.TheVariants as values
 use Rattle.repair_semantics.specs.declared.entry.EntryName.{EntryName}
-use Rattle.repair_semantics.specs.EntryValues.{TermValues, Known, known, value_of, data_in, variable_alone, given_out, given_by, given_value}
+use Rattle.repair_semantics.specs.EntryValues.{TermValues, Known, known, value_of, data_in, variable_alone, given_by, given_value}
 use Rattle.repair_semantics.specs.Entries.{IsUniversalTarget, TermSource, call_to, named_call, calls_in, bound_roots}
 use Rattle.term_table.specs.declared.numbered.NumberedValue.{NumberedValue}
 use Rattle.term_table.specs.declared.numbered.NumberedValue.TheVariants as numbered
-use Rattle.term_table.specs.TermTables.{term_at, value_in, values_in, IsWithin, AreDistinct}
+use Rattle.term_table.specs.TermTables.{value_in, values_in, IsWithin, AreDistinct}
 use Rattle.term_table.proofs.NumberLaws.{ties_are_one}
 use Rattle.entry_bindings.specs.declared.argument.Argument.{Argument}
 use Rattle.entry_bindings.specs.declared.argument.Argument.TheVariants as arguments
@@ -34,13 +34,13 @@ use Rattle.entry_bindings.specs.declared.matching.Match.{Match}
 use Rattle.entry_bindings.specs.Matches.{name_in, names_in, AreAmong}
 use Rattle.entry_bindings.specs.Starts.{NumberedValues, number_of, is_term}
 use Rattle.entry_bindings.specs.Arguments.{variable_argument, argument_by, argument_of, arguments_of, bound}
-use Rattle.entry_bindings.specs.Joins.{same_number, agrees, agree, is_match, matching, opened, taken, filled, extended_by, call_extended, joined}
-use Rattle.entry_bindings.specs.Asked.{IsEnforced, AreRoots, AreWithin, AreMatchesWithin, IsEntryBinding}
+use Rattle.entry_bindings.specs.Joins.{agrees, agree, is_match, matching, opened, taken, filled, extended_by, call_extended, joined}
+use Rattle.entry_bindings.specs.Asked.{IsEnforced, AreRoots, AreMatchesWithin}
 use Rattle.entry_bindings.proofs.ArgumentLaws.{none_some, set_from, bound_map, bound_all}
-use Rattle.entry_bindings.proofs.ListLaws.{filtered_in, picked_in, joined_in, joined_from, mapped_from, same_lists, parts_of}
-use Rattle.entry_bindings.proofs.ValueLaws.{val_or_term, val_term, datum_from, datum_there, data_at, value_there, value_none, number_there, number_term, val_number, same_numbers, decoded_long}
-use Rattle.entry_bindings.proofs.Partials.{AreGivenBy, IsPartial, AreOpenTargets, IsReached, reached, extended_comes}
-use Rattle.entry_bindings.proofs.Sounds.{told_by, told, argument_universal, target_none, targets_given, taken_given}
+use Rattle.entry_bindings.proofs.ListLaws.{filtered_in, picked_in, joined_in, mapped_from, same_lists}
+use Rattle.entry_bindings.proofs.ValueLaws.{val_or_term, datum_from, datum_there, value_there, value_none, number_term, same_numbers, decoded_long}
+use Rattle.entry_bindings.proofs.Partials.{IsPartial, AreOpenTargets, reached, extended_comes}
+use Rattle.entry_bindings.proofs.Sounds.{told_by, told, argument_universal, targets_given}
 
 module _ (program : Program) (models : List ModelData) (rel : Rel) (terms : List Term) (ms : List Match) (roots : NumberedValues)
     (enforced : IsEnforced program rel) (are_roots : AreRoots program rel (values_in terms roots)) (apart : AreDistinct terms)

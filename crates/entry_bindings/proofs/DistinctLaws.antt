@@ -1,5 +1,5 @@
 -- No binding is joined twice: what it gives the arguments of a call tells the match.
-use Rattle.std.specs.Prelude.{◌≡◌, ◌≢◌, ℕ, zero, suc, Bool, true, false, ◌==◌, List, [], ◌∷◌, map, length, Option, None, Some, slice_get, Contains}
+use Rattle.std.specs.Prelude.{◌≡◌, ◌≢◌, ℕ, true, ◌==◌, List, [], ◌∷◌, Option, None, Some, slice_get, Contains}
 use Rattle.std.specs.List.{flat_map}
 use Rattle.std.proofs.Common.{refl, sym, ap, subst, ◌∙◌}
 use Rattle.std.proofs.lemmas.Bool.{and_parts, eqb-true}
@@ -14,7 +14,6 @@ use Rattle.qvtr_semantics.specs.Templates.{Values}
 use Rattle.mof_metamodel.proofs.Facts.{nothing_in, contains_first, only_one}
 use Rattle.template_match.proofs.ListLaws.{contains_later}
 use Rattle.repair_semantics.specs.declared.term.Term.{Term}
-use Rattle.repair_semantics.specs.declared.term.TermValue.{TermValue}
 use Rattle.template_match.specs.Sources.{is_target_variable}
 use Rattle.repair_semantics.specs.EntryValues.{TermValues, value_of, variable_alone}
 use Rattle.repair_semantics.specs.Entries.{IsUniversalTarget}

@@ -7,5 +7,9 @@ pub mod Sounds
 pub mod Completes
 pub mod StartLaws
 pub mod PairLaws
+pub mod KeyLaws
 pub mod DistinctLaws
 pub mod WholeLaws
+pub mod StepLaws
+pub mod Refuting
+mod WithinLaws

@@ -1,12 +1,12 @@
 -- Calls that are among the names of entries have their matches among these.
-use Rattle.std.specs.Prelude.{◌≡◌, ◌↔◌, zero, suc, List, [], ◌∷◌, Option, None, Some, Contains}
-use Rattle.std.proofs.Common.{refl, sym, subst, arith}
+use Rattle.std.specs.Prelude.{◌≡◌, zero, suc, List, [], ◌∷◌, Option, None, Some, Contains}
+use Rattle.std.proofs.Common.{sym, subst, arith}
 use Rattle.qv_syntax.specs.declared.program.Program.{Program}
 use Rattle.mof_metamodel.proofs.Facts.{nothing_in, contains_first}
 use Rattle.template_match.proofs.ListLaws.{contains_later}
 use Rattle.repair_semantics.specs.declared.entry.Entry.{Entry}
 use Rattle.repair_semantics.specs.declared.entry.EntryName.{EntryName}
-use Rattle.repair_semantics.specs.Entries.{IsMatchFor, AreMatches}
+use Rattle.repair_semantics.specs.Entries.{AreMatches}
 use Rattle.entry_bindings.specs.Matches.{AreAmong, AreNamesOf}
 
 module _ (program : Program) (names : List EntryName) (entries : List Entry) (are : AreNamesOf program names entries) where

@@ -1,6 +1,6 @@
 -- A binding on the way: it has the data of the source, and terms of roots and of arguments of calls.
-use Rattle.std.specs.Prelude.{◌≡◌, ◌⊎◌, ◌<◌, ℕ, zero, suc, Bool, true, false, ◌&&◌, ◌==◌, List, [], ◌∷◌, map, length, Option, None, Some, slice_get, slice_set, Contains, if◌then◌else◌}
-use Rattle.std.specs.List.{AllByRecursion, filter_map, flat_map}
+use Rattle.std.specs.Prelude.{◌≡◌, ◌⊎◌, ◌<◌, ℕ, zero, suc, Bool, true, false, ◌==◌, List, [], ◌∷◌, map, length, Option, None, Some, slice_get, slice_set, Contains, if◌then◌else◌}
+use Rattle.std.specs.List.{AllByRecursion, flat_map}
 use Rattle.std.specs.Option.{option_map, option_and_then}
 use Rattle.std.proofs.Common.{refl, sym, ap, subst, ◌∙◌, inl, inr, arith}
 use Rattle.std.proofs.lemmas.Bool.{and_parts, true≢false, eqb-true}
@@ -21,7 +21,7 @@ use Rattle.template_match.specs.Sources.{is_of_target, is_target_variable}
 use Rattle.template_match.proofs.ListLaws.{contains_later}
 use Rattle.repair_semantics.specs.declared.term.Term.{Term}
 use Rattle.repair_semantics.specs.declared.term.TermValue.{TermValue}
-use Rattle.repair_semantics.specs.EntryValues.{TermValues, TermsExtend, value_of, data_in, variable_alone}
+use Rattle.repair_semantics.specs.EntryValues.{TermsExtend, value_of, data_in, variable_alone}
 use Rattle.repair_semantics.specs.Entries.{IsUniversalTarget}
 use Rattle.term_table.specs.declared.numbered.NumberedValue.{NumberedValue}
 use Rattle.term_table.specs.declared.numbered.NumberedValue.TheVariants as numbered
@@ -30,11 +30,11 @@ use Rattle.term_table.proofs.NumberLaws.{ties_are_one}
 use Rattle.entry_bindings.specs.declared.argument.Argument.{Argument}
 use Rattle.entry_bindings.specs.declared.argument.Argument.TheVariants as arguments
 use Rattle.entry_bindings.specs.declared.matching.Match.{Match}
-use Rattle.entry_bindings.specs.Starts.{NumberedValues, number_of, is_term}
+use Rattle.entry_bindings.specs.Starts.{NumberedValues, number_of}
 use Rattle.entry_bindings.specs.Arguments.{variable_argument, argument_by, argument_of, arguments_of, bound}
-use Rattle.entry_bindings.specs.Joins.{same_number, agrees, agree, is_match, matching, opened, taken, filled, extended, extended_by, call_extended, joined}
+use Rattle.entry_bindings.specs.Joins.{same_number, agrees, agree, is_match, matching, opened, taken, filled, extended_by, call_extended, joined}
 use Rattle.entry_bindings.proofs.ArgumentLaws.{none_some, set_there, set_from, set_long, bound_all}
-use Rattle.entry_bindings.proofs.ListLaws.{parts_of, filtered_from, picked_from, joined_from, below}
+use Rattle.entry_bindings.proofs.ListLaws.{filtered_from, picked_from, joined_from, below}
 use Rattle.entry_bindings.proofs.ValueLaws.{term_number, value_there, number_there, set_data, Grows, set_grows}
 
 pub grows_through : (a b c : NumberedValues) → Grows a b → Grows b c → Grows a c

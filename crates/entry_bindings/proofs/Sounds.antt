@@ -1,15 +1,14 @@
 -- A binding that was joined with matches is one of an entry: it meets the source, has its terms, and its calls are those matches.
-use Rattle.std.specs.Prelude.{◌≡◌, ◌⊎◌, ◌<◌, ℕ, zero, suc, Bool, true, false, List, [], ◌∷◌, map, length, Option, None, Some, slice_get, Contains, if◌then◌else◌}
+use Rattle.std.specs.Prelude.{◌≡◌, ◌⊎◌, ℕ, Bool, true, false, List, [], ◌∷◌, map, Option, None, Some, slice_get, Contains, if◌then◌else◌}
 use Rattle.std.specs.List.{AllByRecursion}
 use Rattle.std.specs.Option.{option_map, option_and_then}
-use Rattle.std.proofs.Common.{refl, sym, ap, subst, ◌∙◌, inl, inr, arith}
+use Rattle.std.proofs.Common.{refl, sym, ap, subst, ◌∙◌, inl, inr}
 use Rattle.std.proofs.lemmas.Bool.{true≢false}
 use Rattle.std.proofs.lemmas.Option.{same_Some}
 use Rattle.object_tables.specs.Models.{ModelData}
 use Rattle.qv_syntax.specs.declared.program.Program.{Program}
 use Rattle.qv_syntax.specs.declared.program.Rel.{Rel}
 use Rattle.qv_syntax.specs.declared.program.Var.{Var}
-use Rattle.qv_syntax.specs.declared.program.Dom.{Dom}
 use Rattle.qv_syntax.specs.declared.program.Conj.{Conj}
 use Rattle.qv_syntax.specs.declared.program.Conj.TheVariants as conjuncts
 use Rattle.qv_syntax.specs.declared.ty.Ty.{Ty}
@@ -39,7 +38,7 @@ use Rattle.repair_semantics.specs.declared.term.TermValue.{TermValue}
 use Rattle.repair_semantics.specs.declared.term.TermValue.TheVariants as values
 use Rattle.repair_semantics.specs.declared.entry.EntryName.{EntryName}
 use Rattle.repair_semantics.specs.EntryValues.{TermValues, Known, known, value_of, data_in, variable_at, variable_alone, given_out, given_by, given_value}
-use Rattle.repair_semantics.specs.Entries.{IsUniversalTarget, TermSource, call_to, named_call, calls_in, bound_roots}
+use Rattle.repair_semantics.specs.Entries.{IsUniversalTarget, TermSource, call_to, named_call, calls_in}
 use Rattle.term_table.specs.declared.numbered.NumberedValue.{NumberedValue}
 use Rattle.term_table.specs.declared.numbered.NumberedValue.TheVariants as numbered
 use Rattle.term_table.specs.TermTables.{term_at, value_in, values_in}
@@ -51,9 +50,9 @@ use Rattle.entry_bindings.specs.Starts.{NumberedValues, number_of}
 use Rattle.entry_bindings.specs.Arguments.{variable_argument, argument_by, argument_of, bound}
 use Rattle.entry_bindings.specs.Asked.{IsEnforced, AreRoots, IsEntryBinding}
 use Rattle.entry_bindings.proofs.ArgumentLaws.{none_some, bound_map, bound_last}
-use Rattle.entry_bindings.proofs.ListLaws.{parts_of, there_is, below}
-use Rattle.entry_bindings.proofs.ValueLaws.{datum_from, datum_there, data_at, value_there, number_there, number_term, decoded_long, Grows}
-use Rattle.entry_bindings.proofs.Partials.{AllFit, open_fits, AreGivenBy, argument_at, expression_at, IsPartial, IsOpenTarget, open_arguments, IsJoined, IsReached}
+use Rattle.entry_bindings.proofs.ListLaws.{parts_of}
+use Rattle.entry_bindings.proofs.ValueLaws.{datum_from, datum_there, value_there, number_there, number_term, decoded_long, Grows}
+use Rattle.entry_bindings.proofs.Partials.{AllFit, open_fits, AreGivenBy, argument_at, expression_at, IsPartial, IsOpenTarget, open_arguments, IsJoined}
 
 -- ---- a variable alone
 

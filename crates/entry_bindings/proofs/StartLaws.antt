@@ -1,7 +1,7 @@
 -- Where bindings begin: what the search in the sources gives, without what stands there for terms, is what meets the source without the target.
-use Rattle.std.specs.Prelude.{◌≡◌, ◌⊎◌, ℕ, zero, suc, Bool, true, false, List, [], ◌∷◌, map, length, Option, None, Some, slice_get, slice_index_or, Contains, if◌then◌else◌}
+use Rattle.std.specs.Prelude.{◌≡◌, ◌⊎◌, ℕ, zero, suc, Bool, true, false, List, [], ◌∷◌, length, Option, None, Some, Contains, if◌then◌else◌}
 use Rattle.std.specs.Option.{option_map, option_and_then}
-use Rattle.std.proofs.Common.{refl, sym, ap, subst, ◌∙◌, inl, inr, arith}
+use Rattle.std.proofs.Common.{refl, sym, ap, ◌∙◌, inl, inr, arith}
 use Rattle.std.proofs.lemmas.Bool.{true≢false}
 use Rattle.std.proofs.lemmas.Option.{same_Some}
 use Rattle.object_tables.specs.Models.{ModelData}
@@ -12,7 +12,7 @@ use Rattle.qvtr_semantics.specs.Objects.{object_datum}
 use Rattle.qvtr_semantics.specs.Templates.{Values, value_at}
 use Rattle.template_match.specs.Sources.{is_target_variable, source_variables, NamesNoTarget, SourceWithoutTarget}
 use Rattle.template_match.specs.Posed.{HasPrimitives}
-use Rattle.source_laws.specs.SourceRelations.{IsSourceExpression, KeepsToSources, AgreeOnSources}
+use Rattle.source_laws.specs.SourceRelations.{IsSourceExpression, KeepsToSources}
 use Rattle.source_laws.proofs.BindingLaws.{source_variable, source_moved}
 use Rattle.source_laws.proofs.RuleLaws.{rule_keeps}
 use Rattle.enforceable_sources.proofs.EnforceableLaws.{enforceable_hands_on}
@@ -20,7 +20,7 @@ use Rattle.repair_semantics.specs.declared.term.Term.{Term}
 use Rattle.repair_semantics.specs.declared.term.TermValue.{TermValue}
 use Rattle.repair_semantics.specs.declared.term.TermValue.TheVariants as values
 use Rattle.repair_semantics.specs.Terms.{datum_in}
-use Rattle.repair_semantics.specs.EntryValues.{TermValues, value_of, data_in}
+use Rattle.repair_semantics.specs.EntryValues.{value_of, data_in}
 use Rattle.term_table.specs.declared.numbered.NumberedValue.{NumberedValue}
 use Rattle.term_table.specs.declared.numbered.NumberedValue.TheVariants as numbered
 use Rattle.term_table.specs.TermTables.{term_at, value_in, values_in}
@@ -29,7 +29,7 @@ use Rattle.entry_bindings.specs.Starts.{NumberedValues, number_of, is_term, has_
 use Rattle.entry_bindings.specs.Asked.{IsEnforced, AreRoots, HasPrimitiveRoots}
 use Rattle.entry_bindings.proofs.ArgumentLaws.{none_some, at_map}
 use Rattle.entry_bindings.proofs.ListLaws.{same_lists}
-use Rattle.entry_bindings.proofs.ValueLaws.{val_or_term, val_term, datum_from, datum_of_val, datum_of_term, data_at, data_long, mapped_long, value_there, number_there, val_number, number_term, decoded_long}
+use Rattle.entry_bindings.proofs.ValueLaws.{val_or_term, datum_from, datum_of_val, datum_of_term, data_at, data_long, mapped_long, value_there, number_there, number_term, decoded_long}
 use Rattle.entry_bindings.proofs.Partials.{IsPartial}
 use Rattle.entry_bindings.proofs.Sounds.{target_none}
 

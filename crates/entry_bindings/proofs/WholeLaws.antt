@@ -1,6 +1,6 @@
 -- The bindings that are joined are exactly those of entries.
 use Rattle.std.specs.Prelude.{◌≡◌, ◌≢◌, ◌↔◌, ◌⊎◌, ℕ, zero, suc, List, [], ◌∷◌, map, length, Some, Contains, AllPairs}
-use Rattle.std.proofs.Common.{refl, sym, ap, subst, ◌∙◌, inl, inr, arith}
+use Rattle.std.proofs.Common.{sym, ap, subst, ◌∙◌, inl, inr, arith}
 use Rattle.object_tables.specs.Models.{ModelData}
 use Rattle.qv_syntax.specs.declared.program.Program.{Program}
 use Rattle.qv_syntax.specs.declared.program.Rel.{Rel}
@@ -11,7 +11,6 @@ use Rattle.template_match.specs.Sources.{source_variables, SourceWithoutTarget}
 use Rattle.source_laws.proofs.AnswerLaws.{same_lists as same_in_order}
 use Rattle.mof_metamodel.proofs.Facts.{nothing_in, contains_first, contains_map, only_one}
 use Rattle.repair_semantics.specs.declared.term.Term.{Term}
-use Rattle.repair_semantics.specs.declared.term.TermValue.TheVariants as values
 use Rattle.repair_semantics.specs.EntryValues.{TermValues, value_of, data_in}
 use Rattle.repair_semantics.specs.Entries.{TermSource}
 use Rattle.term_table.specs.declared.numbered.NumberedValue.{NumberedValue}
@@ -20,7 +19,7 @@ use Rattle.term_table.specs.TermTables.{value_in, values_in, IsWithin, AreDistin
 use Rattle.entry_bindings.specs.declared.matching.Match.{Match}
 use Rattle.entry_bindings.specs.Matches.{names_in}
 use Rattle.entry_bindings.specs.Starts.{NumberedValues, number_of, fixed_values, data_beside, start_of}
-use Rattle.entry_bindings.specs.Joins.{joined, joined_for, all_joined}
+use Rattle.entry_bindings.specs.Joins.{joined_for, all_joined}
 use Rattle.entry_bindings.specs.Asked.{IsEnforced, AreRoots, AreWithin, AreMatchesWithin, AreFound, IsEntryBinding}
 use Rattle.entry_bindings.proofs.ListLaws.{mapped_from, joined_from, joined_in}
 use Rattle.entry_bindings.proofs.ValueLaws.{datum_from, value_there}

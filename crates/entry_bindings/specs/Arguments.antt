@@ -1,5 +1,5 @@
 -- What a binding gives the arguments of a call in a when clause (QVT 1.3, sections 7.3 and 7.10.2).
-use Rattle.std.specs.Prelude.{ℕ, Bool, List, [], ◌∷◌, map, length, replicate, Option, None, Some, slice_index_or, slice_set, if◌then◌else◌}
+use Rattle.std.specs.Prelude.{ℕ, List, [], ◌∷◌, map, length, replicate, Option, None, Some, slice_index_or, slice_set, if◌then◌else◌}
 use Rattle.std.specs.List.{filter_map}
 use Rattle.std.specs.Option.{option_map}
 use Rattle.object_tables.specs.Models.{ModelData}

@@ -1,5 +1,5 @@
 -- What is asked of the roots of a relation, and of the bindings that are looked for (QVT 1.3, sections 7.2, 7.3 and 7.10.2).
-use Rattle.std.specs.Prelude.{◌≡◌, ◌↔◌, ℕ, true, false, List, length, None, Some, slice_get, Contains, All, AllPairs}
+use Rattle.std.specs.Prelude.{◌≡◌, ◌↔◌, ℕ, true, false, List, length, None, Some, slice_get, Contains}
 use Rattle.mof_metamodel.specs.declared.desc.MetaDesc.{MetaDesc}
 use Rattle.object_tables.specs.Models.{ModelData}
 use Rattle.qv_syntax.specs.declared.program.Program.{Program}

@@ -1,6 +1,6 @@
 -- The bindings of a relation, call by call of its when clause: each is joined with the matches that agree with what it gives the arguments
 -- (QVT 1.3, sections 7.3 and 7.10.2).
-use Rattle.std.specs.Prelude.{ℕ, Bool, true, false, ◌&&◌, ◌==◌, List, [], ◌∷◌, map, Option, None, Some, slice_get, slice_set, if◌then◌else◌}
+use Rattle.std.specs.Prelude.{ℕ, Bool, true, false, ◌&&◌, ◌==◌, List, [], ◌∷◌, Option, None, Some, slice_get, slice_set, if◌then◌else◌}
 use Rattle.std.specs.List.{filter, filter_map, flat_map}
 use Rattle.std.specs.Option.{option_and_then}
 use Rattle.std.specs.Ordering.{eq_by_cmp}

@@ -3,3 +3,4 @@ pub mod Starts
 pub mod Arguments
 pub mod Joins
 pub mod Asked
+pub mod MatchKeys
