@@ -1,0 +1,12 @@
+pub mod RelationLaws
+pub mod EquationOrder
+pub mod KeyOrder
+pub mod OrderableLaws
+pub mod GivenLaws
+pub mod GrownLaws
+pub mod InsideLaws
+pub mod MadeLaws
+pub mod AllLaws
+pub mod FindingLaws
+pub mod PreparedLaws
+pub mod SoughtLaws

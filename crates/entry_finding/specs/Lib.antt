@@ -1,0 +1,4 @@
+pub mod Premises
+pub mod Found
+pub mod Prepared
+pub mod Made
