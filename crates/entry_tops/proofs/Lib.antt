@@ -1,0 +1,6 @@
+pub mod TopLaws
+pub mod RootLaws
+pub mod NameLaws
+pub mod OrderLaws
+pub mod StepLaws
+pub mod NoRoots

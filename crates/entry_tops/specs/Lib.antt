@@ -1,0 +1,4 @@
+pub mod Tops
+pub mod TopOrder
+pub mod EntryNames
+pub mod Steps
