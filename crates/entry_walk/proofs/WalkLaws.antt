@@ -19,7 +19,8 @@ use Rattle.repair_semantics.specs.Entries.{AreMatches, HasRoots, IsEntry, entry_
 use Rattle.repair_semantics.specs.EntryChains.{BeginsEntries, CallsNext, GoesOnEntries, EntryChain, CyclicEntries, DeepEntries, IsUnmet}
 use Rattle.source_laws.proofs.RootLaws.{same_called}
 use Rattle.reading_laws.proofs.EntryTime.{IsRooted, called_rooted, rooted_has}
-use Rattle.entry_walk.specs.Walks.{Walked, is_entry_unmet, IsOfCall, IsWalkedBelow, IsWalk, IsAmong}
+use Rattle.entry_finding.specs.Found.{is_entry_unmet}
+use Rattle.entry_walk.specs.Walks.{Walked, IsOfCall, IsWalkedBelow, IsWalk, IsAmong}
 
 -- ---- lists
 
@@ -30,7 +31,7 @@ rest_same : {X : Type 0} (x y : X) (xs ys : List (Option X)) → Some x ∷ xs �
 rest_same x y xs ys e = cc
 
 -- lists of values that are there are the same where they are so as options
-same_listed : {X : Type 0} (xs ys : List X) → map (λ x. Some x) xs ≡ map (λ x. Some x) ys → xs ≡ ys
+pub same_listed : {X : Type 0} (xs ys : List X) → map (λ x. Some x) xs ≡ map (λ x. Some x) ys → xs ≡ ys
 same_listed [] [] e = refl
 same_listed [] (y ∷ ys) e = absurd cc
 same_listed (x ∷ xs) [] e = absurd cc
@@ -50,7 +51,7 @@ abbrev named : ℕ → List TermValue → EntryName
 named rel roots = record { rel = rel; roots = roots }
 
 -- calls with one relation and the same roots are one
-named_same : (c d : EntryName) → c.rel ≡ d.rel → c.roots ≡ d.roots → c ≡ d
+pub named_same : (c d : EntryName) → c.rel ≡ d.rel → c.roots ≡ d.roots → c ≡ d
 named_same c d e f = ap₂ named e f
 
 -- the entries that match calls are of top relations
@@ -189,7 +190,7 @@ module _ (metas : List MetaDesc) (program : Program) (formed : IsWellFormed meta
 
   -- ---- none is unmet
 
-  met_among : (e : Entry) → IsAmong tops walked e → is_entry_unmet program models e ≡ false
+  pub met_among : (e : Entry) → IsAmong tops walked e → is_entry_unmet program models e ≡ false
   met_among e (inl top) = walk.tops_are.met e top
   met_among e (inr (x, among, within)) = (walk.whole x among).met e within
 

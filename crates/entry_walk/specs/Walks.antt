@@ -1,37 +1,22 @@
 -- A walk over the calls of entries: what has to be found so that all entries are known, none of them is unmet, and no chain of calls comes
 -- back to one of its calls or is too long (QVT 1.3, sections 7.2 and 7.10.2). Each call has a height: no chain has more calls behind it.
-use Rattle.std.specs.Prelude.{◌≡◌, ◌⊎◌, ◌↔◌, ◌<◌, ℕ, Bool, true, false, List, Some, slice_get, Contains}
-use Rattle.std.specs.Option.{option_map_or}
+use Rattle.std.specs.Prelude.{◌≡◌, ◌⊎◌, ◌↔◌, ◌<◌, ℕ, true, false, List, Some, slice_get, Contains}
 use Rattle.object_tables.specs.Models.{ModelData}
 use Rattle.qv_syntax.specs.declared.program.Program.{Program}
 use Rattle.qv_syntax.specs.declared.program.Rel.{Rel}
 use Rattle.qvtr_semantics.specs.declared.limits.TheConstants.{MAX_CALLS}
-use Rattle.qvtr_semantics.specs.Satisfaction.{IsTop}
 use Rattle.repair_semantics.specs.declared.entry.Entry.{Entry}
 use Rattle.repair_semantics.specs.declared.entry.EntryName.{EntryName}
-use Rattle.repair_semantics.specs.EntryValues.{no_values, root_values}
-use Rattle.repair_semantics.specs.Making.{entry_known}
-use Rattle.repair_semantics.specs.Unmet.{is_unmet}
+use Rattle.repair_semantics.specs.EntryValues.{root_values}
 use Rattle.repair_semantics.specs.Entries.{IsEntry, IsEntryWith, entry_calls}
+use Rattle.entry_finding.specs.Found.{is_entry_unmet}
+use Rattle.entry_tops.specs.Tops.{IsTopBy}
 
 -- a call in a where clause that has been walked: its entries, and its height
 pub record Walked : Type 0 where
   pub call : EntryName
   pub entries : List Entry
   pub height : ℕ
-
--- the entry can't be fulfilled
-abbrev pub is_entry_unmet : Program → List ModelData → Entry → Bool
-is_entry_unmet program models e = option_map_or (λ rel. is_unmet program models rel (entry_known program models rel e.values)) (slice_get program.rels e.rel) false
-
--- the entry is one of a top relation, whose calls in the when clause have their matches among these
-pub record IsTopBy (program : Program) (models : List ModelData) (tops : List Entry) (e : Entry) : Type 0 where
-  pub number : ℕ
-  pub rel : Rel
-  pub top : IsTop program number rel
-  pub matches : List Entry
-  pub is : IsEntryWith program models number rel false (no_values rel) matches e
-  pub among : (m : Entry) → Contains matches m → Contains tops m
 
 -- the entry is one of the call, whose calls in the when clause have their matches among these
 pub record IsOfCall (program : Program) (models : List ModelData) (tops : List Entry) (c : EntryName) (e : Entry) : Type 0 where
