@@ -24,7 +24,7 @@ use Rattle.repair_semantics.specs.declared.entry.Place.TheVariants as places
 use Rattle.repair_semantics.specs.EntryValues.{TermValues, Known, value_of, data_in, variable_alone, given_out, given_by, given_value, is_target_alone}
 use Rattle.repair_semantics.specs.TargetItems.{Content, TargetItem, target_items, target_metamodel, key_of, class_of_variable}
 use Rattle.repair_semantics.specs.Making.{variables, equation_of, by_equation, with_equations, scope_within, entry_scope, content_value, first_item, item_around, is_item_at, is_option_of, parent_value, key_value_by, key_value, keyed, term_by, made_term, value_or_datum, with_terms, values_within, known_by, entry_known, others_in, made_values}
-use Rattle.repair_semantics.specs.Unmet.{is_lacking, is_content_lacking, item_places, is_conjunct_unmet, conjunct_places, first_place, unmet_places, is_unmet}
+use Rattle.repair_semantics.specs.Unmet.{is_lacking, is_content_lacking, item_places, is_conjunct_unmet, conjunct_places, first_place, unmet_places, unmet_at, is_unmet}
 use Rattle.template_match.proofs.ListLaws.{contains_later, find_some}
 use Rattle.mof_metamodel.proofs.Facts.{contains_first}
 use Rattle.source_laws.specs.Agreement.{AgreeBut}
@@ -189,7 +189,10 @@ module _ (program : Program) (ms ns : List ModelData) (agree : AgreeBut program.
       ∙ ap (λ ps. if is_conjunct_unmet program ns rel k c then places.Where (suc before) ∷ ps else ps)
       (conjunct_places_same k (suc before) cs (λ x among. there x (contains_later x c cs among)) fine)
 
+  pub unmet_at_same : (k : Known) → Fine k.scope → unmet_at program ms rel k ≡ unmet_at program ns rel k
+  unmet_at_same k fine =
+      ap (λ ps. first_place (ps ++ conjunct_places program ms rel k 0 rel.wheres)) (item_places_same k (target_items program rel) (item_expression program rel) fine)
+      ∙ ap (λ ps. first_place (item_places program ns rel k (target_items program rel) ++ ps)) (conjunct_places_same k 0 rel.wheres (λ c among. among) fine)
+
   pub unmet_same : (k : Known) → Fine k.scope → is_unmet program ms rel k ≡ is_unmet program ns rel k
-  unmet_same k fine =
-      ap (λ ps. is_some (first_place (ps ++ conjunct_places program ms rel k 0 rel.wheres))) (item_places_same k (target_items program rel) (item_expression program rel) fine)
-      ∙ ap (λ ps. is_some (first_place (item_places program ns rel k (target_items program rel) ++ ps))) (conjunct_places_same k 0 rel.wheres (λ c among. among) fine)
+  unmet_same k fine = ap is_some (unmet_at_same k fine)

@@ -251,7 +251,7 @@ module _ (metas : List MetaDesc) (program : Program) (sources : List ModelData) 
     pub source : TermSource program sources rel roots e.values
     pub has : HasRootsOf metas program sources rel roots
 
-  no_roots : (rel : Rel) → rel.top ≡ true → HasRootsOf metas program sources rel (no_values rel)
+  pub no_roots : (rel : Rel) → rel.top ≡ true → HasRootsOf metas program sources rel (no_values rel)
   no_roots rel top = record {
     of_domains = λ v x at. absurd (nothing_some x (sym (none_at (length rel.vars) v) ∙ at));
     data_values = λ v d at. absurd (nothing_some (values.Val d) (sym (none_at (length rel.vars) v) ∙ at));
@@ -263,7 +263,7 @@ module _ (metas : List MetaDesc) (program : Program) (sources : List ModelData) 
   of_relation : (e : Entry) (n : ℕ) (one other : Rel) → e.rel ≡ n → slice_get program.rels n ≡ Some one → slice_get program.rels e.rel ≡ Some other → IsRooted e one → IsRooted e other
   of_relation e n one other number at found rooted = subst (IsRooted e) (same_called one other (sym at ∙ ap (slice_get program.rels) (sym number) ∙ found)) rooted
 
-  call_found : (from : Entry) (c : EntryName) → Contains (entry_calls program sources from) c → (rel : Rel) × (slice_get program.rels from.rel ≡ Some rel)
+  pub call_found : (from : Entry) (c : EntryName) → Contains (entry_calls program sources from) c → (rel : Rel) × (slice_get program.rels from.rel ≡ Some rel)
   call_found from c within = by (slice_get program.rels from.rel) refl within
     where
       by : (o : Option Rel) → slice_get program.rels from.rel ≡ o
@@ -272,17 +272,21 @@ module _ (metas : List MetaDesc) (program : Program) (sources : List ModelData) 
       by None at (i, less, is) = absurd (omega (arith, less))
       by (Some rel) at there = (rel, at)
 
+  -- the relation that an entry calls is of the direction, and has the roots of the call
+  pub call_rooted : (from : Entry) (c : EntryName) (frel rel : Rel) → slice_get program.rels from.rel ≡ Some frel → IsRooted from frel → Contains (entry_calls program sources from) c
+      → slice_get program.rels c.rel ≡ Some rel → (rel.in_direction ≡ true) × HasRootsOf metas program sources rel (root_values rel c.roots)
+  call_rooted from c frel rel found rooted within at =
+      let m = where_made program sources from frel c found within in
+      let same : m.called ≡ rel = same_called m.called rel (sym m.found ∙ at) in (
+        ((over.well.relations from.rel frel found).calls rooted.direction).wheres c.rel rel (m.args, m.there) at,
+        subst (λ (r : Rel). HasRootsOf metas program sources r (root_values r c.roots)) same (call_roots from.rel frel found rooted.direction rooted.roots from.values rooted.source rooted.has c m),
+      )
+
   called_rooted : (e from : Entry) (c : EntryName) (frel rel : Rel) → slice_get program.rels from.rel ≡ Some frel → IsRooted from frel → Contains (entry_calls program sources from) c
       → slice_get program.rels c.rel ≡ Some rel → TermSource program sources rel (root_values rel c.roots) e.values → IsRooted e rel
   called_rooted e from c frel rel found rooted within at source =
-      let m = where_made program sources from frel c found within in
-      let same : m.called ≡ rel = same_called m.called rel (sym m.found ∙ at) in
-      record {
-        direction = ((over.well.relations from.rel frel found).calls rooted.direction).wheres c.rel rel (m.args, m.there) at;
-        roots = root_values rel c.roots;
-        source = source;
-        has = subst (λ (r : Rel). HasRootsOf metas program sources r (root_values r c.roots)) same (call_roots from.rel frel found rooted.direction rooted.roots from.values rooted.source rooted.has c m);
-      }
+      let (direction, has) = call_rooted from c frel rel found rooted within at in
+      record { direction = direction; roots = root_values rel c.roots; source = source; has = has }
 
   pub entry_rooted : (e : Entry) → IsEntry program sources e → (rel : Rel) → slice_get program.rels e.rel ≡ Some rel → IsRooted e rel
   entry_rooted e (IsEntry.of_top _ number rel matches top entry more) other found =

@@ -40,5 +40,4 @@ mod FoundLaws
 mod StandLaws
 mod SettledLaws
 mod EntriesRead
-mod EntriesMoved
 mod SecondLook

@@ -52,7 +52,7 @@ use Rattle.repair_laws.proofs.ImageReadings.{images_read}
 use Rattle.repair_laws.proofs.TermListLaws.{standing_terms}
 use Rattle.repair_laws.proofs.SameReadings.{second_changes_nothing}
 use Rattle.repair_laws.proofs.SettledLaws.{satisfied_is_settled}
-use Rattle.repair_laws.proofs.EntriesMoved.{entry_moved, demands_same}
+use Rattle.demand_sources.proofs.EntriesMoved.{entry_moved, demands_same}
 use Rattle.repair_laws.proofs.EntriesRead.{entries_read}
 
 -- ---- models with another target

@@ -1,4 +1,4 @@
--- The order of terms is total.
+-- The orders of terms and of values are total.
 use Rattle.std.specs.Prelude.{◌≡◌, List, [], ◌∷◌, map}
 use Rattle.std.specs.Cmp.{IsTotalOrder}
 use Rattle.std.specs.FinMap.{nat_cmp-IsAntisymmetric}
@@ -11,11 +11,11 @@ use Rattle.qvtr_semantics.specs.declared.datum.Datum.{Datum}
 use Rattle.ocl_eval.specs.Order.{datum_order}
 use Rattle.ocl_eval.specs.OrderLaws.{order_total, ties_where_same, same_decides}
 use Rattle.repair_semantics.specs.declared.term.Term.{Term, roll-Term, out-Term, roll-out-Term, map-Term, ind-Term}
-use Rattle.repair_semantics.specs.declared.term.TermValue.{TermValue, roll-TermValue, out-TermValue, out-roll-TermValue, roll-out-TermValue, map-TermValue}
+use Rattle.repair_semantics.specs.declared.term.TermValue.{TermValue, roll-TermValue, out-TermValue, out-roll-TermValue, roll-out-TermValue, map-TermValue, ind-TermValue}
 use Rattle.repair_semantics.specs.declared.term.TermValue.TheOpen as of
 use Rattle.repair_semantics.specs.Terms.{ValueOrder, TermOrder, keys_against, datum_against, term_against, terms_against, term_order, value_order}
 use Rattle.repair_semantics.proofs.TermLaws.{order_is, order_of_datum, order_of_term}
-use Rattle.repair_semantics.proofs.EntryOrderLaws.{terms_turned}
+use Rattle.repair_semantics.proofs.EntryOrderLaws.{values_turned, terms_turned}
 use Rattle.term_table.proofs.ComparedLaws.{tied_is}
 
 -- ---- comparisons in turn
@@ -128,6 +128,18 @@ pub terms_below : (t : Term) → TermBelow t
 terms_below = ind-Term ValueBelow TermBelow
     (λ x y is. subst (λ z. ValueBelow (roll-TermValue z)) is (value_below y))
     (λ x y is. subst (λ z. TermBelow (roll-Term z)) is (term_below y))
+
+values_below : (x : TermValue) → ValueBelow x
+values_below = ind-TermValue ValueBelow TermBelow
+    (λ x y is. subst (λ z. ValueBelow (roll-TermValue z)) is (value_below y))
+    (λ x y is. subst (λ z. TermBelow (roll-Term z)) is (term_below y))
+
+pub values_total : IsTotalOrder value_order
+values_total = record {
+  antisymm = values_turned;
+  trans = values_below;
+  congr = λ x y z h. ap (λ w. value_order w z) (tied_values x y h);
+}
 
 pub terms_total : IsTotalOrder term_order
 terms_total = record {

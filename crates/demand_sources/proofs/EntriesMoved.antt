@@ -1,5 +1,5 @@
 -- Entries are the same over models that agree but for the target, whose metamodel is the same, and so are their demands.
-use Rattle.std.specs.Prelude.{◌≡◌, ℕ, suc, Bool, true, false, length, List, [], ◌∷◌, ◌++◌, map, Option, None, Some, slice_get, Contains, if◌then◌else◌}
+use Rattle.std.specs.Prelude.{◌≡◌, ℕ, suc, Bool, true, false, length, List, [], ◌∷◌, ◌++◌, map, Option, None, Some, is_some, slice_get, Contains, if◌then◌else◌}
 use Rattle.std.specs.List.{filter_map, cons_option}
 use Rattle.std.specs.Option.{option_and_then, option_map_or}
 use Rattle.std.proofs.Common.{refl, ap, sym, ◌∙◌, subst, inl, inr}
@@ -21,19 +21,20 @@ use Rattle.enforceable_sources.proofs.EnforceableLaws.{enforceable_hands_on}
 use Rattle.source_laws.specs.Agreement.{AgreeBut}
 use Rattle.source_laws.specs.SourceValues.{HasNoTarget}
 use Rattle.source_laws.specs.TargetRule.{HasConjunct, IsExpressionOf, HandsTargetOn}
-use Rattle.source_laws.proofs.BindingLaws.{source_kept}
+use Rattle.source_laws.proofs.BindingLaws.{opposite, source_kept}
 use Rattle.source_laws.proofs.RuleLaws.{rule_keeps}
 use Rattle.entry_sources.proofs.ItemPlaces.{item_expression}
-use Rattle.entry_sources.proofs.MakingLaws.{scope_same, given_same, entry_known_same, made_same, unmet_same}
+use Rattle.entry_sources.proofs.MakingLaws.{scope_same, given_same, entry_known_same, made_same, unmet_at_same, unmet_same}
 use Rattle.repair_semantics.specs.declared.entry.Entry.{Entry}
 use Rattle.repair_semantics.specs.declared.entry.EntryName.{EntryName}
 use Rattle.repair_semantics.specs.EntryValues.{TermValues, data_in, no_values, root_values, Known, known, term_of, given_value}
 use Rattle.repair_semantics.specs.TargetItems.{Content, TargetItem, target_items, target_metamodel}
 use Rattle.repair_semantics.specs.Making.{entry_scope, entry_known, content_value}
-use Rattle.repair_semantics.specs.Unmet.{is_unmet}
+use Rattle.repair_semantics.specs.Unmet.{unmet_at, is_unmet}
 use Rattle.repair_semantics.specs.Demands.{demand_by, item_demand, item_demands, demands_where, entry_demands, demands_from, demands_of}
-use Rattle.repair_semantics.specs.Entries.{AreMatches, call_to, calls_in, calls_where, entry_calls, IsEntryWith, IsEntry}
-use Rattle.reading_laws.proofs.EntryRoots.{entry_rooted}
+use Rattle.repair_semantics.specs.Entries.{TermSource, AreMatches, call_to, calls_in, calls_where, entry_calls, IsEntryWith, IsEntry}
+use Rattle.reading_laws.specs.Roots.{HasRootsOf}
+use Rattle.reading_laws.proofs.EntryRoots.{no_roots, call_found, call_rooted, entry_rooted}
 use Rattle.reading_laws.proofs.MeetingTypes.{scope_apart}
 
 module _ (metas : List MetaDesc) (program : Program) (ms ns : List ModelData) (evaluable : IsEvaluable metas program ms) (enforceable : IsEnforceable metas program)
@@ -95,16 +96,17 @@ module _ (metas : List MetaDesc) (program : Program) (ms ns : List ModelData) (e
         ∙ ap (λ cs. if is_unmet program ns rel k then [] else filter_map (λ c. c) cs) (calls_same rel p.hands k fine rel.wheres (λ x has. inr has))
         ∙ ap (calls_where program ns rel) (entry_known_same program ms ns agree rel p.hands meta from.values p.fine)
 
-    calls_moved : (from : Entry) (call : EntryName) → IsEntry program ms from → Contains (entry_calls program ms from) call → Contains (entry_calls program ns from) call
-    calls_moved from call is has = by (slice_get program.rels from.rel) refl has
+    pub entry_calls_same : (from : Entry) → IsEntry program ms from → entry_calls program ms from ≡ entry_calls program ns from
+    entry_calls_same from is = by (slice_get program.rels from.rel) refl
       where
         by : (o : Option Rel) → slice_get program.rels from.rel ≡ o
-            → Contains (option_map_or (λ rel. calls_where program ms rel (entry_known program ms rel from.values)) o []) call
-            → Contains (option_map_or (λ rel. calls_where program ns rel (entry_known program ns rel from.values)) (slice_get program.rels from.rel) []) call
-        by None found there = subst (λ o. Contains (option_map_or (λ rel. calls_where program ns rel (entry_known program ns rel from.values)) o []) call) (sym found) there
-        by (Some rel) found there =
-            subst (λ o. Contains (option_map_or (λ r. calls_where program ns r (entry_known program ns r from.values)) o []) call) (sym found)
-            (subst (λ cs. Contains cs call) (where_same from rel (plain from rel is found)) there)
+            → option_map_or (λ rel. calls_where program ms rel (entry_known program ms rel from.values)) o []
+            ≡ option_map_or (λ rel. calls_where program ns rel (entry_known program ns rel from.values)) o []
+        by None found = refl
+        by (Some rel) found = where_same from rel (plain from rel is found)
+
+    calls_moved : (from : Entry) (call : EntryName) → IsEntry program ms from → Contains (entry_calls program ms from) call → Contains (entry_calls program ns from) call
+    calls_moved from call is has = subst (λ cs. Contains cs call) (entry_calls_same from is) has
 
     at_place : (e : Entry) (place : ℕ) (rel : Rel) (called : Bool) (roots : TermValues) (matches : List Entry) → IsEntryWith program ms place rel called roots matches e
         → slice_get program.rels place ≡ Some rel → slice_get program.rels e.rel ≡ Some rel
@@ -121,6 +123,53 @@ module _ (metas : List MetaDesc) (program : Program) (ms ns : List ModelData) (e
         (with_moved e call.rel rel true (root_values rel call.roots) matches
         (plain e rel (IsEntry.of_call e from call rel matches caller has found with are) (at_place e call.rel rel true (root_values rel call.roots) matches with found)) found with)
         (λ f c. entry_moved f (are f c))
+
+    -- ---- and back
+
+    source_back : (place : ℕ) (rel : Rel) → slice_get program.rels place ≡ Some rel → HandsTargetOn program rel → (roots b : TermValues) → TermSource program ns rel roots b → TermSource program ms rel roots b
+    source_back place rel found hands roots b s = record {
+      places = s.places;
+      extends = s.extends;
+      source = source_kept program ns ms (opposite program.target ms ns agree) place rel well.relations found (rule_keeps metas program well place rel found hands) (data_in roots) (data_in b) s.source;
+      terms = s.terms;
+      no_others = s.no_others;
+    }
+
+    with_back : (e : Entry) (place : ℕ) (rel : Rel) (called : Bool) (roots : TermValues) (matches : List Entry) → slice_get program.rels place ≡ Some rel → rel.in_direction ≡ true
+        → HasRootsOf metas program ms rel roots → IsEntryWith program ns place rel called roots matches e → IsEntryWith program ms place rel called roots matches e
+    with_back e place rel called roots matches found direction has with =
+        let hands : HandsTargetOn program rel = enforceable_hands_on metas program well place rel enforceable found direction in
+        let source : TermSource program ms rel roots e.values = source_back place rel found hands roots e.values with.source in
+        let fine : (v : ℕ) → HasNoTarget program.target (variable (scope_of (data_in e.values)) v) =
+        scope_apart metas program ms evaluable place rel found (rule_keeps metas program well place rel found hands) roots e.values source has in
+        record {
+          source = source;
+          whens = subst (λ cs. AreMatches program cs matches) (sym (calls_same rel hands (known e.values) fine rel.whens (λ x there. inl there))) with.whens;
+          is = with.is ∙ ap (λ (made : TermValues). let x : Entry = record { rel = place; called = called; values = e.values; made = made } in x) (sym (made_same program ms ns agree rel hands meta e.values fine));
+        }
+
+    pub entry_back : (e : Entry) → IsEntry program ns e → IsEntry program ms e
+    entry_back e (IsEntry.of_top _ place rel matches top with are) =
+        IsEntry.of_top e place rel matches top
+        (with_back e place rel false (no_values rel) matches top.is top.in_direction (no_roots metas program ms evaluable enforceable rel top.top) with)
+        (λ f c. entry_back f (are f c))
+    entry_back e (IsEntry.of_call _ from call rel matches caller has found with are) =
+        let before : IsEntry program ms from = entry_back from caller in
+        let calls : Contains (entry_calls program ms from) call = subst (λ cs. Contains cs call) (sym (entry_calls_same from before)) has in
+        let (frel, from_found) = call_found metas program ms evaluable enforceable from call calls in
+        let (direction, roots) = call_rooted metas program ms evaluable enforceable from call frel rel from_found (entry_rooted metas program ms evaluable enforceable from before frel from_found) calls found in
+        IsEntry.of_call e from call rel matches before calls found (with_back e call.rel rel true (root_values rel call.roots) matches found direction roots with) (λ f c. entry_back f (are f c))
+
+    -- the first place at which an entry is unmet, and whether it is
+    pub unmet_at_as : (e : Entry) (rel : Rel) → IsEntry program ms e → slice_get program.rels e.rel ≡ Some rel
+        → unmet_at program ms rel (entry_known program ms rel e.values) ≡ unmet_at program ns rel (entry_known program ns rel e.values)
+    unmet_at_as e rel is found =
+        let p : IsPlain e rel = plain e rel is found in
+        unmet_at_same program ms ns agree rel p.hands (entry_known program ms rel e.values) (fine_scope e rel p) ∙ ap (unmet_at program ns rel) (entry_known_same program ms ns agree rel p.hands meta e.values p.fine)
+
+    pub unmet_as : (e : Entry) (rel : Rel) → IsEntry program ms e → slice_get program.rels e.rel ≡ Some rel
+        → is_unmet program ms rel (entry_known program ms rel e.values) ≡ is_unmet program ns rel (entry_known program ns rel e.values)
+    unmet_as e rel is found = ap is_some (unmet_at_as e rel is found)
 
     -- ---- demands
 

@@ -1,0 +1,2 @@
+pub mod EntriesMoved
+pub mod ChainsMoved
