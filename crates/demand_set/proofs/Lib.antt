@@ -1,0 +1,4 @@
+mod EntryLists
+mod ListingLaws
+mod SetLaws
+mod ClashLaws
