@@ -1,0 +1,5 @@
+pub mod Examples
+pub mod FormLaws
+pub mod StepLaws
+pub mod TextLaws
+pub mod ValueLaws

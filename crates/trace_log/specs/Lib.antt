@@ -1,0 +1,5 @@
+pub mod Readings
+pub mod TraceEntries
+pub mod TraceForms
+pub mod TraceTexts
+pub mod TraceValues

@@ -1,0 +1,16 @@
+//! The trace of an enforcement (QVT 1.3, section 7.10.1): which relations held, with the values of their variables, what they made and
+//! what they demanded of the target, as one line of compact JSON (RFC 8259).
+//!
+//! Costs: reading takes time and memory by the length of the text.
+#![tactic(auto)]
+
+mod trace;
+mod trace_entries;
+mod trace_laws;
+mod trace_members;
+mod trace_reading;
+mod trace_values;
+
+pub use trace::{Trace, TraceDemand, TraceEntry, TraceError, TracePair, TraceTerm, TraceValue};
+pub use trace_laws::read_values_are_traces;
+pub use trace_reading::read_trace;
