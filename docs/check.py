@@ -9,8 +9,8 @@ What a document says is found by its marks:
 
 - A block ```console has commands behind `$ ` and below each what it prints. They run above a copy of examples/ (in an
   example's own README in a copy of its folder), with the program in reach as `qvtr`.
+- A block ```sh needs the toolchain and isn't run.
 - A block behind `<!-- file PATH -->` is that file, or lines of it that follow each other.
-- Behind `<!-- script -->` stands a whole script or the inside of a transformation, which has to be accepted.
 - A table behind `<!-- values -->` has expressions with their values. Each is a case of crates/evaluation_cases, and
   is asked of the program.
 - A table behind `<!-- refused KIND -->` has texts that are refused, with what is printed: the inside of a
@@ -38,10 +38,20 @@ def read(path):
         return file.read()
 
 
-def documents():
-    words = ['git', 'ls-files', '--cached', '--others', '--exclude-standard', '*.md']
+def listed(pattern):
+    words = ['git', 'ls-files', '--cached', '--others', '--exclude-standard', pattern]
     found = subprocess.run(words, cwd=TOP, text=True, stdout=subprocess.PIPE, check=True).stdout.split()
     return sorted(path for path in found if os.path.exists(os.path.join(TOP, path)))
+
+
+def documents():
+    return listed('*.md')
+
+
+def example_files():
+    """The files of examples but for those that are copies."""
+    copies = {'examples/classes_to_tables/' + name for name in COPIES}
+    return [path for path in listed('examples/*') if not path.endswith('.md') and path not in copies]
 
 
 class Faults:
@@ -149,8 +159,6 @@ def check_blocks(faults, path, text, program):
                     faults.say(where, f'stands not so in {mark[5:]}')
             if program and language == 'console':
                 run_block(faults, where, block, program, start)
-            if program and mark.startswith('script'):
-                check_script(faults, where, block, program)
 
 
 # ---- expressions and scripts over two small models
@@ -213,22 +221,6 @@ def check_values(faults, path, text, program):
             faults.say(where, 'is no case of crates/evaluation_cases with this value')
         if program:
             faults.compare(where, 'yes\n', answer(program, value_script(expression, value)))
-
-
-LANGUAGE = 'examples/language'
-
-
-def check_script(faults, where, block, program):
-    """A script over the models of examples/language, or the inside of one."""
-    head = 'transformation T (left : Trees, right : Trees) {\n'
-    script = block if 'transformation' in block else head + block + '}\n'
-    names = [name for name in os.listdir(os.path.join(TOP, LANGUAGE)) if not name.endswith('.md')]
-    files = {name: read(f'{LANGUAGE}/{name}') for name in names}
-    files['words'] = 'check s.qvtr right Trees=trees.emof left=left.xmi right=right.xmi'
-    printed = answer(program, script, files)
-    faults.done += 1
-    if printed.startswith(('refused', 'usage', 'fault', 'limit')):
-        faults.say(where, f'is answered {printed}')
 
 
 def check_refused(faults, path, text, program):
@@ -335,6 +327,8 @@ def main():
         check_values(faults, path, text, program)
         if program:
             check_refused(faults, path, text, program)
+    for path in example_files():
+        check_lines(faults, path, read(path))
     check_copies(faults)
     for script in ('statement.py', 'crates.py'):
         faults.done += 1
