@@ -202,8 +202,16 @@ def head_of_code(crate):
 
 
 def new_head(crate):
-    paragraphs = re.split(r'\n\s*\n', head_of_code(crate))
-    return f'# {crate}\n\n' + ''.join('\n'.join(bullet('', p)) + '\n\n' for p in paragraphs)
+    """The head of a page by that of the code. Tables stay in the code."""
+    lines = [f'# {crate}', '']
+    for paragraph in re.split(r'\n\s*\n', head_of_code(crate)):
+        if paragraph.startswith('|'):
+            continue
+        for part in re.split(r'\n(?=- )', paragraph):
+            first = '- ' if part.startswith('- ') else ''
+            lines += bullet(first, ' '.join(part[len(first):].split()))
+        lines.append('')
+    return '\n'.join(lines) + '\n'
 
 
 def main():
