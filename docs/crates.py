@@ -54,6 +54,7 @@ def bullet(first, text):
 
 ITEM = re.compile(r'((?:^[ \t]*///.*\n)*)((?:^[ \t]*#\[.*\]\n)*)'
                   r'^([ \t]*)pub (?:const )?(fn|struct|enum|trait|const|type) (\w+)', re.M)
+INNER_LAW = re.compile(r'((?:^///.*\n)+)^(?:pub\(\w+\) )?fn (\w+)\(\)\n(?:^    .*\n)*^\{\}$', re.M)
 OWNER = re.compile(r'^(?:impl|pub trait)\b(?:<[^{]*?>)? ?(?:\w+ for )?(\w+)', re.M)
 
 
@@ -112,6 +113,10 @@ def laws(crate):
         if kind == 'fn' and law and owner is None:
             private = '' if name in names else ', private'
             lines += bullet('- ', f'`{name}` ({path}{private})' + (f': {text}.' if text else '.'))
+    for path in files(crate, 'src', '.rt'):
+        for comment, name in INNER_LAW.findall(read('crates', crate, path)):
+            text = sentence(re.sub(r'^///', '', comment, flags=re.M))
+            lines += bullet('- ', f'`{name}` ({path}, private): {text}.')
     return lines
 
 
