@@ -2,7 +2,7 @@
 """Checks the documents: their lines, their links, and that each command prints what they say.
 
     python3 docs/check.py PROGRAM     all that needs no proof; PROGRAM is the built program
-    python3 docs/check.py             lines, links and copies alone
+    python3 docs/check.py             lines, links, names and copies alone
     python3 docs/check.py --cases     writes the examples into the cases of crates/engine_cases
 
 What a document says is found by its marks:
@@ -110,6 +110,26 @@ def check_paths(faults, path, text):
         places = ('crates/' + name, 'crates/' + name + '.antt', name)
         if not any(os.path.exists(os.path.join(TOP, place)) for place in places):
             faults.say(path, f'no such file: {name}')
+
+
+def words_of_code():
+    """Each word of code and definitions, and each name of a crate, a folder or a file."""
+    words = set()
+    for path in listed('crates/*'):
+        words.update(re.findall(r'\w+', path))
+        if path.endswith(('.rt', '.antt')):
+            words.update(re.findall(r'\w+', read(path)))
+    return words
+
+
+def check_names(faults, path, text, words):
+    """Names of the pages on code are there."""
+    if path not in ('docs/PROVED.md', 'docs/DESIGN.md') and not path.startswith('docs/crates/'):
+        return
+    for name in re.findall(r'`([A-Za-z_]\w*(?:(?:::|\.)\w+)*)`', without_blocks(text)):
+        faults.done += 1
+        if not words.issuperset(re.findall(r'\w+', name)):
+            faults.say(path, f'no such name: {name}')
 
 
 # ---- blocks
@@ -317,12 +337,13 @@ def main():
         write_cases()
         return
     program = os.path.abspath(sys.argv[1]) if len(sys.argv) > 1 else None
-    faults = Faults()
+    faults, words = Faults(), words_of_code()
     for path in documents():
         text = read(path)
         check_lines(faults, path, text)
         check_links(faults, path, text)
         check_paths(faults, path, text)
+        check_names(faults, path, text, words)
         check_blocks(faults, path, text, program)
         check_values(faults, path, text, program)
         if program:
