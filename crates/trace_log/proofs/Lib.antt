@@ -1,5 +1,14 @@
+pub mod DataLaws
 pub mod Examples
 pub mod FormLaws
+pub mod HeightLaws
+pub mod HeldLaws
+pub mod LineLaws
+pub mod Refuting
+pub mod ReturnLaws
+pub mod SpellingLaws
 pub mod StepLaws
+pub mod TermLaws
 pub mod TextLaws
+pub mod TokenLaws
 pub mod ValueLaws
