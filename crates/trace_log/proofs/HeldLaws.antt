@@ -40,10 +40,12 @@ source_form model id h k =
 mutual
   pub value_form : (v : TraceValue) → IsHeldValue v → IsValue (value_data v) v
   value_form v (IsHeldValue.text s h) = subst (λ d. IsValue d (values.Str s)) (sym (str_data s)) (text_form s h)
-  value_form v (IsHeldValue.integer i h) = subst (λ d. IsValue d (values.Int i)) (sym (int_data i)) (IsValue.integer (of_integer i) i (integer_is i h))
+  value_form v (IsHeldValue.integer i h) =
+      subst (λ d. IsValue d (values.Int i)) (sym (int_data i)) (IsValue.integer (of_integer i) i (integer_is i h))
   value_form v (IsHeldValue.flag b) = subst (λ d. IsValue d (values.Bool b)) (sym (bool_data b)) (IsValue.flag b)
   value_form v (IsHeldValue.literal s h) = subst (λ d. IsValue d (values.Lit s)) (sym (lit_data s)) (literal_form s h)
-  value_form v (IsHeldValue.source model id h k) = subst (λ d. IsValue d (values.Obj model id)) (sym (obj_data model id)) (source_form model id h k)
+  value_form v (IsHeldValue.source model id h k) =
+      subst (λ d. IsValue d (values.Obj model id)) (sym (obj_data model id)) (source_form model id h k)
   value_form v (IsHeldValue.target t h) = subst (λ d. IsValue d (values.Term t)) (sym (target_data t)) (IsValue.target (term_data t) t (term_form t h))
 
   pub term_form : (t : TraceTerm) → IsHeldTerm t → IsTerm (term_data t) t
@@ -71,18 +73,21 @@ all_form f Is Held forms (x ∷ xs) h = (forms x (h 0 x (omega arith)), all_form
 demand_form : (x : TraceDemand) → IsHeldDemand x → IsDemand (demand_data x) x
 demand_form x h =
     subst (λ n. IsDemand (demand_data x) (record { item = n; place = x.place; value = x.value })) h.item
-    (IsDemand.demand (encode_utf8_all x.item) (term_data x.place) (value_data x.value) x.place x.value (term_form x.place h.place) (value_form x.value h.value))
+    (IsDemand.demand (encode_utf8_all x.item) (term_data x.place) (value_data x.value) x.place x.value (term_form x.place h.place)
+    (value_form x.value h.value))
 
 entry_form : (x : TraceEntry) → IsHeldEntry x → IsEntry (entry_data x) x
 entry_form x h =
     subst (λ n. IsEntry (entry_data x) (record { relation = n; called = x.called; values = x.values; made = x.made; demands = x.demands })) h.relation
-    (IsEntry.entry x.called (items_of (map demand_data x.demands)) (items_of (map pair_data x.made)) (items_of (map pair_data x.values)) (encode_utf8_all x.relation)
-    x.demands x.made x.values (all_form demand_data IsDemand IsHeldDemand demand_form x.demands h.demands) (pairs_form x.made h.made) (pairs_form x.values h.values))
+    (IsEntry.entry x.called (items_of (map demand_data x.demands)) (items_of (map pair_data x.made)) (items_of (map pair_data x.values))
+    (encode_utf8_all x.relation) x.demands x.made x.values (all_form demand_data IsDemand IsHeldDemand demand_form x.demands h.demands)
+    (pairs_form x.made h.made) (pairs_form x.values h.values))
 
 -- what is written of a trace is this trace
 pub trace_form : (t : Trace) → IsHeld t → IsTrace (trace_data t) t
 trace_form t h =
     subst (λ n. IsTrace (trace_data t) (record { transformation = n; target = t.target; entries = t.entries })) h.transformation
-    (subst (λ n. IsTrace (trace_data t) (record { transformation = chars (encode_utf8_all t.transformation); target = n; entries = t.entries })) h.target
+    (subst (λ n. IsTrace (trace_data t) (record { transformation = chars (encode_utf8_all t.transformation); target = n; entries = t.entries }))
+    h.target
     (IsTrace.trace (items_of (map entry_data t.entries)) (encode_utf8_all t.target) (encode_utf8_all t.transformation) t.entries
     (all_form entry_data IsEntry IsHeldEntry entry_form t.entries h.entries)))

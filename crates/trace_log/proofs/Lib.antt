@@ -3,7 +3,9 @@ pub mod Examples
 pub mod FormLaws
 pub mod HeightLaws
 pub mod HeldLaws
+pub mod LeftLaws
 pub mod LineLaws
+pub mod LoopLaws
 pub mod Refuting
 pub mod ReturnLaws
 pub mod SpellingLaws

@@ -24,9 +24,11 @@ lexemes_of bad = []
 string_lexed : (s rest : List ℕ) → lex between (quoted s ++ rest) ≡ token (string s) ∷ lex between rest
 unfolding lex
 string_lexed s rest =
-    ap (λ l. lex between (34 ∷ l)) (append_assoc (escape s) (34 ∷ []) rest) ∙ ap₂ (λ o l. token (string_token o) ∷ l) (content-escape s rest) (lex-escape s rest)
+    ap (λ l. lex between (34 ∷ l)) (append_assoc (escape s) (34 ∷ []) rest)
+    ∙ ap₂ (λ o l. token (string_token o) ∷ l) (content-escape s rest) (lex-escape s rest)
 
-token_lexed : (t : Token) (rest : List ℕ) → IsPrintable t → (ends t ≡ true → ends_word rest ≡ true) → lex between (token_text t ++ rest) ≡ lexemes_of t ++ lex between rest
+token_lexed : (t : Token) (rest : List ℕ) → IsPrintable t → (ends t ≡ true → ends_word rest ≡ true)
+    → lex between (token_text t ++ rest) ≡ lexemes_of t ++ lex between rest
 unfolding lex word
 token_lexed begin_object rest h ended = refl
 token_lexed end_object rest h ended = refl
@@ -65,7 +67,8 @@ abbrev lexemes : Bool → List Token → List Lexeme → List Lexeme
 lexemes c [] more = more
 lexemes c (t ∷ ts) more = cond (c && begins t) (comma ∷ []) [] ++ (lexemes_of t ++ lexemes (ends t) ts more)
 
-all_lexed : (c : Bool) (ts : List Token) (more : List ℕ) → ArePrintable ts → ends_word more ≡ true → lex between (print_from c ts ++ more) ≡ lexemes c ts (lex between more)
+all_lexed : (c : Bool) (ts : List Token) (more : List ℕ) → ArePrintable ts → ends_word more ≡ true
+    → lex between (print_from c ts ++ more) ≡ lexemes c ts (lex between more)
 unfolding print_from ArePrintable
 all_lexed c [] more h e = refl
 all_lexed c (t ∷ ts) more h e =

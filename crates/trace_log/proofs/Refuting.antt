@@ -32,7 +32,8 @@ literal_as_text : (s : List ℕ) → value_data (values.Lit s) ≡ value_data (v
 literal_as_text s e = let wrong : ◌≡◌ {A = ℕ} 101 115 = ap first_letter (sym (lit_data s) ∙ e ∙ str_data s) in omega arith
 
 -- the demands of an entry are left out
-no_demands : (x : TraceEntry) (called made : Data) (ms : Members) → entry_data x ≡ object (member (codes "called") called (member (codes "made") made ms)) → ⊥
+no_demands : (x : TraceEntry) (called made : Data) (ms : Members)
+    → entry_data x ≡ object (member (codes "called") called (member (codes "made") made ms)) → ⊥
 no_demands x called made ms e = let wrong : ◌≡◌ {A = ℕ} 100 109 = ap second_letter e in omega arith
 
 -- a transformation stands before its entries

@@ -62,7 +62,8 @@ mutual
   value_returns v (IsHeldValue.literal s h) = subst Returns (sym (lit_data s)) (one_returns (codes "e") (text_data s) (text_returns s))
   value_returns v (IsHeldValue.source model id h k) =
       subst Returns (sym (obj_data model id))
-      (one_returns (codes "o") (two (text_data model) (text_data id)) (two_return (text_data model) (text_data id) (text_returns model) (text_returns id)))
+      (one_returns (codes "o") (two (text_data model) (text_data id))
+      (two_return (text_data model) (text_data id) (text_returns model) (text_returns id)))
   value_returns v (IsHeldValue.target t h) = subst Returns (sym (target_data t)) (one_returns (codes "t") (term_data t) (term_returns t h))
 
   term_returns : (t : TraceTerm) → IsHeldTerm t → Returns (term_data t)

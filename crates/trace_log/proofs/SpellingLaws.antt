@@ -36,17 +36,28 @@ line_read : (d : Data) → Returns d → depth d ≤ max_depth → read (print (
 line_read d h shallow =
     let same = same_depth d in
     let ts = line_tokens (data_tokens d) (ArePrintable-json_tokens (outline d) h.numbers) in
-    ap whole (ap (json.value max_depth) (ts ∙ sym (append-nil (data_tokens d))) ∙ value-json_tokens (outline d) max_depth [] (omega (arith, same, shallow)))
+    ap whole (ap (json.value max_depth) (ts ∙ sym (append-nil (data_tokens d)))
+    ∙ value-json_tokens (outline d) max_depth [] (omega (arith, same, shallow)))
     ∙ h.back
 
+-- the tokens with a line feed behind them are the text
+pub text_is : (t : Trace) (ts : List Token) (line : List ℕ) → ts ≡ data_tokens (trace_data t) → line ≡ print ts → line ++ 10 ∷ [] ≡ text_of_trace t
+text_is t ts line same e = ap (λ (text : List ℕ). text ++ 10 ∷ []) (e ∙ ap print same ∙ print-outline (trace_data t))
+
 -- the text of a trace without high terms is this trace
-pub spelled : (t : Trace) → IsHeld t → IsUtf8 (print (data_tokens (trace_data t))) → IsLow t → SpellsTrace (text_of_trace t) t
-spelled t h utf8 low =
+pub spelled : (t : Trace) (ts : List Token) → ts ≡ data_tokens (trace_data t) → IsHeld t → IsUtf8 (print ts) → IsLow t
+    → SpellsTrace (text_of_trace t) t
+spelled t ts same h utf8 low =
     let d = trace_data t in
     let line = print (data_tokens d) in
-    let spelled : IsUtf8 (line ++ 10 ∷ []) = IsUtf8-append line (10 ∷ []) utf8 (IsUtf8-are_ascii (10 ∷ []) refl) in
+    let spelt : IsUtf8 line = subst (λ (us : List Token). IsUtf8 (print us)) same utf8 in
+    let spelled : IsUtf8 (line ++ 10 ∷ []) = IsUtf8-append line (10 ∷ []) spelt (IsUtf8-are_ascii (10 ∷ []) refl) in
     subst (λ (text : List ℕ). SpellsTrace (text ++ 10 ∷ []) t) (print-outline d)
-    (record { value = d; read = read_text (line ++ 10 ∷ []) d spelled (line_read d (trace_returns t h) (trace_below t h low)); form = trace_form t h })
+    (record {
+      value = d;
+      read = read_text (line ++ 10 ∷ []) d spelled (line_read d (trace_returns t h) (trace_below t h low));
+      form = trace_form t h;
+    })
 
 -- bytes are no two traces
 pub one_spelled : (bytes : List ℕ) (t u : Trace) → SpellsTrace bytes t → SpellsTrace bytes u → t ≡ u

@@ -37,8 +37,8 @@ begun_term v t ps old new is keys e =
 pub held_term : (t : TraceTerm) (ps : List TracePair) → ps ≡ (out-TraceTerm t).keys → IsText (out-TraceTerm t).class → AreHeldPairs ps → IsHeldTerm t
 held_term t ps keys h hs = subst IsHeldTerm (sym (term_is t ps keys)) (IsHeldTerm.keyed (out-TraceTerm t).class ps h hs)
 
-pub held_target : (v : TraceValue) (t : TraceTerm) (ps : List TracePair) → v ≡ values.Term t → ps ≡ (out-TraceTerm t).keys → IsText (out-TraceTerm t).class
-    → AreHeldPairs ps → IsHeldValue v
+pub held_target : (v : TraceValue) (t : TraceTerm) (ps : List TracePair) → v ≡ values.Term t → ps ≡ (out-TraceTerm t).keys
+    → IsText (out-TraceTerm t).class → AreHeldPairs ps → IsHeldValue v
 held_target v t ps is keys h hs = subst IsHeldValue (sym is) (IsHeldValue.target t (held_term t ps keys h hs))
 
 -- a pair whose name and value are written
@@ -50,7 +50,8 @@ pub held_pair : (p : TracePair) → IsText (out-TracePair p).name → IsHeldValu
 held_pair p h k = subst IsHeldPair (sym (pair_is p)) (IsHeldPair.named (out-TracePair p).name (out-TracePair p).value h k)
 
 -- a pair up to what is left of its value, and then all of it
-pub begun_pair : (p : TracePair) (old named begun rest : List Token) → named ≡ old ++ (begin_array ∷ string (encode_utf8_all (out-TracePair p).name) ∷ [])
+pub begun_pair : (p : TracePair) (old named begun rest : List Token)
+    → named ≡ old ++ (begin_array ∷ string (encode_utf8_all (out-TracePair p).name) ∷ [])
     → begun ++ rest ≡ named ++ data_tokens (value_data (out-TracePair p).value) → (begun ++ rest) ++ end_array ∷ [] ≡ old ++ data_tokens (pair_data p)
 begun_pair p old named begun rest e f =
     let value = data_tokens (value_data (out-TracePair p).value) in

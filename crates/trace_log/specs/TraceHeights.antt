@@ -43,7 +43,8 @@ abbrev pub height_of_demand : TraceDemand → ℕ
 height_of_demand x = max (height_of_term x.place) (height_of_value x.value)
 
 abbrev pub height_of_entry : TraceEntry → ℕ
-height_of_entry x = max (greatest (map height_of_pair x.values)) (max (greatest (map height_of_pair x.made)) (greatest (map height_of_demand x.demands)))
+height_of_entry x =
+    max (greatest (map height_of_pair x.values)) (max (greatest (map height_of_pair x.made)) (greatest (map height_of_demand x.demands)))
 
 -- the greatest height of a term in a trace
 abbrev pub height : Trace → ℕ

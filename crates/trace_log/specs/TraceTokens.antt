@@ -29,21 +29,28 @@ term_end = end_array ∷ end_array ∷ end_object ∷ []
 abbrev pub pair_end : List Token
 pair_end = end_array ∷ end_array ∷ end_object ∷ end_array ∷ []
 
--- the pairs of a term that are left to be written, and what stands behind them; nothing, where there is no term
-abbrev pub keys_left : List Token → Option (Bor (List TracePair)) → List Token
+-- the pairs of a term that are left to be written
+abbrev pub Keys : Type 0
+Keys = Bor (List TracePair)
+
+-- the same of terms that stand within one another, the innermost last
+abbrev pub Left : Type 0
+Left = List Keys
+
+-- the tokens of these pairs, and what stands behind them; nothing, where there is no term
+abbrev pub keys_left : List Token → Option Keys → List Token
 keys_left behind None = []
 keys_left behind (Some pairs) = pairs_tokens pairs.now ++ behind
 
--- the same of terms that stand within one another, the innermost last
-abbrev pub left_tokens : List (Bor (List TracePair)) → List Token
+abbrev pub left_tokens : Left → List Token
 left_tokens [] = []
 left_tokens (pairs ∷ inner) = left_tokens inner ++ (pairs_tokens pairs.now ++ pair_end)
 
-abbrev pub AreHeldKeys : Option (Bor (List TracePair)) → Type 0
+abbrev pub AreHeldKeys : Option Keys → Type 0
 AreHeldKeys None = Unit {0}
 AreHeldKeys (Some pairs) = AreHeldPairs pairs.now
 
 -- all of these pairs are held
-abbrev pub AreAllHeld : List (Bor (List TracePair)) → Type 0
+abbrev pub AreAllHeld : Left → Type 0
 AreAllHeld [] = Unit {0}
 AreAllHeld (pairs ∷ inner) = AreHeldPairs pairs.now × AreAllHeld inner

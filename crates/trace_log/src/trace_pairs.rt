@@ -1,6 +1,5 @@
 //! The values of a trace, written as JSON.
-ghost use Rattle.std.specs.Prelude.{◌≡◌, ◌∷◌, ◌++◌, ◌<◌, [], FitsSigned, length, map, codes, OnOk, IfOk, encode_utf8_all};
-ghost use Rattle.std.specs.Int.{w64};
+ghost use Rattle.std.specs.Prelude.{◌≡◌, ◌∷◌, ◌++◌, ◌<◌, [], length, map, codes, OnOk, IfOk, encode_utf8_all};
 ghost use Rattle.json.specs.Token.{begin_object, end_object, begin_array, end_array, key, string};
 ghost use Rattle.serde_json.specs.Data.{boolean, number};
 ghost use Rattle.serde_json.specs.Find.{of_integer};
@@ -45,8 +44,7 @@ fn write_named(writer: &mut Writer, kind: &str, text: &Text) -> Result<(), NoMem
 
 /// An integer.
 fn write_integer(writer: &mut Writer, integer: i64) -> Result<(), NoMemory>
-    ensures tokens { Appends result writer.old writer.new (data_tokens (one (codes "i") (number (of_integer integer)))) }
-    ensures fits { FitsSigned w64 integer }
+    ensures { Appends result writer.old writer.new (data_tokens (one (codes "i") (number (of_integer integer)))) }
 {
     begin_member(writer, "i")?;
     writer.i64(integer)?;
