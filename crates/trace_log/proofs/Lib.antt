@@ -1,5 +1,16 @@
+pub mod DataLaws
 pub mod Examples
 pub mod FormLaws
+pub mod HeightLaws
+pub mod HeldLaws
+pub mod LeftLaws
+pub mod LineLaws
+pub mod LoopLaws
+pub mod Refuting
+pub mod ReturnLaws
+pub mod SpellingLaws
 pub mod StepLaws
+pub mod TermLaws
 pub mod TextLaws
+pub mod TokenLaws
 pub mod ValueLaws

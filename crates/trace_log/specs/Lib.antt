@@ -1,5 +1,9 @@
 pub mod Readings
+pub mod TraceData
 pub mod TraceEntries
 pub mod TraceForms
+pub mod TraceHeights
+pub mod TraceHeld
 pub mod TraceTexts
+pub mod TraceTokens
 pub mod TraceValues

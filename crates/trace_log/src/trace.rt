@@ -1,5 +1,8 @@
 use mof_metamodel::{NoMemory, Seq, Text};
 
+/// The greatest height of a term in a trace whose text is read back: a term is one higher than the highest among the values of its key.
+pub const MAX_HEIGHT: usize = 30;
+
 /// The trace of an enforcement: a transformation in the direction of its target, and its entries in their order.
 #[derive(Drop)]
 pub struct Trace {
