@@ -1,0 +1,17 @@
+mod Lists
+mod Orders
+mod HeldOrder
+mod IdentifierLaws
+mod FreshIds
+mod Contents
+mod Made
+mod ImageObjects
+mod Numbers
+mod FactClaims
+mod DemandClaims
+mod MadeSlots
+mod ValuesKept
+mod LinksKept
+mod ObjectsKept
+mod Keeping
+mod Examples
