@@ -1,0 +1,3 @@
+pub mod Counterparts
+pub mod Unlinked
+pub mod Filling
