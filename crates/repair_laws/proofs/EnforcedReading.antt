@@ -76,20 +76,24 @@ module _ (metas : List MetaDesc) (program : Program) (sources : List ModelData) 
   pub tells_enforced : TellsByKeys program m
   tells_enforced = tells_by_keys metas program all.evaluable.well all.enforceable m all.described all.well
 
+  -- the sources have a model of the target's metamodel at the target
+  pub target_there : (before : ModelData) × (slice_get sources program.target ≡ Some before) × (before.meta ≡ m.meta)
+  target_there = by (slice_get sources program.target) refl
+    where
+      by : (o : Option ModelData) → slice_get sources program.target ≡ o → (before : ModelData) × (slice_get sources program.target ≡ Some before) × (before.meta ≡ m.meta)
+      by None none =
+          let empty : no_metamodel ≡ m.meta = sym (ap (λ (x : Option ModelData). option_map_or (λ n. n.meta) x no_metamodel) none) ∙ all.metamodel in
+          absurd (true≢false (sym (subst (λ (x : MetaDesc). IsTrue (is_name x.name)) (sym empty) all.well.names.metamodel)))
+      by (Some before) found = (before, found, sym (ap (λ (x : Option ModelData). option_map_or (λ n. n.meta) x no_metamodel) found) ∙ all.metamodel)
+
   module _ (typed : HaveTypedData metas program sources) where
     pub all_go : (d : Demand) → Contains demands d → GoesInto program m d
-    all_go d c = by (slice_get sources program.target) refl
-      where
-        by : (o : Option ModelData) → slice_get sources program.target ≡ o → GoesInto program m d
-        by None none =
-            let empty : no_metamodel ≡ m.meta = sym (ap (λ (x : Option ModelData). option_map_or (λ n. n.meta) x no_metamodel) none) ∙ all.metamodel in
-            absurd (true≢false (sym (subst (λ (x : MetaDesc). IsTrue (is_name x.name)) (sym empty) all.well.names.metamodel)))
-        by (Some before) found =
-            let a = asked_entry metas program all.evaluable.well all.enforceable sources m all.metamodel all.described entries all.are all.met d c in
-            let entry = all.are.only a.e a.among in
-            goes_into metas program sources all.evaluable all.enforceable m before
-            (sym (ap (λ (x : Option ModelData). option_map_or (λ n. n.meta) x no_metamodel) found) ∙ all.metamodel) all.described found demands d entries a entry
-            (good metas program all.evaluable.well all.enforceable sources m all.metamodel all.described entries all.are all.met a.e entry a.rel a.found) (typed a.e a.rel entry a.found)
+    all_go d c =
+        let (before, found, same) = target_there in
+        let a = asked_entry metas program all.evaluable.well all.enforceable sources m all.metamodel all.described entries all.are all.met d c in
+        let entry = all.are.only a.e a.among in
+        goes_into metas program sources all.evaluable all.enforceable m before same all.described found demands d entries a entry
+        (good metas program all.evaluable.well all.enforceable sources m all.metamodel all.described entries all.are all.met a.e entry a.rel a.found) (typed a.e a.rel entry a.found)
 
     module _ (valid : Valid m) (valid_made : Valid (candidate program m demands)) (few : length (fresh_terms program m (demanded_terms demands)) + length m.objects ≤ 2 ^ 64) where
       pub enforced_reads : IsReading program (candidate program m demands) (demanded_terms demands) (term_number program m (demanded_terms demands))

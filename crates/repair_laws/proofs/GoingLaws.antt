@@ -1,5 +1,5 @@
 -- What the entries of a program that can be enforced demand goes into its slot, where the data of entries are of their types.
-use Rattle.std.specs.Prelude.{◌≡◌, ◌<◌, ◌⊎◌, ℕ, zero, suc, true, false, List, length, Option, None, Some, slice_get, Contains}
+use Rattle.std.specs.Prelude.{◌≡◌, ◌<◌, ◌⊎◌, ℕ, zero, suc, true, List, length, Option, None, Some, slice_get, Contains}
 use Rattle.std.specs.Option.{option_and_then}
 use Rattle.std.proofs.Common.{refl, ap, sym, ◌∙◌, subst, arith, inl, inr, true≢false}
 use Rattle.std.proofs.lemmas.Option.{none-some, same_Some}
@@ -12,7 +12,7 @@ use Rattle.mof_metamodel.proofs.PropLemmas.{owner_listed, listed_has, prop_known
 use Rattle.mof_metamodel.proofs.ReachLemmas.{conforms_through}
 use Rattle.mof_metamodel.proofs.WellLemmas.{conforms_listed}
 use Rattle.object_tables.specs.declared.value.Value.{Value}
-use Rattle.object_tables.specs.Models.{ModelData, is_class_type}
+use Rattle.object_tables.specs.Models.{ModelData, is_class_type, is_value_of}
 use Rattle.ocl_environments.specs.Environments.{meta_at}
 use Rattle.qv_syntax.specs.declared.query.ModelSlot.{ModelSlot}
 use Rattle.qv_syntax.specs.declared.ty.Ty.TheVariants as types
@@ -62,7 +62,7 @@ use Rattle.repair_semantics.specs.EntryValues.{TermValues, value_of, data_in, va
 use Rattle.repair_semantics.specs.TargetItems.{Content, target_meta_number, class_of_variable}
 use Rattle.repair_semantics.specs.Making.{equation_of, by_equation, scope_within, entry_scope, content_value, entry_known}
 use Rattle.repair_semantics.specs.Entries.{IsEntry}
-use Rattle.repair_laws.specs.Going.{IsSeen, GoesInto}
+use Rattle.repair_laws.specs.Going.{GoesInto}
 use Rattle.repair_laws.proofs.ItemParts.{IsOfTargetDomain, target_item, expression_value, template_value}
 use Rattle.repair_laws.proofs.ManagedLaws.{lineage_conforms, meta_found, slot_at, numbers_agree, declared_class}
 use Rattle.repair_laws.proofs.MadeTerms.{IsKnownBy, known_within, known_cases}
@@ -100,7 +100,7 @@ module _ (metas : List MetaDesc) (program : Program) (sources : List ModelData) 
   abbrev k : Known
   k = entry_known program sources a.rel a.e.values
 
-  p : IsOfTargetDomain program rel a.item
+  pub p : IsOfTargetDomain program rel a.item
   p = target_item program rel a.item a.there
 
   rel_there : Contains program.rels rel
@@ -114,7 +114,7 @@ module _ (metas : List MetaDesc) (program : Program) (sources : List ModelData) 
   template : IsTemplateOf p.dom p.listed.template
   template = record { root = p.root; has = p.has; nested = p.listed.nested }
 
-  typed : IsItemTyped metas program rel domain.model domain.slot.meta p.listed.template p.listed.item
+  pub typed : IsItemTyped metas program rel domain.model domain.slot.meta p.listed.template p.listed.item
   typed = (evaluable.well.typed.relations rel rel_there).items p.dom domain p.listed.template p.listed.item template p.listed.has
 
   slot_meta : domain.slot.meta ≡ target_meta program
@@ -131,7 +131,7 @@ module _ (metas : List MetaDesc) (program : Program) (sources : List ModelData) 
       ap (λ x. is_class_type (type_of x p.listed.item.prop.0)) (sym (described h.m h.has.meta h.has.found number))
       ∙ ap is_class_type h.typed ∙ class_value h.m h.of n c (sym h.value ∙ is)
 
-  same_prop : p.listed.item.prop.0 ≡ d.prop.0
+  pub same_prop : p.listed.item.prop.0 ≡ d.prop.0
   same_prop = ap (λ (x : PropId). x.0) (p.listed.prop ∙ sym a.prop)
 
   -- ---- the property is one of the owner's class
@@ -163,7 +163,8 @@ module _ (metas : List MetaDesc) (program : Program) (sources : List ModelData) 
 
   -- ---- a term stands at a reference
 
-  target_class : (w : ℕ) (x : TermValue) (t : Term) → value_of k.values w ≡ Some x → term_in x ≡ Some t → (var : Var) × (slice_get rel.vars w ≡ Some var) × ((n : ℕ) × (c : ClassId) × (var.ty ≡ types.Class n c))
+  -- a variable that has a term is one of a class
+  pub target_class : (w : ℕ) (x : TermValue) (t : Term) → value_of k.values w ≡ Some x → term_in x ≡ Some t → (var : Var) × (slice_get rel.vars w ≡ Some var) × ((n : ℕ) × (c : ClassId) × (var.ty ≡ types.Class n c))
   target_class w x t at is =
       let v = target_variable program rel w (good.good.terms w x t at is).target in
       (v.var, v.found, by v (class_or_none v.var.ty))
@@ -251,13 +252,18 @@ module _ (metas : List MetaDesc) (program : Program) (sources : List ModelData) 
           ap (λ z. datum_of (value program sources z (entry_scope program sources rel a.e.values))) whole
           ∙ ap datum_of (alone_meaning (setting program sources) (queries_within program.queries (setting program sources) (length program.queries)) e.ty w (entry_scope program sources rel a.e.values) ∙ known_datum w d.value y g is)
 
+  -- the item is settled
+  pub settled_item : ¬ (¬ IsSettledItem metas program rel p.listed.item)
+  settled_item unsettled =
+      let at_place = nested_stands p.root None p.listed.template p.listed.nested in
+      kept_by_each metas program a.e.rel 3 rel enforceable a.found good.direction (Breaks.e3 refl (HasUnsettledPart.item p.listed.template at_place.0 p.listed.item
+      (record { dom = p.dom; of = record { is = p.among; target = domain.of_model }; root = p.root; has = p.has; stands = at_place.1 }) p.listed.has unsettled))
+
   -- no object of a source stands for an object of the target
   no_object : (e : Typed) (y : Datum) → a.item.content ≡ Content.expression e → content_value program sources k (Content.expression e) ≡ Some d.value → datum_in d.value ≡ Some y → value_of_datum y ≡ None → ⊥
   no_object e y is at datum none =
       let own = expression_value p.listed.item.value e (p.listed.content ∙ is) in
-      let at_place = nested_stands p.root None p.listed.template p.listed.nested in
-      kept_by_each metas program a.e.rel 3 rel enforceable a.found good.direction (Breaks.e3 refl (HasUnsettledPart.item p.listed.template at_place.0 p.listed.item
-      (record { dom = p.dom; of = record { is = p.among; target = domain.of_model }; root = p.root; has = p.has; stands = at_place.1 }) p.listed.has (λ settled. refuted own settled)))
+      settled_item (λ settled. refuted own settled)
     where
       refuted : p.listed.item.value ≡ items.Expr e → IsSettledItem metas program rel p.listed.item → ⊥
       refuted own (IsSettledItem.nested part same fits) = none-some e (sym (at_nested part) ∙ ap expression_of (sym same ∙ own) ∙ at_expression e)
@@ -287,21 +293,24 @@ module _ (metas : List MetaDesc) (program : Program) (sources : List ModelData) 
               object_class metas (setting program sources) anywhere given_e.typing.ty y none
               (λ n c ty. plain2 n c (sym (typed_type (context_of metas program) (variables_of rel) e given_e.typing given_e.typed) ∙ ty)) kept
 
-  -- what is known of a datum that is demanded
-  record IsFitting (y : Datum) : Type 0 where
-    attribute : is_class_type (type_of m.meta d.prop.0) ≡ false
-    seen : IsSeen program y
+  -- what is known of a datum that is demanded: it is a value of the property's type, as one of the target's values is seen
+  pub record IsFitting (y : Datum) : Type 0 where
+    pub value : Value
+    pub value_is : value_of_datum y ≡ Some value
+    pub fits : is_value_of m.meta (type_of m.meta d.prop.0) value ≡ true
+    pub seen : value_datum (target_meta_number program) value ≡ y
 
-  fitting : (y : Datum) → datum_in d.value ≡ Some y → IsFitting y
+  pub fitting : (y : Datum) → datum_in d.value ≡ Some y → IsFitting y
   fitting y datum = by_content a.item.content refl a.value
     where
       held : (e : Typed) (n : ℕ) (v : Value) → y ≡ Val n v → IsHeld before.meta p.listed.item.prop.0 domain.slot.meta n v → IsFitting y
       held e n v is h =
           let meta_same : domain.slot.meta ≡ target_meta_number program = slot_meta ∙ numbers_agree metas program evaluable.well in
           record {
-            attribute = ap (λ q. is_class_type (type_of m.meta q)) (sym same_prop) ∙ ap (λ x. is_class_type (type_of x p.listed.item.prop.0)) (sym meta_is)
-                ∙ no_reference before.meta (type_of before.meta p.listed.item.prop.0) v h.fits;
-            seen = record { value = v; value_is = ap value_of_datum is; seen = ap (λ q. value_datum q v) (sym meta_same) ∙ sym h.read ∙ sym is };
+            value = v;
+            value_is = ap value_of_datum is;
+            fits = ap (λ q. is_value_of m.meta (type_of m.meta q) v) (sym same_prop) ∙ ap (λ x. is_value_of x (type_of x p.listed.item.prop.0) v) (sym meta_is) ∙ h.fits;
+            seen = ap (λ q. value_datum q v) (sym meta_same) ∙ sym h.read ∙ sym is;
           }
 
       by_datum : (e : Typed) (z : Datum) → y ≡ z → a.item.content ≡ Content.expression e → content_value program sources k (Content.expression e) ≡ Some d.value → IsFitting y
@@ -322,6 +331,6 @@ module _ (metas : List MetaDesc) (program : Program) (sources : List ModelData) 
   goes_into = record {
     has = own_property;
     object = reference;
-    attribute = λ y is. (fitting y is).attribute;
-    datum = λ y is. (fitting y is).seen;
+    attribute = λ y is. let f = fitting y is in no_reference m.meta (type_of m.meta d.prop.0) f.value f.fits;
+    datum = λ y is. let f = fitting y is in record { value = f.value; value_is = f.value_is; seen = f.seen };
   }

@@ -1,5 +1,5 @@
-mod ItemParts
-mod ManagedLaws
+pub mod ItemParts
+pub mod ManagedLaws
 mod KeyedLaws
 mod ImageLaws
 mod ObjectLaws
@@ -11,22 +11,22 @@ mod DemandLaws
 mod GoneLaws
 mod MadeTerms
 mod RootTerms
-mod CallTerms
+pub mod CallTerms
 mod EntryDemands
-mod TargetVariables
-mod EntryTerms
+pub mod TargetVariables
+pub mod EntryTerms
 mod MatchedRoots
 mod EntryStep
 mod HandedRoots
-mod EntryGood
+pub mod EntryGood
 mod TermOrder
 mod DemandedTerms
 mod CandidateReading
-mod EntryDemanded
-mod DatumTypes
-mod GoingLaws
-mod TypedData
-mod EnforcedReading
+pub mod EntryDemanded
+pub mod DatumTypes
+pub mod GoingLaws
+pub mod TypedData
+pub mod EnforcedReading
 mod ClaimLaws
 mod ImageReadings
 mod UnchangedLaws

@@ -1,0 +1,4 @@
+mod NestedTemplates
+mod ConcreteClasses
+mod TermTypes
+mod TypedLaws
