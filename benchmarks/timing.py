@@ -6,10 +6,12 @@ import tempfile
 import time
 
 
-def timed(words, folder):
-    """Runs the words in a folder: seconds, peak memory in bytes, and what was printed, its lines joined by slashes and cut."""
+def timed(words, folder, given=None):
+    """Runs the words in a folder, with a file of it as their input where one is named: seconds, peak memory in bytes, and what was printed,
+    its lines joined by slashes and cut."""
     before = time.time()
-    process = subprocess.Popen(words, cwd=folder, stdout=subprocess.PIPE, stderr=subprocess.STDOUT)
+    with open(os.path.join(folder, given) if given else os.devnull, 'rb') as source:
+        process = subprocess.Popen(words, cwd=folder, stdin=source, stdout=subprocess.PIPE, stderr=subprocess.STDOUT)
     printed = process.stdout.read()
     _, _, usage = os.wait4(process.pid, 0)
     return time.time() - before, usage.ru_maxrss * 1024, ' / '.join(printed.decode(errors='replace').strip().split('\n'))[:120]
