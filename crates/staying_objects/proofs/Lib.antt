@@ -1,0 +1,6 @@
+pub mod MarkLaws
+pub mod KindLaws
+pub mod NestedLaws
+pub mod ClassLaws
+pub mod DeletedLaws
+pub mod FateLaws

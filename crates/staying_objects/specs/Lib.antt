@@ -1,0 +1,5 @@
+pub mod Marks
+pub mod Nested
+pub mod Classes
+pub mod Kinds
+pub mod Fates
