@@ -58,7 +58,8 @@ module _ (program : Program) (m : ModelData) (live : ℕ → Bool) (cs ds : List
       let number = length m.objects in
       let ids = unused_ids m (length fresh) in
       let made : List (Option Object) → ModelData = λ objects. record m { objects = objects } in
-      ap (λ f. made (map f (range_with_len 0 number) ++ fresh_objects program m live cs number fresh ids)) (fun_ext (λ o. old_alike o (object_at m o)))
+      ap (λ f. made (map f (range_with_len 0 number) ++ fresh_objects program m live cs number fresh ids))
+      (fun_ext (λ o. old_alike o (object_at m o)))
       ∙ ap (λ objects. made (old_objects program m live ds ++ objects)) (fresh_alike number fresh ids)
 
 -- ---- the claims in their order, each once

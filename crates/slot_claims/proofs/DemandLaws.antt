@@ -23,11 +23,13 @@ use Rattle.slot_claims.specs.DemandClaims.{ObjectNumbers, number_at, held_at, fa
 
 -- ---- one demand more
 
-pub claims_more : (meta : MetaDesc) (numbers : ObjectNumbers) (ds : List NumberedDemand) (k : ℕ) (d : NumberedDemand) → k < length ds → d ≡ get_or ds k d
+pub claims_more : (meta : MetaDesc) (numbers : ObjectNumbers) (ds : List NumberedDemand) (k : ℕ) (d : NumberedDemand) → k < length ds
+    → d ≡ get_or ds k d
     → all_claims meta numbers (take (k + 1) ds) ≡ all_claims meta numbers (take k ds) ++ demand_claims meta numbers d
 claims_more meta numbers ds k d within is =
     let before = filter_map (fact_in numbers) (take k ds) in
-    ap (flat_map (claims_of meta)) (filter_map_more (fact_in numbers) ds k d within is) ∙ flat_map-append (claims_of meta) before (option_to_list (fact_in numbers d))
+    ap (flat_map (claims_of meta)) (filter_map_more (fact_in numbers) ds k d within is)
+    ∙ flat_map-append (claims_of meta) before (option_to_list (fact_in numbers d))
     ∙ ap (λ cs. flat_map (claims_of meta) before ++ cs) (by (fact_in numbers d))
   where
     by : (f : Option (Fact ℕ)) → flat_map (claims_of meta) (option_to_list f) ≡ option_map_or (claims_of meta) f []
@@ -36,13 +38,16 @@ claims_more meta numbers ds k d within is =
 
 -- ---- demands between terms
 
-module _ (table : List Term) (numbers : ObjectNumbers) (number : Term → Option ℕ) (agree : (n : ℕ) → n < length table → number_at numbers n ≡ number (term_at table n)) where
+module _ (table : List Term) (numbers : ObjectNumbers) (number : Term → Option ℕ)
+    (agree : (n : ℕ) → n < length table → number_at numbers n ≡ number (term_at table n)) where
   value_agrees : (v : NumberedValue) → IsWithin table v → held_at numbers v ≡ held_by_number number (held_in (out-TermValue (value_in table v)))
   value_agrees (numbered.Val d) within =
-      sym (ap (λ v. held_by_number number (held_in (out-TermValue v))) (sym (values.rolls-Val d)) ∙ ap (λ v. held_by_number number (held_in v)) (out-roll-TermValue (of.Val d)))
+      sym (ap (λ v. held_by_number number (held_in (out-TermValue v))) (sym (values.rolls-Val d))
+      ∙ ap (λ v. held_by_number number (held_in v)) (out-roll-TermValue (of.Val d)))
   value_agrees (numbered.Term n) within =
       ap (option_map (λ k. Held.object k)) (agree n within)
-      ∙ sym (ap (λ v. held_by_number number (held_in (out-TermValue v))) (sym (values.rolls-Term (term_at table n))) ∙ ap (λ v. held_by_number number (held_in v)) (out-roll-TermValue (of.Term (term_at table n))))
+      ∙ sym (ap (λ v. held_by_number number (held_in (out-TermValue v))) (sym (values.rolls-Term (term_at table n)))
+      ∙ ap (λ v. held_by_number number (held_in v)) (out-roll-TermValue (of.Term (term_at table n))))
 
   fact_agrees : (d : NumberedDemand) → IsDemandWithin table d → fact_in numbers d ≡ fact_by_number number (fact_of (demand_in table d))
   fact_agrees d within =
@@ -58,5 +63,6 @@ module _ (table : List Term) (numbers : ObjectNumbers) (number : Term → Option
       ∙ ap (cons_option (fact_by_number number (fact_of (demand_in table d)))) (facts_agree ds (All-tail (IsDemandWithin table) d ds all))
 
   -- the claims are those of the demands
-  pub claims_are_the_demands : (meta : MetaDesc) (ds : List NumberedDemand) → All (IsDemandWithin table) ds → all_claims meta numbers ds ≡ claims_by_number meta number (demands_in table ds)
+  pub claims_are_the_demands : (meta : MetaDesc) (ds : List NumberedDemand) → All (IsDemandWithin table) ds
+      → all_claims meta numbers ds ≡ claims_by_number meta number (demands_in table ds)
   claims_are_the_demands meta ds all = ap (flat_map (claims_of meta)) (facts_agree ds all)

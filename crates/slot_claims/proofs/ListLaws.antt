@@ -50,16 +50,18 @@ any_filtered {X} p q (x ∷ xs) = by (p x) ∙ ap (λ b. (p x && q x) || b) (any
 pub filtered_twice : {X : Type 0} (p q r : X → Bool) → ((x : X) → (p x && q x) ≡ r x) → (xs : List X) → filter q (filter p xs) ≡ filter r xs
 filtered_twice p q r is [] = refl
 filtered_twice {X} p q r is (x ∷ xs) =
-    by (p x) (q x) ∙ ap (λ b. cond b (x ∷ filter q (filter p xs)) (filter q (filter p xs))) (is x) ∙ ap (λ ys. cond (r x) (x ∷ ys) ys) (filtered_twice p q r is xs)
+    by (p x) ∙ ap (λ b. cond b (x ∷ filter q (filter p xs)) (filter q (filter p xs))) (is x)
+    ∙ ap (λ ys. cond (r x) (x ∷ ys) ys) (filtered_twice p q r is xs)
   where
-    by : (a b : Bool) → filter q (cond a (x ∷ filter p xs) (filter p xs)) ≡ cond (a && q x) (x ∷ filter q (filter p xs)) (filter q (filter p xs))
-    by true b = refl
-    by false b = refl
+    by : (a : Bool) → filter q (cond a (x ∷ filter p xs) (filter p xs)) ≡ cond (a && q x) (x ∷ filter q (filter p xs)) (filter q (filter p xs))
+    by true = refl
+    by false = refl
 
 -- ---- what a search in halves finds
 
 -- a test that passes before each element that passes parts a list in order
-pub parted : {X : Type 0} (order : X → X → Ordering) (p : X → Bool) → ((x y : X) → order x y ≡ Less → p y ≡ true → p x ≡ true) → (xs : List X) → IsStrictlySortedBy order xs → IsPartitionedBy p xs
+pub parted : {X : Type 0} (order : X → X → Ordering) (p : X → Bool) → ((x y : X) → order x y ≡ Less → p y ≡ true → p x ≡ true) → (xs : List X)
+    → IsStrictlySortedBy order xs → IsPartitionedBy p xs
 unfolding IsStrictlySortedBy
 parted order p before [] up i j d least within h = absurd (omega arith)
 parted order p before (x ∷ xs) up zero zero d least within h = h
@@ -75,7 +77,8 @@ parted order p before (x ∷ xs) up (suc i) (suc j) d least within h = parted or
 module _ {X : Type 0} (p : X → Bool) where
   none_pass : (xs : List X) → ((k : ℕ) (d : X) → k < length xs → p (get_or xs k d) ≡ false) → filter p xs ≡ []
   none_pass [] h = refl
-  none_pass (x ∷ xs) h = ap (λ b. cond b (x ∷ filter p xs) (filter p xs)) (h 0 x (omega arith)) ∙ none_pass xs (λ k d l. h (suc k) d (omega (arith, l)))
+  none_pass (x ∷ xs) h =
+      ap (λ b. cond b (x ∷ filter p xs) (filter p xs)) (h 0 x (omega arith)) ∙ none_pass xs (λ k d l. h (suc k) d (omega (arith, l)))
 
   all_fail : (xs : List X) → ((k : ℕ) (d : X) → k < length xs → p (get_or xs k d) ≡ false) → filter (λ x. not (p x)) xs ≡ xs
   all_fail [] h = refl
@@ -112,7 +115,8 @@ module _ {X : Type 0} (p : X → Bool) where
 
 -- ---- elements of lists
 
-same_filtered_half : {X : Type 0} (p : X → Bool) (xs ys : List X) → ((x : X) → Contains xs x → Contains ys x) → (x : X) → Contains (filter p xs) x → Contains (filter p ys) x
+same_filtered_half : {X : Type 0} (p : X → Bool) (xs ys : List X) → ((x : X) → Contains xs x → Contains ys x) → (x : X) → Contains (filter p xs) x
+    → Contains (filter p ys) x
 same_filtered_half p xs ys over x c =
     Contains-to_filter p ys x (All-contains (λ z. p z ≡ true) (filter p xs) x (filter_passes p xs) c) (over x (Contains-filter p xs x c))
 
@@ -141,7 +145,8 @@ module _ {X Y : Type 0} (f : X → Option Y) where
   from_filter_map [] y c = absurd (nothing_in y c)
   from_filter_map (x ∷ xs) y c = by (f x) refl c (from_filter_map xs y)
     where
-      by : (o : Option Y) → f x ≡ o → Contains (cons_option o (filter_map f xs)) y → (Contains (filter_map f xs) y → (z : X) × Contains xs z × (f z ≡ Some y)) → (z : X) × Contains (x ∷ xs) z × (f z ≡ Some y)
+      by : (o : Option Y) → f x ≡ o → Contains (cons_option o (filter_map f xs)) y
+          → (Contains (filter_map f xs) y → (z : X) × Contains xs z × (f z ≡ Some y)) → (z : X) × Contains (x ∷ xs) z × (f z ≡ Some y)
       by None is d rest = let found = rest d in (found.0, contains_later found.0 x xs found.1, found.2)
       by (Some w) is d rest =
           elim (contains_cases y w (filter_map f xs) d) [

@@ -23,12 +23,14 @@ use Rattle.slot_claims.specs.HeldValues.{held_by}
 module _ (program : Program) (m : ModelData) (o p : ℕ) where
   -- the partners of a reference, or the values of an attribute
   abbrev held_as : Bool → List (Held ℕ)
-  held_as b = if b then map (λ b. Held.object b) (partners_at m o p) else map (λ v. Held.datum (value_datum (target_meta_number program) v)) (values_at m o p)
+  held_as b =
+      if b then map (λ b. Held.object b) (partners_at m o p) else map (λ v. Held.datum (value_datum (target_meta_number program) v)) (values_at m o p)
 
   pub partners_held : (hs : List (Held ℕ)) → IsReferenceOf m o p → hs ≡ map (λ b. Held.object b) (partners_at m o p) → hs ≡ held_in program m o p
   partners_held hs has is = is ∙ sym (ap held_as has.reference)
 
-  pub values_held : (hs : List (Held ℕ)) → IsAttributeOf m o p → hs ≡ map (λ v. Held.datum (value_datum (target_meta_number program) v)) (values_at m o p) → hs ≡ held_in program m o p
+  pub values_held : (hs : List (Held ℕ)) → IsAttributeOf m o p
+      → hs ≡ map (λ v. Held.datum (value_datum (target_meta_number program) v)) (values_at m o p) → hs ≡ held_in program m o p
   values_held hs has is = is ∙ sym (ap held_as has.attribute)
 
   abbrev IsProperty : Type 0
@@ -42,7 +44,8 @@ module _ (program : Program) (m : ModelData) (o p : ℕ) where
       by (Some ob) is =
           let props : List ℕ = props_of m.meta ob.class in
           elim (cases_lt (index_of props p) (length props)) [
-            | inl below ↦ inr (ob.class, ap (λ (x : Option Object). option_map (λ (ob : Object). ob.class) x) is, (index_of props p, below, index-found props p p below))
+            | inl below ↦
+                inr (ob.class, ap (λ (x : Option Object). option_map (λ (ob : Object). ob.class) x) is, (index_of props p, below, index-found props p p below))
             | inr past ↦
                 (let long = (kept.objects o ob is).slots in
                 inl (ap (slot_in m.meta p) is ∙ get_or_past ob.slots (slot_number m.meta ob.class p) no_slot (omega (arith, past, long))))
@@ -52,7 +55,8 @@ module _ (program : Program) (m : ModelData) (o p : ℕ) where
   none_held true is = sym (ap (λ (s : Slot). map (λ b. Held.object b) s.partners) is)
   none_held false is = sym (ap (λ (s : Slot). map (λ v. Held.datum (value_datum (target_meta_number program) v)) s.values) is)
 
-  pub nothing_held : Kept m → (r a : Bool) → (IsTrue r ↔ IsReferenceOf m o p) → r ≡ false → (IsTrue a ↔ IsAttributeOf m o p) → a ≡ false → [] ≡ held_in program m o p
+  pub nothing_held : Kept m → (r a : Bool) → (IsTrue r ↔ IsReferenceOf m o p) → r ≡ false → (IsTrue a ↔ IsAttributeOf m o p) → a ≡ false
+      → [] ≡ held_in program m o p
   nothing_held kept r a reference unlinked attribute unset = by (slot_somewhere kept)
     where
       neither : IsProperty → (b : Bool) → is_class_type (type_of m.meta p) ≡ b → false ≡ true
@@ -74,6 +78,8 @@ partner_held (b ∷ ps) = ap (λ hs. Held.object b ∷ hs) (partner_held ps)
 
 -- all partners were found where none is left
 pub all_found : (ps : List ℕ) (found : List HeldValue) (left whole : List ObjId) → whole ≡ object_ids ps → left ≡ []
-    → map held_by found ++ map (λ b. held_by (values.Object b)) left ≡ map (λ b. held_by (values.Object b)) whole → map held_by found ≡ map (λ b. Held.object b) ps
+    → map held_by found ++ map (λ b. held_by (values.Object b)) left ≡ map (λ b. held_by (values.Object b)) whole
+    → map held_by found ≡ map (λ b. Held.object b) ps
 all_found ps found left whole is none so_far =
-    sym (append-nil (map held_by found)) ∙ sym (ap (λ l. map held_by found ++ map (λ b. held_by (values.Object b)) l) none) ∙ so_far ∙ ap (map (λ b. held_by (values.Object b))) is ∙ partner_held ps
+    sym (append-nil (map held_by found)) ∙ sym (ap (λ l. map held_by found ++ map (λ b. held_by (values.Object b)) l) none) ∙ so_far
+    ∙ ap (map (λ b. held_by (values.Object b))) is ∙ partner_held ps

@@ -29,7 +29,11 @@ module _ {X : Type 0} (order : X → X → Ordering) (total : IsTotalOrder order
   placed_all : (P : X → Type 0) (x : X) (ys : List X) → P x → AllByRecursion P ys → AllByRecursion P (placed_by order x ys)
   placed_all P x [] p a = (p, tt)
   placed_all P x (y ∷ ys) p a =
-      elim (order x y) as (λ o. AllByRecursion P (match_ordering o (x ∷ y ∷ ys) (y ∷ ys) (y ∷ placed_by order x ys))) [ Less ↦ (p, a) | Equal ↦ a | Greater ↦ (a.0, placed_all P x ys p a.1) ]
+      elim (order x y) as (λ o. AllByRecursion P (match_ordering o (x ∷ y ∷ ys) (y ∷ ys) (y ∷ placed_by order x ys))) [
+        | Less ↦ (p, a)
+        | Equal ↦ a
+        | Greater ↦ (a.0, placed_all P x ys p a.1)
+      ]
 
   further : (x y : X) (ys : List X) → order x y ≡ Less → AllByRecursion (λ z. order y z ≡ Less) ys → AllByRecursion (λ z. order x z ≡ Less) ys
   further x y [] h a = tt
@@ -40,7 +44,8 @@ module _ {X : Type 0} (order : X → X → Ordering) (total : IsTotalOrder order
   placed_sorted x [] up = (tt, tt)
   placed_sorted x (y ∷ ys) up = by (order x y) refl (placed_sorted x ys up.1)
     where
-      by : (o : Ordering) → order x y ≡ o → IsStrictlySortedBy order (placed_by order x ys) → IsStrictlySortedBy order (match_ordering o (x ∷ y ∷ ys) (y ∷ ys) (y ∷ placed_by order x ys))
+      by : (o : Ordering) → order x y ≡ o → IsStrictlySortedBy order (placed_by order x ys)
+          → IsStrictlySortedBy order (match_ordering o (x ∷ y ∷ ys) (y ∷ ys) (y ∷ placed_by order x ys))
       by Less is rest = ((is, further x y ys is up.0), up)
       by Equal is rest = up
       by Greater is rest = (placed_all (λ z. order y z ≡ Less) x ys (total.antisymm y x ∙ ap ordering_reverse is) up.0, rest)
@@ -49,7 +54,8 @@ module _ {X : Type 0} (order : X → X → Ordering) (total : IsTotalOrder order
   placed_has x [] = contains_first x []
   placed_has x (y ∷ ys) = by (order x y) refl (placed_has x ys)
     where
-      by : (o : Ordering) → order x y ≡ o → Contains (placed_by order x ys) x → Contains (match_ordering o (x ∷ y ∷ ys) (y ∷ ys) (y ∷ placed_by order x ys)) x
+      by : (o : Ordering) → order x y ≡ o → Contains (placed_by order x ys) x
+          → Contains (match_ordering o (x ∷ y ∷ ys) (y ∷ ys) (y ∷ placed_by order x ys)) x
       by Less is rest = contains_first x (y ∷ ys)
       by Equal is rest = subst (λ z. Contains (y ∷ ys) z) (sym (exact x y is)) (contains_first y ys)
       by Greater is rest = contains_later x y (placed_by order x ys) rest
@@ -71,7 +77,8 @@ module _ {X : Type 0} (order : X → X → Ordering) (total : IsTotalOrder order
   placed_only x z [] c = contains_cases z x [] c
   placed_only x z (y ∷ ys) c = by (order x y) (placed_only x z ys) c
     where
-      by : (o : Ordering) → (Contains (placed_by order x ys) z → (x ≡ z) ⊎ Contains ys z) → Contains (match_ordering o (x ∷ y ∷ ys) (y ∷ ys) (y ∷ placed_by order x ys)) z
+      by : (o : Ordering) → (Contains (placed_by order x ys) z → (x ≡ z) ⊎ Contains ys z)
+          → Contains (match_ordering o (x ∷ y ∷ ys) (y ∷ ys) (y ∷ placed_by order x ys)) z
           → (x ≡ z) ⊎ Contains (y ∷ ys) z
       by Less rest d = contains_cases z x (y ∷ ys) d
       by Equal rest d = inr d
@@ -108,7 +115,8 @@ module _ {X : Type 0} (order : X → X → Ordering) (total : IsTotalOrder order
   -- a list in order is its own elements in order
   pub sorted_is_once : (xs ys : List X) → IsStrictlySortedBy order ys → HaveSame xs ys → ys ≡ each_once order xs
   sorted_is_once xs ys up same =
-      sorted_once order (λ x y. total.antisymm x y) ys (each_once order xs) up (once_sorted xs) (λ x c. once_has xs x (same.back x c)) (λ x c. same.there x (once_only xs x c))
+      sorted_once order (λ x y. total.antisymm x y) ys (each_once order xs) up (once_sorted xs) (λ x c. once_has xs x (same.back x c))
+      (λ x c. same.there x (once_only xs x c))
 
   -- the same elements give the same list
   pub once_alike : (xs ys : List X) → HaveSame xs ys → each_once order xs ≡ each_once order ys

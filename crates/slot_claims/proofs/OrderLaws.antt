@@ -79,7 +79,9 @@ spot_prop (Spot.slot x p) = p
 spot_prop (Spot.container x) = 0
 
 abbrev keyed_spot_order : Spot ℕ → Spot ℕ → Ordering
-keyed_spot_order s t = ordering_then (nat_cmp (slot_kind s) (slot_kind t)) (ordering_then (nat_cmp (spot_object s) (spot_object t)) (nat_cmp (spot_prop s) (spot_prop t)))
+keyed_spot_order s t =
+    ordering_then (nat_cmp (slot_kind s) (slot_kind t))
+    (ordering_then (nat_cmp (spot_object s) (spot_object t)) (nat_cmp (spot_prop s) (spot_prop t)))
 
 alone : (o : Ordering) → o ≡ ordering_then o Equal
 alone Less = refl
@@ -99,7 +101,8 @@ spots_total =
 
 pub spot_exact : IsAntisymmetric spot_order
 spot_exact (Spot.slot x p) (Spot.slot y q) tie =
-    let both = then_equal (nat_cmp x y) (nat_cmp p q) tie in ap (λ z. Spot.slot z p) (nat_cmp-IsAntisymmetric x y both.0) ∙ ap (λ r. Spot.slot y r) (nat_cmp-IsAntisymmetric p q both.1)
+    let both = then_equal (nat_cmp x y) (nat_cmp p q) tie in
+    ap (λ z. Spot.slot z p) (nat_cmp-IsAntisymmetric x y both.0) ∙ ap (λ r. Spot.slot y r) (nat_cmp-IsAntisymmetric p q both.1)
 spot_exact (Spot.slot x p) (Spot.container y) tie = absurd (cc)
 spot_exact (Spot.container x) (Spot.slot y q) tie = absurd (cc)
 spot_exact (Spot.container x) (Spot.container y) tie = ap (λ z. Spot.container z) (nat_cmp-IsAntisymmetric x y tie)
@@ -146,7 +149,8 @@ said_exact (Said.element h) (Said.element i) tie = ap (λ j. Said.element j) (he
 said_exact (Said.element h) (Said.within y q) tie = absurd (less_not_equal tie)
 said_exact (Said.within x p) (Said.element i) tie = absurd (greater_not_equal tie)
 said_exact (Said.within x p) (Said.within y q) tie =
-    let both = then_equal (nat_cmp x y) (nat_cmp p q) tie in ap (λ z. Said.within z p) (nat_cmp-IsAntisymmetric x y both.0) ∙ ap (λ r. Said.within y r) (nat_cmp-IsAntisymmetric p q both.1)
+    let both = then_equal (nat_cmp x y) (nat_cmp p q) tie in
+    ap (λ z. Said.within z p) (nat_cmp-IsAntisymmetric x y both.0) ∙ ap (λ r. Said.within y r) (nat_cmp-IsAntisymmetric p q both.1)
 
 -- ---- claims
 

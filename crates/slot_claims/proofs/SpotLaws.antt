@@ -20,7 +20,8 @@ use Rattle.slot_claims.proofs.OrderLaws.{spots_total, spot_exact}
 -- places are one where neither comes first
 spot_ties : (s t : Spot ℕ) → same_spot same_number s t ≡ is_eq (spot_order s t)
 spot_ties =
-    same_by_order (same_spot same_number) spot_order spots_total spot_exact (spot_is same_number exact_unsigned_eq number_itself) (spot_itself same_number exact_unsigned_eq number_itself)
+    same_by_order (same_spot same_number) spot_order spots_total spot_exact (spot_is same_number exact_unsigned_eq number_itself)
+    (spot_itself same_number exact_unsigned_eq number_itself)
 
 one_spot : (s t : Spot ℕ) → same_spot same_number s t ≡ same_spot same_number t s
 one_spot s t = spot_ties s t ∙ by (spot_order t s) (spot_order s t) (spots_total.antisymm s t) ∙ sym (spot_ties t s)
@@ -101,7 +102,8 @@ module _ (s : Spot ℕ) where
           by Equal = refl
           by Greater = refl
 
-      claims_there : (count : ℕ) → count ≤ length (drop first xs) → IsPartitionPoint (λ c. is_not_behind c ≡ true) (λ c. is_not_behind c ≡ false) (drop first xs) count
+      claims_there : (count : ℕ) → count ≤ length (drop first xs)
+          → IsPartitionPoint (λ c. is_not_behind c ≡ true) (λ c. is_not_behind c ≡ false) (drop first xs) count
           → take count (drop first xs) ≡ filter (λ c. is_of_spot s (claim_by c)) xs
       claims_there count few point =
           before_point is_not_behind (drop first xs) count few point ∙ ap (filter is_not_behind) rest_is
@@ -114,4 +116,5 @@ module _ (s : Spot ℕ) where
       rest_there rest is count few point =
           let same : List ObjectClaim → Type 0 = λ ys. IsPartitionPoint (λ c. is_not_behind c ≡ true) (λ c. is_not_behind c ≡ false) ys count in
           ap (take count) is
-          ∙ claims_there count (subst (λ ys. count ≤ length ys) is few) (subst same is (point (subst (IsPartitionedBy is_not_behind) (sym is) rest_parted)))
+          ∙ claims_there count (subst (λ ys. count ≤ length ys) is few)
+          (subst same is (point (subst (IsPartitionedBy is_not_behind) (sym is) rest_parted)))

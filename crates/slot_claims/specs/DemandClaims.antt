@@ -28,7 +28,8 @@ held_at numbers (numbered.Term t) = option_map (λ n. Held.object n) (number_at 
 
 -- what a demand says, its objects by their numbers
 abbrev pub fact_in : ObjectNumbers → NumberedDemand → Option (Fact ℕ)
-fact_in numbers d = option_and_then (λ o. option_map (λ h. record { owner = o; prop = d.prop.0; holds = h }) (held_at numbers d.value)) (number_at numbers d.owner)
+fact_in numbers d =
+    option_and_then (λ o. option_map (λ h. record { owner = o; prop = d.prop.0; holds = h }) (held_at numbers d.value)) (number_at numbers d.owner)
 
 -- what a demand claims
 abbrev pub demand_claims : MetaDesc → ObjectNumbers → NumberedDemand → List (Claim ℕ)

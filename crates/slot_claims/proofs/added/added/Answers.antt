@@ -16,5 +16,6 @@ returns c =
     IfOk-weaker c.others.result _ _
     (λ found is.
     is ∙ ap (λ es. others_than (map element_by es) elements) c.as_slice.ensures.value
-    ∙ others_alike (map element_by lent) (map element_by sorted) elements (IsPermutation-map element_by lent sorted c.in_order-sorted.ensures.same) ∙ ap (λ hs. others_than hs elements) c.in_ok-all_lent.ensures)
+    ∙ others_alike (map element_by lent) (map element_by sorted) elements (IsPermutation-map element_by lent sorted c.in_order-sorted.ensures.same)
+    ∙ ap (λ hs. others_than hs elements) c.in_ok-all_lent.ensures)
     c.others.ensures

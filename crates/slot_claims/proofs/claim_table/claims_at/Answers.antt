@@ -13,6 +13,10 @@ returns c =
     let first = c.partition_point-first.result in
     let rest = take (length xs - first) (drop first xs) in
     let rest_is : rest ≡ drop first xs = take_all (length xs - first) (drop first xs) (omega (arith, length-drop first xs)) in
-    let first_at = IsPartitionPoint-from_clause (is_before s) xs first c.partition_point-first.ensures.partitioned (first_parted s xs c.requires) (λ a r q k. search rules) in
-    rest_there s xs c.requires first c.partition_point-first.ensures.bound first_at rest rest_is c.partition_point-count.result c.partition_point-count.ensures.bound
-    (λ parted. IsPartitionPoint-from_clause (is_not_behind s) rest c.partition_point-count.result c.partition_point-count.ensures.partitioned parted (λ a r q k. search rules))
+    let first_at =
+    IsPartitionPoint-from_clause (is_before s) xs first c.partition_point-first.ensures.partitioned (first_parted s xs c.requires)
+    (λ a r q k. search rules) in
+    let count = c.partition_point-count.result in
+    let bounds = c.partition_point-count.ensures in
+    rest_there s xs c.requires first c.partition_point-first.ensures.bound first_at rest rest_is count bounds.bound
+    (λ parted. IsPartitionPoint-from_clause (is_not_behind s) rest count bounds.partitioned parted (λ a r q k. search rules))

@@ -15,7 +15,8 @@ returns-then-has_attribute c =
     IfOk-weaker c.attribute_elements.result _ _
     (λ found is.
     values_held program m c.args.o.0 c.args.p.0 (map held_by found) (c.has_attribute.ensures.0 c.if-has_attribute.true)
-    (is ∙ ap (λ n. map (λ v. Held.datum (value_datum n v)) c.attr.result.now) c.target_meta_number.ensures ∙ ap (map (λ v. Held.datum (value_datum (target_meta_number program) v))) c.attr.ensures))
+    (is ∙ ap (λ n. map (λ v. Held.datum (value_datum n v)) c.attr.result.now) c.target_meta_number.ensures
+    ∙ ap (map (λ v. Held.datum (value_datum (target_meta_number program) v))) c.attr.ensures))
     c.attribute_elements.ensures
 
 pub returns-else-has_attribute : goal.returns-else-has_attribute

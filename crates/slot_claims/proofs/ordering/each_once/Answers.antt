@@ -7,5 +7,7 @@ use Rattle.slot_claims.proofs.ordering.each_once.Goals as goal
 
 pub returns : goal.returns
 returns c =
-    template_orders.each_once object_claim_order (on_total claim_by claims_total) c.args.claims.items c.in_order.result.items c.without_neighbours.result.items c.in_order.ensures.same c.in_order.ensures.sorted
+    template_orders.each_once object_claim_order
+    (on_total claim_by claims_total) c.args.claims.items c.in_order.result.items
+    c.without_neighbours.result.items c.in_order.ensures.same c.in_order.ensures.sorted
     c.without_neighbours.ensures

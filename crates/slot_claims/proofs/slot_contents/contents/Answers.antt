@@ -16,6 +16,8 @@ returns c =
     IfOk-weaker c.with_claimed.result _ _
     (λ found is.
     is
-    ∙ contents_are o p (map held_by c.in_ok-kept.kept.items) (kept_at repair.program.now repair.target.now (is_staying repair.staying.now) repair.claims.now o p) repair.claims.now (map claim_by c.at-claims.result.now)
+    ∙ contents_are o p (map held_by c.in_ok-kept.kept.items)
+    (kept_at repair.program.now repair.target.now (is_staying repair.staying.now) repair.claims.now o p) repair.claims.now
+    (map claim_by c.at-claims.result.now)
     c.at-claims.ensures.sorted c.in_ok-kept.ensures c.at-claims.ensures.there)
     c.with_claimed.ensures

@@ -16,4 +16,6 @@ returns-clause-there c =
     ∙ filter-map_all claim_by (λ c. is_of_spot s (claim_by c)) (is_of_spot s) claims (λ x within. refl) ∙ ap (filter (is_of_spot s)) c.self.view_is
 
 pub returns-clause-sorted : goal.returns-clause-sorted
-returns-clause-sorted c = subst (IsStrictlySortedBy claim_order) c.self.view_is (mapped_sorted claim_order claims_total claim_exact claim_by c.self.inside.claims.items c.self.invariant)
+returns-clause-sorted c =
+    subst (IsStrictlySortedBy claim_order) c.self.view_is
+    (mapped_sorted claim_order claims_total claim_exact claim_by c.self.inside.claims.items c.self.invariant)

@@ -5,9 +5,11 @@ use Rattle.slot_claims.proofs.claim_table.ClaimTable.is_against_slot.Goals as go
 
 pub returns-then-is_single : goal.returns-then-is_single
 returns-then-is_single c =
-    single_then c.args.meta.now (slot_claim c.args.owner.0 c.args.prop.0 (element_by c.args.element)) c.args.self.now c.is_single.result c.says_otherwise.result
+    single_then c.args.meta.now
+    (slot_claim c.args.owner.0 c.args.prop.0 (element_by c.args.element)) c.args.self.now c.is_single.result c.says_otherwise.result
     c.is_single.ensures c.if-is_single.true c.says_otherwise.ensures
 
 pub returns-else-is_single : goal.returns-else-is_single
 returns-else-is_single c =
-    single_else c.args.meta.now (slot_claim c.args.owner.0 c.args.prop.0 (element_by c.args.element)) c.args.self.now c.is_single.result c.is_single.ensures c.if-is_single.false
+    single_else c.args.meta.now
+    (slot_claim c.args.owner.0 c.args.prop.0 (element_by c.args.element)) c.args.self.now c.is_single.result c.is_single.ensures c.if-is_single.false

@@ -8,4 +8,5 @@ use Rattle.slot_claims.proofs.claim_table.ClaimTable.new.Goals as goal
 
 pub returns : goal.returns
 returns c =
-    mapped_once claim_order claims_total claim_exact claim_by c.in_ok-claims.claims.items c.each_once.result.items c.each_once.ensures ∙ ap (each_once claim_order) c.in_ok-claims.ensures
+    mapped_once claim_order claims_total claim_exact claim_by c.in_ok-claims.claims.items c.each_once.result.items c.each_once.ensures
+    ∙ ap (each_once claim_order) c.in_ok-claims.ensures
