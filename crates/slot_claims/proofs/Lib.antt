@@ -1,0 +1,9 @@
+pub mod OnceLaws
+pub mod ListLaws
+pub mod OrderLaws
+pub mod SpotLaws
+pub mod ElementLaws
+pub mod AgainstLaws
+pub mod OldLaws
+pub mod DemandLaws
+pub mod CandidateLaws

@@ -1,0 +1,5 @@
+pub mod HeldValues
+pub mod ObjectClaims
+pub mod ClaimOrder
+pub mod DemandClaims
+pub mod Staying
