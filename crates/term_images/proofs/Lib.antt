@@ -1,0 +1,4 @@
+pub mod HeldLaws
+pub mod KeyLaws
+pub mod IndexLaws
+pub mod FoundLaws

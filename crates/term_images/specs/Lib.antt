@@ -1,0 +1,4 @@
+pub mod KeyReadings
+pub mod Extents
+pub mod KeyIndexes
+pub mod FoundImages
