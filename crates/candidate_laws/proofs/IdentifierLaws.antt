@@ -1,14 +1,32 @@
 -- As many identifiers as are asked for are unused: each object of a model has one of them at most.
-use Rattle.std.specs.Prelude.{◌≡◌, ◌<◌, ◌≤◌, ◌+◌, ◌^◌, ℕ, zero, suc, Bool, true, false, ◌||◌, not, cond, List, [], ◌∷◌, map, length, drop, Option, None, Some}
+use Rattle.std.specs.Prelude.{◌≡◌, ◌<◌, ◌≤◌, ◌+◌, ◌^◌, ℕ, zero, suc, Bool, true, false, ◌||◌, not, cond, List, [], ◌∷◌, map, length, drop, Option, None, Some, Contains}
 use Rattle.std.specs.List.{filter, list_any, range_with_len}
-use Rattle.std.proofs.Common.{refl, ap, sym, ◌∙◌, subst, arith, true≢false}
+use Rattle.std.proofs.Common.{refl, ap, sym, ◌∙◌, subst, arith, inl, inr, true≢false}
+use Rattle.std.specs.Option.{option_map}
 use Rattle.std.specs.Cmp.Lexicographic.{bytes_decides}
 use Rattle.std.proofs.lemmas.Fmt.{decimal_injective}
-use Rattle.std.proofs.lemmas.List.{length-take}
+use Rattle.std.proofs.lemmas.Bool.{cases_lt}
+use Rattle.std.proofs.lemmas.List.{get_or_past, length-take}
+use Rattle.std.proofs.lemmas.List.Elements.{Contains-get_or}
 use Rattle.std.proofs.lemmas.List.FromFn.{length-range_with_len}
+use Rattle.std.proofs.lemmas.Option.{none-some, same_Some}
 use Rattle.object_tables.specs.Objects.{Object}
-use Rattle.object_tables.specs.Models.{ModelData}
+use Rattle.object_tables.specs.Models.{ModelData, object_at, id_at}
+use Rattle.template_match.proofs.ListLaws.{any_at}
 use Rattle.repair_semantics.specs.CandidateObjects.{fresh_id, has_id, is_used, unused_ids}
+
+-- ---- the identifier of an object is used
+
+pub used : (m : ModelData) (o : ℕ) (id : List ℕ) → id_at m o ≡ Some id → is_used m id ≡ true
+used m o id h = of_object (object_at m o) refl h
+  where
+    of_object : (x : Option Object) → object_at m o ≡ x → option_map (λ (ob : Object). ob.id) x ≡ Some id → is_used m id ≡ true
+    of_object None is e = absurd (none-some id e)
+    of_object (Some was) is e = elim (cases_lt o (length m.objects)) [
+      | inr le ↦ absurd (none-some was (sym (get_or_past m.objects o None le) ∙ is))
+      | inl within ↦ any_at (has_id id) m.objects (Some was) ((bytes_decides id was.id).1 (sym (same_Some was.id id e)))
+          (subst (Contains m.objects) is (Contains-get_or m.objects o None within))
+    ]
 
 -- ---- an object has one identifier
 

@@ -1,17 +1,17 @@
-mod Lists
-mod Orders
-mod HeldOrder
-mod IdentifierLaws
-mod FreshIds
-mod Contents
-mod Made
-mod ImageObjects
-mod Numbers
-mod FactClaims
-mod DemandClaims
-mod MadeSlots
-mod ValuesKept
-mod LinksKept
-mod ObjectsKept
-mod Keeping
-mod Examples
+pub mod Lists
+pub mod Orders
+pub mod HeldOrder
+pub mod IdentifierLaws
+pub mod FreshIds
+pub mod Contents
+pub mod Made
+pub mod ImageObjects
+pub mod Numbers
+pub mod FactClaims
+pub mod DemandClaims
+pub mod MadeSlots
+pub mod ValuesKept
+pub mod LinksKept
+pub mod ObjectsKept
+pub mod Keeping
+pub mod Examples

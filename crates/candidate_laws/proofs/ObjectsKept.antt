@@ -1,27 +1,24 @@
 -- Objects of the model that enforcement makes are of concrete classes, and no two have one identifier.
-use Rattle.std.specs.Prelude.{◌≡◌, ◌<◌, ◌+◌, is_none, ℕ, true, List, [], length, Option, None, Some, Contains}
+use Rattle.std.specs.Prelude.{◌≡◌, ◌<◌, ◌+◌, is_none, ℕ, List, [], length, Option, None, Some, Contains}
 use Rattle.std.specs.Option.{option_map}
-use Rattle.std.proofs.Common.{refl, ap, sym, ◌∙◌, subst, arith, inl, inr, get_or, true≢false}
-use Rattle.std.proofs.lemmas.Bool.{cases_lt}
-use Rattle.std.proofs.lemmas.List.{get_or_past}
+use Rattle.std.proofs.Common.{refl, ap, sym, ◌∙◌, subst, arith, get_or, true≢false}
 use Rattle.std.proofs.lemmas.List.Elements.{Contains-get_or}
 use Rattle.std.proofs.lemmas.Option.{none-some, same_Some}
-use Rattle.std.specs.Cmp.Lexicographic.{bytes_decides}
 use Rattle.mof_metamodel.specs.Characters.{is_identifier_text}
 use Rattle.mof_metamodel.specs.Metamodels.{class_count, class_at as meta_class, props_of}
 use Rattle.object_tables.specs.Objects.{Object}
 use Rattle.object_tables.specs.Models.{ModelData, object_at, id_at}
 use Rattle.object_tables.specs.Kept.{IsWellObject}
 use Rattle.qv_syntax.specs.declared.program.Program.{Program}
-use Rattle.template_match.proofs.ListLaws.{any_at}
 use Rattle.repair_semantics.specs.declared.demand.Demand.{Demand}
 use Rattle.repair_semantics.specs.Demands.{demanded_terms}
 use Rattle.repair_semantics.specs.Images.{image}
-use Rattle.repair_semantics.specs.CandidateObjects.{has_id, is_used}
+use Rattle.repair_semantics.specs.CandidateObjects.{is_used}
 use Rattle.repair_semantics.specs.Candidates.{candidate}
 use Rattle.candidate_laws.specs.Placing.{Placeable}
 use Rattle.candidate_laws.specs.Parts.{demanded_fresh, demanded_ids}
 use Rattle.candidate_laws.proofs.Lists.{from_filter, one_place}
+use Rattle.candidate_laws.proofs.IdentifierLaws.{used}
 use Rattle.candidate_laws.proofs.FreshIds.{fresh_id_text, IsFreshId, fresh_id_of, ids_once}
 use Rattle.candidate_laws.proofs.Made.{Origin}
 use Rattle.candidate_laws.proofs.MadeSlots.{enough, Source, source, slotted}
@@ -88,22 +85,11 @@ module _ (program : Program) (m : ModelData) (demands : List Demand) (placeable 
               let place : there.place < length (demanded_ids program m demands) = place_within there.place there.within in
               IdCase.new there.place place there.number (sym there.id ∙ same_Some ob.id id e)
 
-  used : (o : ℕ) (id : List ℕ) → id_at m o ≡ Some id → is_used m id ≡ true
-  used o id h = of_object (object_at m o) refl h
-    where
-      of_object : (x : Option Object) → object_at m o ≡ x → option_map (λ (ob : Object). ob.id) x ≡ Some id → is_used m id ≡ true
-      of_object None is e = absurd (none-some id e)
-      of_object (Some was) is e = elim (cases_lt o (length m.objects)) [
-        | inr le ↦ absurd (none-some was (sym (get_or_past m.objects o None le) ∙ is))
-        | inl within ↦ any_at (has_id id) m.objects (Some was) ((bytes_decides id was.id).1 (sym (same_Some was.id id e)))
-            (subst (Contains m.objects) is (Contains-get_or m.objects o None within))
-      ]
-
   not_both : (o k : ℕ) (id : List ℕ) → id_at m o ≡ Some id → k < length (demanded_ids program m demands)
       → get_or (demanded_ids program m demands) k [] ≡ id → ⊥
   not_both o k id first within is =
       let found = id_at_place k within in
-      true≢false (sym (used o id first) ∙ ap (is_used m) (sym is) ∙ found.unused)
+      true≢false (sym (used m o id first) ∙ ap (is_used m) (sym is) ∙ found.unused)
 
   pub one_object : (a b : ℕ) (id : List ℕ) → id_at (candidate program m demands) a ≡ Some id → id_at (candidate program m demands) b ≡ Some id → a ≡ b
   one_object a b id first second = by (id_case a id first) (id_case b id second)

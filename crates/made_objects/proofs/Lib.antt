@@ -1,0 +1,5 @@
+pub mod UnusedLaws
+pub mod HeaderLaws
+pub mod MadeLaws
+pub mod PlaceLaws
+pub mod NumberLaws

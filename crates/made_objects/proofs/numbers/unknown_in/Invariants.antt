@@ -1,0 +1,6 @@
+use Rattle.std.proofs.Common.{◌≡◌, take}
+use Rattle.made_objects.specs.Numbers.{unknown_in}
+use Rattle.made_objects.proofs.numbers.unknown_in.Given as goal
+
+abbrev pub invariant-loop-term : goal.invariant-loop-term
+invariant-loop-term l = l.unknown ≡ unknown_in l.objects (take l.term-index l.terms)
