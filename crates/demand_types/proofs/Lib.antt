@@ -1,4 +1,4 @@
 mod NestedTemplates
 mod ConcreteClasses
 mod TermTypes
-mod TypedLaws
+pub mod TypedLaws

@@ -49,7 +49,7 @@ use Rattle.repair_laws.proofs.IdentifierLaws.{enough_ids}
 use Rattle.repair_laws.proofs.CandidateLaws.{fresh_at, none_past, stays_with_class, is_gone, demanded_is_live}
 use Rattle.repair_laws.proofs.EntryTerms.{either_one}
 use Rattle.repair_laws.proofs.TermOrder.{IsAscending, once_ascending, filtered_ascending, one_place}
-use Rattle.repair_laws.proofs.DemandedTerms.{demanded_at, held_linked, in_demanded, linked_held, value_datum_held, value_number, within_demanded}
+use Rattle.repair_laws.proofs.DemandedTerms.{closed_by_keys, demanded_at, held_linked, in_demanded, linked_held, value_datum_held, value_number, within_demanded}
 
 -- ---- lists of numbers
 
@@ -71,13 +71,7 @@ module _ (program : Program) (m : ModelData) (demands : List Demand) where
   module _ (valid : Valid m) (valid_made : Valid made) (few : length (fresh_terms program m terms) + length m.objects ≤ 2 ^ 64) (tells : TellsByKeys program m)
       (keys : (t : Term) → Contains terms t → IsDemandedByKey program m.meta demands t) (going : (d : Demand) → Contains demands d → GoesInto program m d) where
     pub closed : AreClosed program terms
-    closed = record {
-      managed = λ t c. (keys t c).managed;
-      within = λ t x u c has is.
-          let k = keys t c in
-          let at = demanded_at m.meta demands t k.props (out-Term t).keys x k.values has in
-          in_demanded demands u (within_demanded m.meta demands t at.0 x u at.1 is);
-    }
+    closed = closed_by_keys program m.meta demands keys
 
     -- ---- the objects of terms
 

@@ -20,7 +20,7 @@ use Rattle.mof_metamodel.proofs.Facts.{contains_first}
 use Rattle.enforcement_rules.proofs.ListLaws.{any_there, any_here, mapped_from}
 use Rattle.mof_metamodel.proofs.Facts.{contains_map}
 use Rattle.mof_metamodel.proofs.Facts.{nothing_in}
-use Rattle.repair_semantics.specs.declared.term.Term.{Term}
+use Rattle.repair_semantics.specs.declared.term.Term.{Term, out-Term}
 use Rattle.repair_semantics.specs.declared.term.TermValue.{TermValue, out-TermValue}
 use Rattle.repair_semantics.specs.declared.term.TermValue.TheOpen as of
 use Rattle.repair_semantics.specs.declared.demand.Demand.{Demand}
@@ -33,7 +33,8 @@ use Rattle.repair_semantics.specs.Images.{same_number, holds}
 use Rattle.repair_semantics.specs.Candidates.{held_by_number}
 use Rattle.repair_semantics.proofs.TieLaws.{ties_are_one}
 use Rattle.reading_laws.specs.Readings.{Numbering, held_as}
-use Rattle.repair_laws.specs.DemandedKeys.{IsDemandedAt, AreDemandedAt, IsInDemands}
+use Rattle.repair_laws.specs.Closed.{AreClosed}
+use Rattle.repair_laws.specs.DemandedKeys.{IsDemandedAt, AreDemandedAt, IsDemandedByKey, IsInDemands}
 use Rattle.repair_laws.proofs.DemandLaws.{in_flat_map}
 use Rattle.repair_laws.proofs.StandingLaws.{once_keeps}
 use Rattle.repair_laws.proofs.TermOrder.{once_from}
@@ -83,6 +84,17 @@ demanded_at meta demands t (p ∷ ps) (y ∷ xs) x are (suc k, below, is) = dema
 pub within_demanded : (meta : MetaDesc) (demands : List Demand) (t : Term) (p : PropId) (x : TermValue) (u : Term) → IsDemandedAt meta demands t p x → term_in x ≡ Some u → IsInDemands demands u
 within_demanded meta demands t p x u (IsDemandedAt.own d there owner prop value) is = IsInDemands.value d there (ap term_in value ∙ is)
 within_demanded meta demands t p x u (IsDemandedAt.parent d there value opposite owner) is = IsInDemands.owner d there (same_Some d.owner u (sym owner ∙ is))
+
+-- where the key values of demanded terms are demanded, the terms within them are
+pub closed_by_keys : (program : Program) (meta : MetaDesc) (demands : List Demand)
+    → ((t : Term) → Contains (demanded_terms demands) t → IsDemandedByKey program meta demands t) → AreClosed program (demanded_terms demands)
+closed_by_keys program meta demands keys = record {
+  managed = λ t c. (keys t c).managed;
+  within = λ t x u c has is.
+      let k = keys t c in
+      let at = demanded_at meta demands t k.props (out-Term t).keys x k.values has in
+      in_demanded demands u (within_demanded meta demands t at.0 x u at.1 is);
+}
 
 -- ---- what is held
 

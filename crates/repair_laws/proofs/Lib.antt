@@ -1,7 +1,7 @@
 pub mod ItemParts
 pub mod ManagedLaws
 mod KeyedLaws
-mod ImageLaws
+pub mod ImageLaws
 mod ObjectLaws
 mod DemandedLaws
 mod IdentifierLaws
@@ -19,8 +19,8 @@ mod MatchedRoots
 mod EntryStep
 mod HandedRoots
 pub mod EntryGood
-mod TermOrder
-mod DemandedTerms
+pub mod TermOrder
+pub mod DemandedTerms
 mod CandidateReading
 pub mod EntryDemanded
 pub mod DatumTypes

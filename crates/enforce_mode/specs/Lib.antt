@@ -1,0 +1,4 @@
+pub mod Made
+pub mod Premises
+pub mod Plans
+pub mod Reports
