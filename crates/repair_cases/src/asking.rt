@@ -3,19 +3,22 @@ ghost use Rattle.std.specs.Prelude.{◌≡◌, ◌<◌, ◌^◌, length, IsTrue,
 ghost use Rattle.qv_syntax.specs.WellFormed.{IsWellFormed};
 ghost use Rattle.script_scopes.specs.Environments.{metamodel_names as metamodels};
 ghost use Rattle.enforcement_rules.specs.Rules.{IsEnforceable};
+ghost use Rattle.evaluation_laws.specs.Evaluable.{IsEvaluable};
+ghost use Rattle.entry_finding.specs.Premises.{CanBeEnforced};
 ghost use Rattle.repair_cases.specs.Small.{IsSmall};
 
 use crate::files::CaseFiles;
 use crate::inputs::{metas_of, models_of};
 use crate::outcomes::{Shown, put_outcome};
-use crate::told::Told;
 use case_texts::Pen;
 use demand_set::demands;
 use mof_metamodel::{NoMemory, Text, or_drop};
 use ocl_environments::{Metas, TypeError};
+use ocl_eval::Models;
 use program_texts::texts_are_storable;
 use qv_syntax::{Program, Rel, Script};
 use qvtr_types::{RuleError, enforceable, resolve};
+use repair_account::Told;
 use script_files::{ScriptError, read_script};
 use script_scopes::metamodel_names;
 
@@ -156,22 +159,53 @@ fn put_enforceable(
     requires relations { length program.now.rels < 2 ^ 32 }
     requires enforceable { IsEnforceable metas.now program.now }
 {
-    texts_are_storable(program);
     match models_of(asked.files, asked.pairs, metas, program.models.as_slice())? {
-        Some(models)
-            if is_small(program.rels.as_slice()) && (program.target as usize) < models.len() => {
-            let told = Told {
-                alloc: asked.files.alloc,
-                program,
-                metas,
-                models: &models,
-            };
-            let outcome = demands(asked.files.alloc, program, &models);
-            put_outcome(pen, &told, &outcome, asked.shown)
+        Some(models) => {
+            texts_are_storable(program);
+            let put = put_over_models(pen, asked, metas, program, &models);
+            drop(models);
+            put
         }
-        _ => {
+        None => {
             pen.put(" no models");
             Ok(())
         }
     }
+}
+
+fn put_over_models(
+    pen: &mut Pen,
+    asked: &Asked<'_>,
+    metas: &Metas,
+    program: &Program,
+    models: &Models<'_>,
+) -> Result<(), NoMemory>
+    requires evaluable { IsEvaluable metas.now program.now models.now }
+    requires relations { length program.now.rels < 2 ^ 32 }
+    requires enforceable { IsEnforceable metas.now program.now }
+{
+    if is_small(program.rels.as_slice()) && (program.target as usize) < models.len() {
+        return put_demanded(pen, asked, metas, program, models);
+    }
+    pen.put(" no models");
+    Ok(())
+}
+
+fn put_demanded(
+    pen: &mut Pen,
+    asked: &Asked<'_>,
+    metas: &Metas,
+    program: &Program,
+    models: &Models<'_>,
+) -> Result<(), NoMemory>
+    requires { CanBeEnforced metas.now program.now models.now }
+{
+    let told = Told {
+        alloc: asked.files.alloc,
+        program,
+        metas,
+        models,
+    };
+    let outcome = demands(asked.files.alloc, program, models);
+    put_outcome(pen, &told, &outcome, asked.shown)
 }

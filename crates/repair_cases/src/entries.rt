@@ -1,8 +1,8 @@
 //! Entries, calls and demands as they are printed.
 use crate::terms::{put_term, put_value};
-use crate::told::Told;
 use case_texts::Pen;
 use mof_metamodel::PropId;
+use repair_account::Told;
 use repair_semantics::{Demand, Entry, EntryName, Place, TermValue};
 
 /// The name of a relation behind a word on a line.

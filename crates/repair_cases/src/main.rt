@@ -14,14 +14,11 @@
 #![tactic(auto)]
 
 mod asking;
-mod data;
 mod entries;
 mod files;
 mod inputs;
 mod outcomes;
-mod plain;
 mod terms;
-mod told;
 
 use asking::answer;
 use files::CaseFiles;

@@ -1,11 +1,10 @@
 //! What demands come to, as it is printed.
 use crate::entries::{put_call, put_demand, put_entry, put_item, put_named, put_place};
-use crate::plain::put_repaired;
 use crate::terms::put_term;
-use crate::told::Told;
 use case_texts::Pen;
 use demand_set::{DemandError, DemandSet};
 use mof_metamodel::NoMemory;
+use repair_account::{Told, put_repaired};
 use repair_semantics::{Clash, Demand, Entry, EntryName, Place, Term};
 
 /// What a case shows of demands that are there.

@@ -1,8 +1,7 @@
 //! Terms as they are printed, `Class[property = value, ..]`.
-use crate::data::put_datum;
-use crate::told::Told;
 use case_texts::Pen;
 use mof_metamodel::{ClassId, PropId};
+use repair_account::{Told, put_datum};
 use repair_semantics::{Term, TermValue};
 
 /// A datum, a source object or a term.

@@ -1,5 +1,5 @@
 //! What demands, and what stands in the model, say of single places.
-use crate::plain::facts::FactTable;
+use crate::facts::FactTable;
 use mof_metamodel::{NoMemory, PropId};
 use object_tables::ObjId;
 use ocl_eval::{duplicate_datum, same_datum};

@@ -1,5 +1,5 @@
 //! Whether the repaired model is valid.
-use crate::plain::contents::{Made, contents};
+use crate::contents::{Made, contents};
 use crate::told::Told;
 use mof_metamodel::{ClassId, MetaModel, NoMemory, PropId};
 use qvtr_semantics::Datum;

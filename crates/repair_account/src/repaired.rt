@@ -1,10 +1,10 @@
 //! The repaired model as it is printed: what is reported, and a line for each object.
+use crate::contents::{Made, claims_by, contents, old_contents};
 use crate::data::put_datum;
-use crate::plain::contents::{Made, claims_by, contents, old_contents};
-use crate::plain::facts::FactTable;
-use crate::plain::images::images_of;
-use crate::plain::objects::{numbers_of, rows_of};
-use crate::plain::parts::{breach_at, is_on_cycle, props_of};
+use crate::facts::FactTable;
+use crate::images::images_of;
+use crate::objects::{numbers_of, rows_of};
+use crate::parts::{breach_at, is_on_cycle, props_of};
 use crate::told::Told;
 use case_texts::Pen;
 use demand_set::DemandSet;

@@ -1,9 +1,9 @@
 //! What the slots of the repaired model hold.
 ghost use Rattle.std.specs.Prelude.{◌≤◌, length};
 
-use crate::plain::claims::{Claim, Spot, is_any_against, put_claims};
-use crate::plain::facts::FactTable;
-use crate::plain::objects::Row;
+use crate::claims::{Claim, Spot, is_any_against, put_claims};
+use crate::facts::FactTable;
+use crate::objects::Row;
 use crate::told::Told;
 use demand_set::DemandSet;
 use mof_metamodel::{ClassId, NoMemory, PropId};
