@@ -20,7 +20,8 @@ broken_live m kinds.Upper o p h = owner_live m o p h.1.property
 broken_live m kinds.ContainmentCycle o p h = absurd h
 
 cycle_live : (m : ModelData) (o : ℕ) → Kept m → IsOnCycle m o → IsLive m o
-cycle_live m o k (a, path, by, rest) = let partner = linked_partner m by.0 a o (sound_of m k) by.1.linked in live_from_class m o partner.class partner.class_is
+cycle_live m o k (a, path, by, rest) = let partner = linked_partner m by.0 a o (sound_of m k) by.1.linked in live_from_class m o partner.class
+    partner.class_is
 
 pub breach_live : (m : ModelData) (b : Breach) → Kept m → IsFirstBreach m b → IsLive m b.object.0
 breach_live m b k h = by (option_map (λ p. p.0) b.prop) h

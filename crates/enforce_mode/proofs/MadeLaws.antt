@@ -50,7 +50,8 @@ module _ (m : ModelData) (classes images : List ℕ) where
   pub staying_as : (staying : List Bool) → staying ≡ map (stays m classes images) (range_with_len 0 (length m.objects)) → (o : ℕ)
       → is_staying staying o ≡ stays m classes images o
   staying_as staying is o = elim (cases_lt o (length m.objects)) [
-    | inl below ↦ ap (λ bs. get_or bs o false) is ∙ get_or-map-range_with_len (stays m classes images) 0 (length m.objects) o o false below (omega arith)
+    | inl below ↦ ap (λ bs. get_or bs o false) is
+        ∙ get_or-map-range_with_len (stays m classes images) 0 (length m.objects) o o false below (omega arith)
     | inr past ↦ (
         let long : length staying ≤ o = omega (arith, past, ap length is, length-map-range_with_len (stays m classes images) 0 (length m.objects)) in
         get_or_past staying o false long
@@ -106,7 +107,8 @@ module _ (program : Program) (m : ModelData) (table : List Term) (list : List Nu
   fresh_concrete i d within =
       let t = term_at table (get_or fresh i d) in
       let here : Contains (fresh_terms program m (demanded_terms demands)) t =
-      subst (λ (ts : List Term). Contains ts t) fresh_agree (contains_map (term_at table) fresh (get_or fresh i d) (Contains-get_or fresh i d within)) in
+      subst (λ (ts : List Term). Contains ts t) fresh_agree (contains_map (term_at table) fresh (get_or fresh i d)
+      (Contains-get_or fresh i d within)) in
       placed.placeable.concrete t (Contains-filter (λ u. is_none (image program m u)) (demanded_terms demands) t here)
 
   -- there are as many of them as get fresh objects
@@ -121,7 +123,8 @@ classes_kept program m demands = record {
   meta = refl;
   classes = λ o class within is.
       by o class (object_at m o)
-      (sym (ap (λ (x : Option Object). option_map (λ (ob : Object). ob.class) x) (old_at program m live claims (fresh_terms program m (demanded_terms demands)) o within)) ∙ is);
+      (sym (ap (λ (x : Option Object). option_map (λ (ob : Object). ob.class) x)
+      (old_at program m live claims (fresh_terms program m (demanded_terms demands)) o within)) ∙ is);
 }
   where
     live : ℕ → Bool
@@ -183,7 +186,8 @@ model_by p plan staying stay found fresh meta objects fresh_same meta_same objec
     ∙ ap (λ cs. made_of p.program.now p.target.now staying cs p.numbered.table.now p.numbers.now.fresh)
     (is ∙ ap (λ x. each_once claim_order (all_claims x objects p.numbered.list.now)) meta_same
     ∙ ap (λ os. each_once claim_order (all_claims p.target.now.meta os p.numbered.list.now)) objects_same)
-    ∙ made_is p.program.now p.target.now p.numbered.table.now p.numbered.list.now p.numbered.terms.now p.numbers.now.objects.items p.numbers.now.images
+    ∙ made_is p.program.now p.target.now p.numbered.table.now p.numbered.list.now p.numbered.terms.now p.numbers.now.objects.items
+    p.numbers.now.images
     p.numbers.now.fresh plan.placed plan.numbered staying stay
 
 -- as many objects stay as there are
@@ -207,16 +211,19 @@ planned_by p plan staying stay fresh fresh_same =
 
 -- the list of what stays is the planned one, where it is told by the same images
 pub stays_by : (p : Plan) (os : List ObjId) (staying : List Bool)
-    → staying ≡ map (stays p.target.now (managed_classes p.program.now) (map (λ (o : ObjId). o.0) os)) (range_with_len 0 (length p.target.now.objects))
+    → staying ≡ map (stays p.target.now (managed_classes p.program.now) (map (λ (o : ObjId). o.0) os))
+    (range_with_len 0 (length p.target.now.objects))
     → os ≡ p.numbers.now.images → staying ≡ planned_stays p
 stays_by p os staying is same =
     is
-    ∙ ap (λ (ns : List ObjId). map (stays p.target.now (managed_classes p.program.now) (map (λ (o : ObjId). o.0) ns)) (range_with_len 0 (length p.target.now.objects)))
+    ∙ ap (λ (ns : List ObjId). map (stays p.target.now (managed_classes p.program.now) (map (λ (o : ObjId). o.0) ns))
+    (range_with_len 0 (length p.target.now.objects)))
     same
 
 -- there are identifiers enough, where so few terms are demanded
 pub few_by : (program : Program) (m : ModelData) (table : List Term) (numbers : List ℕ) (ts : List Term) (count : ℕ) → terms_at table numbers ≡ ts
-    → count ≡ length numbers → count + 4_000_000_000 < 2 ^ 64 → length m.objects ≤ 3_999_000_000 → length (fresh_terms program m ts) + length m.objects ≤ 2 ^ 64
+    → count ≡ length numbers → count + 4_000_000_000 < 2 ^ 64 → length m.objects ≤ 3_999_000_000
+    → length (fresh_terms program m ts) + length m.objects ≤ 2 ^ 64
 few_by program m table numbers ts count is counted few room =
     let fewer = fresh_fewer program m ts in
     let long : length numbers ≡ length ts = sym (length-map numbers (term_at table)) ∙ ap length is in

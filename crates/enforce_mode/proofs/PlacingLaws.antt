@@ -90,9 +90,11 @@ pub numbers_once : (table : List Term) (numbers : List ℕ) (demands : List Dema
 numbers_once table numbers demands is i j d below within same =
     let before : i < length numbers = omega (arith, below, within) in
     let first : slice_get (demanded_terms demands) i ≡ Some (term_at table (get_or numbers i d)) =
-    ap (λ ts. slice_get ts i) (sym is) ∙ slice_get-map (term_at table) numbers i ∙ ap (option_map (term_at table)) (slice_get-get_or numbers i d before) in
+    ap (λ ts. slice_get ts i) (sym is) ∙ slice_get-map (term_at table) numbers i
+    ∙ ap (option_map (term_at table)) (slice_get-get_or numbers i d before) in
     let second : slice_get (demanded_terms demands) j ≡ Some (term_at table (get_or numbers i d)) =
     ap (λ ts. slice_get ts j) (sym is) ∙ slice_get-map (term_at table) numbers j
     ∙ ap (option_map (term_at table)) (slice_get-get_or numbers j d within ∙ ap (λ n. Some n) (sym same)) in
-    let place : i ≡ j = one_place (demanded_terms demands) i j (term_at table (get_or numbers i d)) (once_ascending (flat_map terms_in demands)) first second in
+    let place : i ≡ j = one_place (demanded_terms demands) i j (term_at table (get_or numbers i d)) (once_ascending (flat_map terms_in demands))
+    first second in
     omega (arith, below, place)

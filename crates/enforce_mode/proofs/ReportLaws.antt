@@ -47,7 +47,8 @@ reference_else m o p b has attribute isnt = by (is_class_type (type_of m.meta p)
   where
     by : (k : Bool) → is_class_type (type_of m.meta p) ≡ k → IsReferenceOf m o p
     by true is = record { class = has.class; class_is = has.class_is; has = has.has; reference = is }
-    by false is = absurd (true≢false (sym (attribute.1 (record { class = has.class; class_is = has.class_is; has = has.has; attribute = is })) ∙ isnt))
+    by false is = absurd (true≢false (sym (attribute.1 (record { class = has.class; class_is = has.class_is; has = has.has; attribute = is }))
+        ∙ isnt))
 
 -- a reference is one in another model of the metamodel too
 pub reference_too : (m n : ModelData) (o p : ℕ) → n.meta ≡ m.meta → IsPropertyOf n o p → IsReferenceOf m o p → IsReferenceOf n o p
@@ -84,7 +85,8 @@ module _ (m n : ModelData) (o class : ℕ) (classes : HasClassesOf m n) (was : c
       within : o < length m.objects
       within = elim (cases_lt o (length m.objects)) [
         | inl below ↦ below
-        | inr past ↦ absurd (none-some class (sym (ap (λ (x : Option Object). option_map (λ (ob : Object). ob.class) x) (get_or_past m.objects o None past)) ∙ was))
+        | inr past ↦ absurd (none-some class (sym (ap (λ (x : Option Object). option_map (λ (ob : Object). ob.class) x)
+            (get_or_past m.objects o None past)) ∙ was))
       ]
 
   -- it has its properties there too

@@ -30,7 +30,8 @@ module _ (program : Program) (m : ModelData) (staying : List Bool) (claims : Lis
 
   -- the partners at a reference
   pub made_partners : (o p : ℕ) → IsReferenceOf (made_of program m staying claims terms fresh) o p
-      → partners_at (made_of program m staying claims terms fresh) o p ≡ filter_map partner_held (contents_at program m (is_staying staying) claims o p)
+      → partners_at (made_of program m staying claims terms fresh) o p
+      ≡ filter_map partner_held (contents_at program m (is_staying staying) claims o p)
   made_partners o p h =
       ap (λ (s : Slot). s.partners) (slot_is program m (is_staying staying) claims (terms_at terms fresh)
       (enough_ids m (length (terms_at terms fresh)) few_terms) o p h.class h.class_is h.has)

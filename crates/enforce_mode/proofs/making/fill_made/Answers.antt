@@ -13,7 +13,8 @@ pub new-requires : goal.new-requires
 new-requires c =
     let p = c.args.plan.now in
     subst (λ (meta : MetaDesc). All (IsDemandOf meta) p.numbered.list.now) (sym c.meta.ensures)
-    (demands_known p.program.now p.target.now p.numbered.table.now p.numbered.list.now p.numbered.terms.now p.numbers.now.objects.items p.numbers.now.images
+    (demands_known p.program.now p.target.now p.numbered.table.now p.numbered.list.now p.numbered.terms.now p.numbers.now.objects.items
+    p.numbers.now.images
     p.numbers.now.fresh c.requires.plan.placed c.requires.plan.numbered)
 
 pub fill-requires-clause-kept : goal.fill-requires-clause-kept

@@ -18,8 +18,10 @@ made_objects-requires-clause-staying c =
 pub made_objects-requires-clause-concrete : goal.made_objects-requires-clause-concrete
 made_objects-requires-clause-concrete c =
     let p = c.args.plan.now in
-    subst (λ (ks : List ℕ). All (λ k. IsConcrete p.target.now.meta (out-Term (term_at p.numbered.table.now k)).class.0) ks) (sym c.as_slice-fresh.ensures)
-    (fresh_concrete p.program.now p.target.now p.numbered.table.now p.numbered.list.now p.numbered.terms.now p.numbers.now.objects.items p.numbers.now.images
+    subst (λ (ks : List ℕ). All (λ k. IsConcrete p.target.now.meta (out-Term (term_at p.numbered.table.now k)).class.0) ks)
+    (sym c.as_slice-fresh.ensures)
+    (fresh_concrete p.program.now p.target.now p.numbered.table.now p.numbered.list.now p.numbered.terms.now p.numbers.now.objects.items
+    p.numbers.now.images
     p.numbers.now.fresh c.requires.placed c.requires.numbered)
 
 pub returns-in_default-clause-against : goal.returns-in_default-clause-against

@@ -6,4 +6,5 @@ use Rattle.enforce_mode.proofs.reporting.are_same_slots.Given as goal
 
 abbrev pub invariant-loop-p : goal.invariant-loop-p
 invariant-loop-p l =
-    list_all (same_slot l.target l.made l.o.0) (prop_numbers (drop l.p-index l.props)) ≡ list_all (same_slot l.target l.made l.o.0) (prop_numbers l.props)
+    list_all (same_slot l.target l.made l.o.0) (prop_numbers (drop l.p-index l.props))
+    ≡ list_all (same_slot l.target l.made l.o.0) (prop_numbers l.props)
