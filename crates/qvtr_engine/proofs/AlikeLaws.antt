@@ -15,7 +15,7 @@ use Rattle.qvtr_engine.specs.CheckedRelations.{ChainsEnd, ChainsStop, cyclic, de
 use Rattle.qvtr_engine.specs.CheckedScript.{IsResolved, ScriptRefused, fault}
 use Rattle.qvtr_engine.specs.NamedFiles.{named_item}
 use Rattle.qvtr_engine.specs.OneSteps.{AreOne, HaveOneStep}
-use Rattle.qvtr_engine.specs.Question.{Question}
+use Rattle.answer_texts.specs.Question.{Question}
 use Rattle.qvtr_engine.specs.Reply.{Reply}
 use Rattle.qvtr_engine.specs.ScriptFile.{IsScriptAt, ScriptStops}
 use Rattle.qvtr_engine.specs.Steps.{Test, IsOneStep, IsOneTest}

@@ -8,7 +8,7 @@ use Rattle.qvtr_engine.specs.CheckWords.{CheckWords}
 use Rattle.qvtr_engine.specs.ConvertWords.{ConvertWords, IsConvert}
 use Rattle.qvtr_engine.specs.Command.{Command, checks, converts, IsCommand}
 use Rattle.qvtr_engine.specs.declared.status.Status.TheVariants.{Refused, Chain}
-use Rattle.qvtr_engine.specs.Question.{Question}
+use Rattle.answer_texts.specs.Question.{Question}
 use Rattle.qvtr_engine.specs.Reply.{Reply, misused, status_of}
 use Rattle.qvtr_engine.specs.WholeCheckAnswer.{AreAlike}
 use Rattle.qvtr_engine.specs.WholeCheckAnswer as alike

@@ -16,7 +16,7 @@ use Rattle.qvtr_engine.specs.CheckedRelations.{ChainsStop, cyclic, deep}
 use Rattle.qvtr_engine.specs.CheckedScript.{ScriptRefused, fault}
 use Rattle.qvtr_engine.specs.FileStops.{Stops, unloaded, missing, long, misread}
 use Rattle.qvtr_engine.specs.FirstStops.{FirstStop}
-use Rattle.qvtr_engine.specs.Question.{Question}
+use Rattle.answer_texts.specs.Question.{Question}
 use Rattle.qvtr_engine.specs.Reply.{Reply, status_of, status_of_fault}
 use Rattle.qvtr_engine.specs.ScriptFile.{IsScriptAt, IsMisspelled, misspelled, ScriptStops, absent, lengthy, refused}
 use Rattle.qvtr_engine.specs.Steps.{stopped, went_on, failed, passed}

@@ -13,10 +13,11 @@ use Rattle.qvtr_semantics.specs.Satisfaction.{LeastFailing}
 use Rattle.qvtr_semantics.specs.Templates.{Values}
 use Rattle.relation_calls.specs.Seen.{AreClean}
 use Rattle.qvtr_engine.specs.declared.outcome.Stop.{Stop}
-use Rattle.qvtr_engine.specs.CheckReply.{type_refusal, failing_text, cycle_text, deep_text}
+use Rattle.answer_texts.specs.AnswerTexts.{failing_text, cycle_text, deep_text}
+use Rattle.qvtr_engine.specs.CheckReply.{type_refusal}
 use Rattle.qvtr_engine.specs.CheckedRelations.{ChainsEnd, ChainsStop, cyclic, deep, IsVerdict, no}
 use Rattle.qvtr_engine.specs.CheckedScript.{ScriptRefused, fault}
-use Rattle.qvtr_engine.specs.Question.{Question}
+use Rattle.answer_texts.specs.Question.{Question}
 use Rattle.qvtr_engine.specs.Reply.{Reply, fails, chained}
 use Rattle.qvtr_engine.specs.Steps.{failed, passed}
 use Rattle.qvtr_engine.specs.Stops.{OnStop}

@@ -9,7 +9,6 @@ pub mod FileLaws
 pub mod ConvertingLaws
 pub mod ConvertAnswerLaws
 pub mod ConvertAnsweredLaws
-pub mod TellingLaws
 pub mod VerdictLaws
 pub mod AlikeLaws
 pub mod OneCheckLaws

@@ -2,7 +2,7 @@
 use Rattle.std.proofs.Common.{◌≡◌}
 use Rattle.vault_io.specs.Files.{Files}
 use Rattle.qvtr_engine.specs.CheckWords.{CheckWords}
-use Rattle.qvtr_engine.specs.Question.{Question}
+use Rattle.answer_texts.specs.Question.{Question}
 use Rattle.qvtr_engine.specs.Reply.{Reply}
 use Rattle.qvtr_engine.specs.WholeCheckAnswer.{WholeCheckAnswer, question_of, AreAlike}
 use Rattle.qvtr_engine.proofs.VerdictLaws.{HaveOneLeast, one_verdict}

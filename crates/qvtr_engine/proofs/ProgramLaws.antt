@@ -5,7 +5,7 @@ use Rattle.relation_calls.proofs.FailingLaws.{least_is_one}
 use Rattle.qvtr_engine.specs.CheckWords.{CheckWords}
 use Rattle.qvtr_engine.specs.CheckedMetamodels.{numbered_metas}
 use Rattle.qvtr_engine.specs.CheckedNames.{target_of}
-use Rattle.qvtr_engine.specs.Question.{Question}
+use Rattle.answer_texts.specs.Question.{Question}
 use Rattle.qvtr_engine.proofs.AlikeLaws.{HaveOneProgram}
 use Rattle.qvtr_engine.proofs.VerdictLaws.{HaveOneLeast}
 use Rattle.qvtr_engine.proofs.WholeCheckFacts.{steps_are_one}

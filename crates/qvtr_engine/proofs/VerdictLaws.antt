@@ -4,8 +4,8 @@ use Rattle.std.specs.Prelude.{slice_get}
 use Rattle.std.proofs.lemmas.Bool.{cases_lt}
 use Rattle.qvtr_semantics.specs.Satisfaction.{LeastFailing}
 use Rattle.qvtr_semantics.specs.Templates.{Values}
-use Rattle.qvtr_engine.specs.Question.{Question}
-use Rattle.qvtr_engine.specs.CheckReply.{failing_text}
+use Rattle.answer_texts.specs.Question.{Question}
+use Rattle.answer_texts.specs.AnswerTexts.{failing_text}
 use Rattle.qvtr_engine.specs.CheckedRelations.{IsVerdict, yes, no}
 use Rattle.qvtr_engine.specs.Reply.{Reply, fails}
 use Rattle.std.proofs.lemmas.Option.{same_Some}

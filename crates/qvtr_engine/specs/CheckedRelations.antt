@@ -4,8 +4,8 @@ use Rattle.qvtr_semantics.specs.Calls.{RelationCall}
 use Rattle.qvtr_semantics.specs.Chains.{CyclicChain, DeepChain}
 use Rattle.qvtr_semantics.specs.Satisfaction.{Satisfied, LeastFailing}
 use Rattle.qvtr_semantics.specs.Templates.{Values}
-use Rattle.qvtr_engine.specs.Question.{Question}
-use Rattle.qvtr_engine.specs.CheckReply.{cycle_text, deep_text, failing_text}
+use Rattle.answer_texts.specs.Question.{Question}
+use Rattle.answer_texts.specs.AnswerTexts.{cycle_text, deep_text, failing_text}
 use Rattle.qvtr_engine.specs.Reply.{Reply, holds, fails, chained}
 
 -- ---- it goes on

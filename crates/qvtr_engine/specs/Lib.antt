@@ -2,8 +2,6 @@ pub mod Names
 pub mod Paths
 pub mod CheckWords
 pub mod Reply
-pub mod Question
-pub mod AskedView
 pub mod CheckReply
 pub mod Answer
 pub mod Reading

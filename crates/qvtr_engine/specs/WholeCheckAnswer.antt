@@ -12,7 +12,7 @@ use Rattle.qvtr_engine.specs.CheckedMetamodels.{AreMetamodels, MetamodelsStop, n
 use Rattle.qvtr_engine.specs.CheckedModels.{AreModels, ModelsStop, numbered_models}
 use Rattle.qvtr_engine.specs.CheckedScript.{IsResolved, ScriptRefused}
 use Rattle.qvtr_engine.specs.CheckedRelations.{ChainsEnd, ChainsStop, IsVerdict}
-use Rattle.qvtr_engine.specs.Question.{Question}
+use Rattle.answer_texts.specs.Question.{Question}
 use Rattle.qvtr_engine.specs.Reply.{Reply}
 use Rattle.qvtr_engine.specs.ScriptFile.{IsScriptAt, ScriptStops}
 use Rattle.qvtr_engine.specs.Steps.{Step, Test}

@@ -10,7 +10,6 @@ ghost use Rattle.qvtr_engine.specs.RequestView.{request_view};
 ghost use Rattle.qvtr_engine.specs.Stops.{OnStop, StoppedBy, reply_of_verdict};
 ghost use Rattle.qvtr_engine.specs.WholeCheckAnswer.{AnswerFor, AnswerOver, AnswerWith, WholeCheckAnswer};
 
-use crate::asked::Asked;
 use crate::check_request::CheckRequest;
 use crate::input_names::fit_names;
 use crate::judging::{judge, resolve_script};
@@ -18,6 +17,7 @@ use crate::numbering_inputs::{Found, number_models};
 use crate::outcome::{Stop, Verdict};
 use crate::reading_inputs::{read_metamodels, read_models};
 use crate::script_input::script_at;
+use answer_texts::Asked;
 use object_tables::Model;
 use ocl_environments::Metas;
 use qv_syntax::Script;

@@ -7,7 +7,7 @@ ghost use Rattle.qvtr_semantics.specs.Chains.{Chain};
 ghost use Rattle.relation_calls.specs.Askable.{IsFormed};
 ghost use Rattle.relation_calls.specs.Faults.{IsFault};
 ghost use Rattle.check_mode.specs.Verdicts.{IsVerdict};
-ghost use Rattle.qvtr_engine.specs.AskedView.{asked_view};
+ghost use Rattle.answer_texts.specs.AskedView.{asked_view};
 ghost use Rattle.qvtr_engine.specs.CheckReply.{type_refusal};
 ghost use Rattle.qvtr_engine.specs.CheckedRelations as relations;
 ghost use Rattle.qvtr_engine.specs.CheckedScript.{IsResolved, ScriptRefused};
@@ -15,8 +15,8 @@ ghost use Rattle.qvtr_engine.specs.Stops.{OnStop, reply_of_verdict};
 ghost use Rattle.qvtr_engine.specs.Reply.{chained};
 ghost use Rattle.qvtr_engine.specs.WholeCheckAnswer.{AnswerOf};
 
-use crate::asked::Asked;
 use crate::outcome::{Stop, Verdict};
+use answer_texts::Asked;
 use check_mode::{Verdict as Judgement, check};
 use mof_metamodel::{NoMemory, Seq};
 use ocl_environments::{Metas, TypeError, TypeFault};

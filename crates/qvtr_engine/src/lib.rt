@@ -2,7 +2,6 @@
 #![tactic(auto)]
 
 mod arguments;
-mod asked;
 mod check_request;
 mod check_words;
 mod checking;
@@ -15,13 +14,11 @@ mod limits;
 mod numbering_inputs;
 mod outcome;
 mod paths;
-mod quoting;
 mod reading_inputs;
 mod rendering;
 mod reporting;
 mod script_input;
 mod status;
-mod telling;
 mod top;
 
 pub use limits::MAX_FILE;

@@ -1,11 +1,11 @@
-ghost use Rattle.std.specs.Prelude.{◌≡◌, ◌++◌, map, IfOk, IsSomeAnd, OnOk};
-ghost use Rattle.std.specs.List.{concat};
+ghost use Rattle.std.specs.Prelude.{◌≡◌, IfOk, IsSomeAnd};
 ghost use Rattle.qvtr_engine.specs.Reply as spec;
 ghost use Rattle.qvtr_engine.specs.Stops.{reply_of_verdict};
 ghost use Rattle.qvtr_engine.specs.Outcome.{reply_of_stop, reply_of_outcome};
 
 use crate::outcome::{Stop, Verdict};
 use crate::status::Status;
+use answer_texts::concatenate;
 use mof_metamodel::{NoMemory, Seq};
 use std::alloc::Global;
 
@@ -23,25 +23,6 @@ pub(crate) const NO_MEMORY: &[u8] = b"no memory\n";
 pub(crate) struct Page {
     pub status: Status,
     pub text: Seq<u8>,
-}
-
-/// Puts texts behind a text, one behind the other.
-pub(crate) fn add_all(out: &mut Vec<u8>, texts: &[&[u8]]) -> Result<(), NoMemory>
-    ensures { OnOk result (out.new.items ≡ out.old.items ++ concat (map (λ t. t.now) texts.now)) }
-{
-    for text in texts {
-        out.extend_from_slice(text)?;
-    }
-    Ok(())
-}
-
-/// Texts, one behind the other.
-pub(crate) fn concatenate(alloc: Global, texts: &[&[u8]]) -> Result<Seq<u8>, NoMemory>
-    ensures { IfOk result (λ text. text ≡ concat (map (λ t. t.now) texts.now)) }
-{
-    let mut all = Vec::new(alloc);
-    add_all(&mut all, texts)?;
-    Ok(Seq::from_vec(all))
 }
 
 /// What is printed where the file at the path couldn't be read or put.

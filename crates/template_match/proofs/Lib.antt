@@ -5,6 +5,7 @@ pub mod LinkLaws
 pub mod NestedLaws
 pub mod ValueLaws
 pub mod SideLaws
+pub mod StandingLaws
 pub mod TellingLaws
 pub mod ProgressLaws
 pub mod SearchLaws

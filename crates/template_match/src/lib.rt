@@ -18,6 +18,7 @@ mod readiness;
 mod search;
 mod side;
 mod sides;
+mod standing;
 mod task;
 mod values;
 mod without_target;

@@ -3,6 +3,7 @@ ghost use Rattle.std.specs.List.{list_all};
 ghost use Rattle.std.specs.Option.{option_copied};
 ghost use Rattle.qvtr_semantics.specs.Expressions.{setting, value_for};
 ghost use Rattle.qvtr_semantics.specs.Outs.{datum_of};
+ghost use Rattle.qvtr_semantics.specs.Objects.{held_at};
 ghost use Rattle.qvtr_semantics.specs.Templates.{value_at, is_empty_slot, has, meets};
 ghost use Rattle.qvtr_semantics.specs.Bindings.{is_value_of_type, meta_of_type, is_object_for, is_datum_for, is_value_for, have_values, template_meets, are_one, conjunct_holds};
 ghost use Rattle.template_match.specs.Meeting.{item_of, slot_of};
@@ -10,9 +11,10 @@ ghost use Rattle.template_match.specs.Sides.{domain_meets, meets_side};
 
 use crate::side::Side;
 use crate::sides::{clause_of, is_model, is_target_domain};
+use crate::standing::stands_at;
 use crate::task::Task;
 use crate::values::value_at;
-use mof_metamodel::{NoMemory, Seq};
+use mof_metamodel::{NoMemory, PropId, Seq};
 use object_tables::Value;
 use ocl_eval::collections::is_among;
 use ocl_eval::{datum_of, eval, held_at, holds, is_of_class, same_datum};
@@ -92,7 +94,7 @@ fn have_values(task: &Task<'_, '_>, variables: &[u32], binding: &Binding) -> boo
 }
 
 /// Whether the slot is there and empty.
-pub(crate) fn is_empty_slot(slot: &Option<Seq<Datum>>) -> bool
+fn is_empty_slot(slot: &Option<Seq<Datum>>) -> bool
     ensures { result ≡ is_empty_slot slot.now }
 {
     match slot {
@@ -114,17 +116,30 @@ pub(crate) fn has(slot: &Option<Seq<Datum>>, datum: Option<&Datum>) -> bool
     }
 }
 
-/// Whether the value of an expression stands in the slot.
+/// Whether the value of an expression stands at a property of an object.
 pub(crate) fn expression_stands(
     task: &Task<'_, '_>,
     e: &Typed,
     binding: &Binding,
-    slot: &Option<Seq<Datum>>,
+    datum: &Datum,
+    prop: PropId,
 ) -> Result<bool, NoMemory>
-    ensures { IfOk result (λ b. b ≡ has slot.now (datum_of (value_for task.now.program.now task.now.models.now e.now binding.now.values))) }
+    ensures { IfOk result (λ b. b ≡ has (held_at (setting task.now.program.now task.now.models.now) datum.now prop.0) (datum_of (value_for task.now.program.now task.now.models.now e.now binding.now.values))) }
 {
     let out = eval(task.alloc, task.program, e, task.models, binding)?;
-    Ok(has(slot, datum_of(&out)))
+    stands_at(task, datum, prop, datum_of(&out))
+}
+
+/// Whether nothing stands at a property of an object.
+pub(crate) fn is_empty_at(
+    task: &Task<'_, '_>,
+    datum: &Datum,
+    prop: PropId,
+) -> Result<bool, NoMemory>
+    ensures { IfOk result (λ b. b ≡ is_empty_slot (held_at (setting task.now.program.now task.now.models.now) datum.now prop.0)) }
+{
+    let slot = held_at(task.alloc, task.program, task.models, datum, prop)?;
+    Ok(is_empty_slot(&slot))
 }
 
 /// Whether the template matches (QVT 1.3, section 7.11.2.2).
@@ -176,25 +191,25 @@ fn item_holds(
 ) -> Result<bool, NoMemory>
     ensures { IfOk result (λ b. b ≡ item_of task.now.program.now task.now.models.now item.now binding.now.values datum.now) }
 {
-    let slot = held_at(task.alloc, task.program, task.models, datum, item.prop)?;
-    value_stands(task, &item.value, binding, &slot)
+    value_stands(task, &item.value, binding, datum, item.prop)
 }
 
-/// Whether what an item asks holds of a slot.
+/// Whether what an item asks holds of a property of an object.
 #[cycle(meeting)]
 fn value_stands(
     task: &Task<'_, '_>,
     value: &ItemValue,
     binding: &Binding,
-    slot: &Option<Seq<Datum>>,
+    datum: &Datum,
+    prop: PropId,
 ) -> Result<bool, NoMemory>
-    ensures { IfOk result (λ b. b ≡ slot_of task.now.program.now task.now.models.now value.now binding.now.values slot.now) }
+    ensures { IfOk result (λ b. b ≡ slot_of task.now.program.now task.now.models.now value.now binding.now.values (held_at (setting task.now.program.now task.now.models.now) datum.now prop.0)) }
 {
     match value {
-        ItemValue::Null => Ok(is_empty_slot(slot)),
-        ItemValue::Expr { value } => expression_stands(task, value, binding, slot),
+        ItemValue::Null => is_empty_at(task, datum, prop),
+        ItemValue::Expr { value } => expression_stands(task, value, binding, datum, prop),
         ItemValue::Nested { template } => {
-            if has(slot, value_at(binding, template.var)) {
+            if stands_at(task, datum, prop, value_at(binding, template.var))? {
                 template_matches(task, template, binding)
             } else {
                 Ok(false)

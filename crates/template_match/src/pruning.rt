@@ -1,44 +1,37 @@
 ghost use Rattle.std.specs.Prelude.{◌≡◌, ◌||◌, not, map, IfOk};
 ghost use Rattle.std.specs.List.{list_all};
 ghost use Rattle.std.specs.Option.{option_copied};
-ghost use Rattle.qvtr_semantics.specs.Expressions.{value_for};
+ghost use Rattle.qvtr_semantics.specs.Expressions.{setting, value_for};
+ghost use Rattle.qvtr_semantics.specs.Objects.{held_at};
 ghost use Rattle.qvtr_semantics.specs.Outs.{datum_of};
 ghost use Rattle.qvtr_semantics.specs.Templates.{value_at, has};
-ghost use Rattle.template_match.specs.Pruning.{may_have, may_match, may_item, may_value, may_template, may_domain, may_be_one, may_conjunct, may_meet};
+ghost use Rattle.template_match.specs.Pruning.{may_match, may_item, may_value, may_template, may_domain, may_be_one, may_conjunct, may_meet};
 ghost use Rattle.template_match.specs.Ready.{is_ready};
 ghost use Rattle.template_match.specs.Tasks.{problem_of};
 
-use crate::meeting::{are_one, expression_stands, has, is_empty_slot};
+use crate::meeting::{are_one, expression_stands, is_empty_at};
 use crate::readiness::is_ready;
 use crate::sides::{clause_of, is_of_side};
+use crate::standing::may_stand_at;
 use crate::task::Task;
 use crate::values::value_at;
-use mof_metamodel::{NoMemory, Seq};
-use ocl_eval::{datum_of, eval, held_at, holds, is_of_class};
+use mof_metamodel::{NoMemory, PropId};
+use ocl_eval::{datum_of, eval, holds, is_of_class};
 use qv_syntax::{Conj, Dom, Item, ItemValue, Tmpl, Typed};
 use qvtr_semantics::{Binding, Datum};
 
-/// Whether the datum, if there is one yet, stands in the slot.
-fn may_have(slot: &Option<Seq<Datum>>, datum: Option<&Datum>) -> bool
-    ensures { result ≡ may_have slot.now (option_copied datum.entry) }
-{
-    match datum {
-        Some(datum) => has(slot, Some(datum)),
-        None => true,
-    }
-}
-
-/// Whether the value of an expression, if it is settled, stands in the slot.
+/// Whether the value of an expression, if it is settled, stands at a property of an object.
 fn expression_may_stand(
     task: &Task<'_, '_>,
     e: &Typed,
     binding: &Binding,
-    slot: &Option<Seq<Datum>>,
+    datum: &Datum,
+    prop: PropId,
 ) -> Result<bool, NoMemory>
-    ensures { IfOk result (λ b. b ≡ (not (is_ready binding.now.values e.now) || has slot.now (datum_of (value_for task.now.program.now task.now.models.now e.now binding.now.values)))) }
+    ensures { IfOk result (λ b. b ≡ (not (is_ready binding.now.values e.now) || has (held_at (setting task.now.program.now task.now.models.now) datum.now prop.0) (datum_of (value_for task.now.program.now task.now.models.now e.now binding.now.values)))) }
 {
     if is_ready(binding, e) {
-        expression_stands(task, e, binding, slot)
+        expression_stands(task, e, binding, datum, prop)
     } else {
         Ok(true)
     }
@@ -93,25 +86,25 @@ fn item_may_hold(
 ) -> Result<bool, NoMemory>
     ensures { IfOk result (λ b. b ≡ may_item task.now.program.now task.now.models.now item.now binding.now.values datum.now) }
 {
-    let slot = held_at(task.alloc, task.program, task.models, datum, item.prop)?;
-    value_may_stand(task, &item.value, binding, &slot)
+    value_may_stand(task, &item.value, binding, datum, item.prop)
 }
 
-/// Whether nothing is against it yet that what an item asks holds of a slot.
+/// Whether nothing is against it yet that what an item asks holds of a property of an object.
 #[cycle(pruning)]
 fn value_may_stand(
     task: &Task<'_, '_>,
     value: &ItemValue,
     binding: &Binding,
-    slot: &Option<Seq<Datum>>,
+    datum: &Datum,
+    prop: PropId,
 ) -> Result<bool, NoMemory>
-    ensures { IfOk result (λ b. b ≡ may_value task.now.program.now task.now.models.now value.now binding.now.values slot.now) }
+    ensures { IfOk result (λ b. b ≡ may_value task.now.program.now task.now.models.now value.now binding.now.values (held_at (setting task.now.program.now task.now.models.now) datum.now prop.0)) }
 {
     match value {
-        ItemValue::Null => Ok(is_empty_slot(slot)),
-        ItemValue::Expr { value } => expression_may_stand(task, value, binding, slot),
+        ItemValue::Null => is_empty_at(task, datum, prop),
+        ItemValue::Expr { value } => expression_may_stand(task, value, binding, datum, prop),
         ItemValue::Nested { template } => {
-            if may_have(slot, value_at(binding, template.var)) {
+            if may_stand_at(task, datum, prop, value_at(binding, template.var))? {
                 template_may_match(task, template, binding)
             } else {
                 Ok(false)

@@ -1,6 +1,6 @@
 use Rattle.std.proofs.lemmas.Result.{IfOk-weaker}
 use Rattle.relation_calls.specs.Names.{chain_named}
-use Rattle.qvtr_engine.specs.AskedView.{asked_view}
+use Rattle.answer_texts.specs.AskedView.{asked_view}
 use Rattle.qvtr_engine.proofs.JudgingLaws.{told_cycle, told_deep}
 use Rattle.qvtr_engine.proofs.judging.chain_text.Goals as goal
 

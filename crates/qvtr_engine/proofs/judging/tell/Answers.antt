@@ -1,6 +1,6 @@
 use Rattle.std.proofs.Common.{◌≡◌, get_or, ◌∙◌, ap, subst}
-use Rattle.qvtr_engine.specs.AskedView.{asked_view}
-use Rattle.qvtr_engine.specs.CheckReply.{failing_text}
+use Rattle.answer_texts.specs.AskedView.{asked_view}
+use Rattle.answer_texts.specs.AnswerTexts.{failing_text}
 use Rattle.qvtr_engine.specs.CheckedRelations.{yes}
 use Rattle.qvtr_engine.proofs.JudgingLaws.{told_no}
 use Rattle.qvtr_engine.proofs.judging.tell.Goals as goal

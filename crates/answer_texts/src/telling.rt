@@ -9,12 +9,12 @@ ghost use Rattle.object_tables.specs.Models.{id_at};
 ghost use Rattle.xmi_profile.specs.Canon.{boolean_text};
 ghost use Rattle.ocl_environments.specs.Environments.{meta_at};
 ghost use Rattle.relation_calls.specs.Names.{call_named, chain_named};
-ghost use Rattle.qvtr_engine.specs.AskedView.{asked_view};
-ghost use Rattle.qvtr_engine.specs.CheckReply as spec;
+ghost use Rattle.answer_texts.specs.AskedView.{asked_view};
+ghost use Rattle.answer_texts.specs.AnswerTexts as spec;
 
 use crate::asked::Asked;
 use crate::quoting::quoted;
-use crate::rendering::{add_all, concatenate};
+use crate::joining::{add_all, concatenate};
 use mof_metamodel::{EnumId, MetaModel, NoMemory, Seq};
 use object_tables::{Model, ObjId, Value};
 use qv_syntax::{Dom, Rel};
@@ -221,7 +221,7 @@ impl<'a> Asked<'a, '_> {
     }
 
     /// What is printed of a failing binding of a relation.
-    pub(crate) fn failing_text(
+    pub fn failing_text(
         &self,
         alloc: Global,
         rel: &Rel,
@@ -318,14 +318,14 @@ impl<'a> Asked<'a, '_> {
     }
 
     /// What is printed of a chain that comes back to one of its calls.
-    pub(crate) fn cycle_text(&self, alloc: Global, chain: &[CallName]) -> Result<Seq<u8>, NoMemory>
+    pub fn cycle_text(&self, alloc: Global, chain: &[CallName]) -> Result<Seq<u8>, NoMemory>
         ensures { IfOk result (λ text. text ≡ spec.cycle_text (asked_view self.now) (chain_named chain.now)) }
     {
         self.chain_text(alloc, b"cycle\n", chain)
     }
 
     /// What is printed of a chain that has too many calls.
-    pub(crate) fn deep_text(&self, alloc: Global, chain: &[CallName]) -> Result<Seq<u8>, NoMemory>
+    pub fn deep_text(&self, alloc: Global, chain: &[CallName]) -> Result<Seq<u8>, NoMemory>
         ensures { IfOk result (λ text. text ≡ spec.deep_text (asked_view self.now) (chain_named chain.now)) }
     {
         self.chain_text(alloc, b"deep\n", chain)

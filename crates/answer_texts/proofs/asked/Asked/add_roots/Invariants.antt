@@ -1,9 +1,9 @@
 use Rattle.std.proofs.Common.{◌≡◌, drop, ◌++◌}
 use Rattle.std.specs.Prelude.{codes}
 use Rattle.std.specs.List.{flat_map}
-use Rattle.qvtr_engine.specs.AskedView.{asked_view}
-use Rattle.qvtr_engine.specs.CheckReply.{root_text}
-use Rattle.qvtr_engine.proofs.asked.Asked.add_roots.Given as goal
+use Rattle.answer_texts.specs.AskedView.{asked_view}
+use Rattle.answer_texts.specs.AnswerTexts.{root_text}
+use Rattle.answer_texts.proofs.asked.Asked.add_roots.Given as goal
 
 -- what is there and the values that are left are all values
 abbrev pub invariant-loop-domain : goal.invariant-loop-domain

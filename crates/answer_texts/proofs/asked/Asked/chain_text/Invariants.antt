@@ -1,9 +1,9 @@
 use Rattle.std.proofs.Common.{◌≡◌, drop, ◌++◌}
 use Rattle.std.specs.List.{flat_map}
 use Rattle.relation_calls.specs.Names.{chain_named}
-use Rattle.qvtr_engine.specs.AskedView.{asked_view}
-use Rattle.qvtr_engine.specs.CheckReply.{call_line}
-use Rattle.qvtr_engine.proofs.asked.Asked.chain_text.Given as goal
+use Rattle.answer_texts.specs.AskedView.{asked_view}
+use Rattle.answer_texts.specs.AnswerTexts.{call_line}
+use Rattle.answer_texts.proofs.asked.Asked.chain_text.Given as goal
 
 -- what is there and the lines that are left are all of the text
 abbrev pub invariant-loop-call : goal.invariant-loop-call

@@ -3,8 +3,8 @@ use Rattle.std.specs.List.{flat_map}
 use Rattle.std.proofs.lemmas.List.{map-id}
 use Rattle.std.proofs.lemmas.Iterator.{YieldsList-from_chars}
 use Rattle.std.proofs.lemmas.Iterator.Consumers.{YieldsList-end}
-use Rattle.qvtr_engine.specs.CheckReply.{escaped}
-use Rattle.qvtr_engine.proofs.quoting.push_all_escaped.Goals as goal
+use Rattle.answer_texts.specs.AnswerTexts.{escaped}
+use Rattle.answer_texts.proofs.quoting.push_all_escaped.Goals as goal
 
 pub returns : goal.returns
 returns c =

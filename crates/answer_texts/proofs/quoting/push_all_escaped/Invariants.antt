@@ -1,7 +1,7 @@
 use Rattle.std.proofs.Common.{◌≡◌, ◌++◌}
 use Rattle.std.specs.List.{flat_map}
-use Rattle.qvtr_engine.specs.CheckReply.{escaped}
-use Rattle.qvtr_engine.proofs.quoting.push_all_escaped.Given as goal
+use Rattle.answer_texts.specs.AnswerTexts.{escaped}
+use Rattle.answer_texts.proofs.quoting.push_all_escaped.Given as goal
 
 -- the characters so far are written
 abbrev pub invariant-loop-character : goal.invariant-loop-character

@@ -9,7 +9,7 @@ use Rattle.mof_metamodel.specs.declared.desc.EnumDesc.{EnumDesc}
 use Rattle.mof_metamodel.specs.declared.desc.MetaDesc.{MetaDesc}
 use Rattle.mof_metamodel.specs.Metamodels.{enum_count, no_enum}
 use Rattle.ocl_environments.specs.Environments.{meta_at, no_meta}
-use Rattle.qvtr_engine.specs.CheckReply.{literal_text}
+use Rattle.answer_texts.specs.AnswerTexts.{literal_text}
 
 pub quote_characters : chars (codes "'") ≡ codes "'"
 unfolding chars

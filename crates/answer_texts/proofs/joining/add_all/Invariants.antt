@@ -1,6 +1,6 @@
 use Rattle.std.proofs.Common.{◌≡◌, drop, map, ◌++◌}
 use Rattle.std.specs.List.{concat}
-use Rattle.qvtr_engine.proofs.rendering.add_all.Given as goal
+use Rattle.answer_texts.proofs.joining.add_all.Given as goal
 
 -- what is there and the texts that are left are all texts
 abbrev pub invariant-loop-text : goal.invariant-loop-text

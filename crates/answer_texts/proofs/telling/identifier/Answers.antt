@@ -2,7 +2,7 @@ use Rattle.std.proofs.Common.{ℕ, List, [], Option, ◌∙◌, ap, sym}
 use Rattle.std.specs.Prelude.{encode_utf8_all}
 use Rattle.std.specs.Option.{unwrap_or}
 use Rattle.std.proofs.lemmas.Str.{encodes-chars}
-use Rattle.qvtr_engine.proofs.telling.identifier.Goals as goal
+use Rattle.answer_texts.proofs.telling.identifier.Goals as goal
 
 pub returns-then-is_live : goal.returns-then-is_live
 returns-then-is_live c =

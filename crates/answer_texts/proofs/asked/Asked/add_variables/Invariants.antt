@@ -1,8 +1,8 @@
 use Rattle.std.proofs.Common.{◌≡◌, drop, map, ◌++◌}
 use Rattle.std.specs.List.{concat}
-use Rattle.qvtr_engine.specs.AskedView.{asked_view}
-use Rattle.qvtr_engine.specs.CheckReply.{variable_line}
-use Rattle.qvtr_engine.proofs.asked.Asked.add_variables.Given as goal
+use Rattle.answer_texts.specs.AskedView.{asked_view}
+use Rattle.answer_texts.specs.AnswerTexts.{variable_line}
+use Rattle.answer_texts.proofs.asked.Asked.add_variables.Given as goal
 
 -- what is there and the lines that are left are all lines
 abbrev pub invariant-loop-variable : goal.invariant-loop-variable

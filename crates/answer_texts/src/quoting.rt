@@ -1,7 +1,7 @@
 //! Strings as they are written in a script: between quotes, with escapes.
 ghost use Rattle.std.specs.Prelude.{◌≡◌, ◌++◌, IfOk, OnOk};
 ghost use Rattle.std.specs.List.{flat_map};
-ghost use Rattle.qvtr_engine.specs.CheckReply as spec;
+ghost use Rattle.answer_texts.specs.AnswerTexts as spec;
 
 use mof_metamodel::{NoMemory, Text};
 use std::alloc::Global;
