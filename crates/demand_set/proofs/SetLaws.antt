@@ -116,6 +116,9 @@ module _ (metas : List MetaDesc) (program : Program) (models : List ModelData) (
     is_conflict clash is = record {
       entries = d.entries;
       are = are;
+      acyclic = whole.acyclic;
+      short = whole.short;
+      met = whole.met;
       clash_is = subst (λ ds. IsClash (target_metamodel program models) d.entries ds clash) told is;
     }
 
@@ -149,6 +152,9 @@ refusal_moved metas program ms ns p agree meta (errors.Unmet entry place) r = (
 refusal_moved metas program ms ns p agree meta (errors.Conflict clash) r = record {
   entries = r.entries;
   are = are_to metas program ms ns p.evaluable p.enforceable agree meta r.entries r.are;
+  acyclic = λ chain c. r.acyclic chain (cyclic_back metas program ms ns p.evaluable p.enforceable agree meta chain c);
+  short = λ chain c. r.short chain (deep_back metas program ms ns p.evaluable p.enforceable agree meta chain c);
+  met = λ e u. r.met e (unmet_back metas program ms ns p.evaluable p.enforceable agree meta e u);
   clash_is =
       subst (λ m. IsClash m r.entries (demands_of program ns r.entries) clash) meta
       (subst (λ ds. IsClash (target_metamodel program ms) r.entries ds clash) (demands_same metas program ms ns p.evaluable p.enforceable agree meta r.entries r.are.only) r.clash_is);

@@ -34,10 +34,13 @@ pub record IsDemandSet (program : Program) (models : List ModelData) (d : Demand
   pub met : (e : Entry) → ¬ IsUnmet program models e
   pub peaceful : AreAtPeace (target_metamodel program models) d.list
 
--- two demands of the entries are in conflict, and this is told of them
+-- two demands of the entries are in conflict, and this is told of them; no chain of calls comes back to a call or is too long, and no entry is unmet
 pub record IsConflict (program : Program) (models : List ModelData) (clash : Clash) : Type 0 where
   pub entries : List Entry
   pub are : AreEntries program models entries
+  pub acyclic : (chain : List EntryName) → ¬ CyclicEntries program models chain
+  pub short : (chain : List EntryName) → ¬ DeepEntries program models chain
+  pub met : (e : Entry) → ¬ IsUnmet program models e
   pub clash_is : IsClash (target_metamodel program models) entries (demands_of program models entries) clash
 
 -- what an error says
