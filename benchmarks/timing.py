@@ -1,20 +1,18 @@
-"""How long a run of the built program takes, how much memory, and what it prints."""
+"""How much processor time a run of the built program takes, how much memory, and what it prints."""
 import os
 import subprocess
 import sys
 import tempfile
-import time
 
 
 def timed(words, folder, given=None):
-    """Runs the words in a folder, with a file of it as their input where one is named: seconds, peak memory in bytes, and what was printed,
-    its lines joined by slashes and cut."""
-    before = time.time()
+    """Runs the words in a folder, with a file of it as their input where one is named: processor seconds, which other work on the machine
+    hardly changes, peak memory in bytes, and what was printed, its lines joined by slashes and cut."""
     with open(os.path.join(folder, given) if given else os.devnull, 'rb') as source:
         process = subprocess.Popen(words, cwd=folder, stdin=source, stdout=subprocess.PIPE, stderr=subprocess.STDOUT)
     printed = process.stdout.read()
     _, _, usage = os.wait4(process.pid, 0)
-    return time.time() - before, usage.ru_maxrss * 1024, ' / '.join(printed.decode(errors='replace').strip().split('\n'))[:120]
+    return usage.ru_utime + usage.ru_stime, usage.ru_maxrss * 1024, ' / '.join(printed.decode(errors='replace').strip().split('\n'))[:120]
 
 
 def run(usage, measure):
