@@ -29,7 +29,6 @@ fn linked(model: &Model<'_>, object: ObjId, prop: PropId, partner: ObjId) -> Opt
 }
 
 /// The same of two objects of the model of this number.
-#[tactic(auto, using(crate::proofs::StandingLaws::linked_stands))]
 fn linked_in(
     task: &Task<'_, '_>,
     number: u32,
