@@ -1,0 +1,9 @@
+pub mod Twins
+pub mod TwinBindings
+pub mod TwinVariables
+pub mod TwinSources
+pub mod TwinTargets
+pub mod TwinCalls
+pub mod TwinHolds
+pub mod TwinChains
+pub mod SameTwins
