@@ -13,8 +13,8 @@ ghost use Rattle.answer_texts.specs.AskedView.{asked_view};
 ghost use Rattle.answer_texts.specs.AnswerTexts as spec;
 
 use crate::asked::Asked;
-use crate::quoting::quoted;
 use crate::joining::{add_all, concatenate};
+use crate::quoting::quoted;
 use mof_metamodel::{EnumId, MetaModel, NoMemory, Seq};
 use object_tables::{Model, ObjId, Value};
 use qv_syntax::{Dom, Rel};
@@ -159,7 +159,9 @@ impl<'a> Asked<'a, '_> {
         concatenate(alloc, &[name, b":", identifier])
     }
 
-    fn datum_text(&self, alloc: Global, datum: &Datum) -> Result<Seq<u8>, NoMemory>
+    /// What is printed of a datum: an object by the name of its model and its identifier, a string between quotes, a number, a Boolean, or
+    /// a literal by the name of its enumeration and its own.
+    pub fn datum_text(&self, alloc: Global, datum: &Datum) -> Result<Seq<u8>, NoMemory>
         ensures { IfOk result (λ text. text ≡ spec.datum_text (asked_view self.now) datum.now) }
     {
         match datum {

@@ -1,0 +1,4 @@
+pub mod PairLaws
+pub mod CommaLaws
+pub mod KeyLaws
+pub mod PropLaws
