@@ -1,0 +1,4 @@
+pub mod Traces
+pub mod Naming
+pub mod Cuts
+pub mod Givens
