@@ -1,0 +1,5 @@
+mod CountingLaws
+mod AskableLaws
+mod RefusalLaws
+mod MakingLaws
+mod SatisfyingLaws

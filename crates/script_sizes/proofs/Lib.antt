@@ -1,0 +1,4 @@
+mod TokenSizes
+mod ConjunctSizes
+mod ClauseSizes
+mod ProgramSizes
