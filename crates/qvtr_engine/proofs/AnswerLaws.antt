@@ -10,8 +10,9 @@ use Rattle.qvtr_engine.specs.Command.{Command, checks, converts, IsCommand}
 use Rattle.qvtr_engine.specs.declared.status.Status.TheVariants.{Refused, Chain}
 use Rattle.answer_texts.specs.Question.{Question}
 use Rattle.qvtr_engine.specs.Reply.{Reply, misused, status_of}
-use Rattle.qvtr_engine.specs.WholeCheckAnswer.{AreAlike}
-use Rattle.qvtr_engine.specs.WholeCheckAnswer as alike
+use Rattle.qvtr_engine.specs.CheckAnswer.{AreChains}
+use Rattle.qvtr_engine.specs.StepsAnswer.{AreAlike}
+use Rattle.qvtr_engine.specs.StepsAnswer as alike
 use Rattle.qvtr_engine.proofs.ConvertAnswerLaws.{convert_answer_single}
 use Rattle.qvtr_engine.proofs.ConvertAnsweredLaws.{Replied, answered_by, convert_replied}
 use Rattle.qvtr_engine.proofs.CommandLaws.{one_command}
@@ -45,10 +46,10 @@ chain_status : (q : Question) (reply : Reply) → ChainsStop q reply → status_
 chain_status q reply (cyclic chain is) = refl
 chain_status q reply (deep chain is) = refl
 
-alike_status : (files : Files) (w : CheckWords) (reply other : Reply) → AreAlike files w reply other → status_of reply ≡ status_of other
+alike_status : (files : Files) (w : CheckWords) (reply other : Reply) → AreAlike AreChains files w reply other → status_of reply ≡ status_of other
 alike_status files w reply other (alike.same r) = refl
 alike_status files w reply other (alike.faults i r o s t) = refused_status _ _ _ _ r s ∙ sym (refused_status _ _ _ _ o t)
-alike_status files w reply other (alike.chains i p is r o s t) = chain_status _ r s ∙ sym (chain_status _ o t)
+alike_status files w reply other (alike.lasts i p is r o both) = chain_status _ r both.one ∙ sym (chain_status _ o both.two)
 
 alike_answers_status : (words : List (List ℕ)) (files : Files) (reply other : Reply) → AreAlikeAnswers words files reply other → status_of reply ≡ status_of other
 alike_answers_status words files reply other (same r) = refl

@@ -21,7 +21,8 @@ use Rattle.qvtr_engine.specs.Reply.{Reply, status_of, status_of_fault}
 use Rattle.qvtr_engine.specs.ScriptFile.{IsScriptAt, IsMisspelled, misspelled, ScriptStops, absent, lengthy, refused}
 use Rattle.qvtr_engine.specs.Steps.{stopped, went_on, failed, passed}
 use Rattle.qvtr_engine.specs.Verdicts.{HasVerdict, IsJudged}
-use Rattle.qvtr_engine.specs.WholeCheckAnswer.{WholeCheckAnswer, AnswerOver, AnswerWith, AnswerFor, AnswerOf, Inputs, ResolvesTo, question_of}
+use Rattle.qvtr_engine.specs.CheckAnswer.{VerdictAnswer, CheckAnswer}
+use Rattle.qvtr_engine.specs.StepsAnswer.{AnswerOver, AnswerWith, AnswerFor, Inputs, ResolvesTo, question_of}
 
 pub fault_unjudged : IsJudged Fault → ⊥
 fault_unjudged (inl e) = cc
@@ -79,36 +80,36 @@ chains_unjudged q reply (deep chain is) j = chain_unjudged j
 
 -- ---- from the last step to the first
 
-of_question : (files : Files) (w : CheckWords) (i : Inputs files w) (p : Program) → ResolvesTo files w i p → (reply : Reply) → AnswerOf (question_of files w i p) reply
+of_question : (files : Files) (w : CheckWords) (i : Inputs files w) (p : Program) → ResolvesTo files w i p → (reply : Reply) → VerdictAnswer (question_of files w i p) reply
     → IsJudged (status_of reply) → HasVerdict files w reply
 of_question files w i p is reply (failed st) j = absurd (chains_unjudged (question_of files w i p) reply st j)
 of_question files w i p is reply (passed end verdict) j = record { inputs = i; program = p; resolved = is; end = end; verdict = verdict }
 
 of_inputs : (files : Files) (w : CheckWords) (i : Inputs files w) (reply : Reply)
-    → AnswerFor w i.script (numbered_metas w i.script i.metas) (numbered_models w i.script i.models) reply → IsJudged (status_of reply) → HasVerdict files w reply
+    → AnswerFor VerdictAnswer w i.script (numbered_metas w i.script i.metas) (numbered_models w i.script i.models) reply → IsJudged (status_of reply) → HasVerdict files w reply
 of_inputs files w i reply (stopped st) j = absurd (types_unjudged w.script (numbered_metas w i.script i.metas) i.script (target_of w) reply st j)
 of_inputs files w i reply (went_on p is more) j = of_question files w i p is reply more j
 
 of_models : (files : Files) (w : CheckWords) (s : Script) (metas : List MetaDesc) → IsScriptAt files w.script s → NamesFit w s → AreMetamodels files w s metas
-    → (reply : Reply) → AnswerWith files w s (numbered_metas w s metas) reply → IsJudged (status_of reply) → HasVerdict files w reply
+    → (reply : Reply) → AnswerWith VerdictAnswer files w s (numbered_metas w s metas) reply → IsJudged (status_of reply) → HasVerdict files w reply
 of_models files w s metas at fit are reply (stopped st) j =
     absurd (first_unjudged (IsReadModel files s (numbered_metas w s metas)) (ModelStops files s (numbered_metas w s metas)) (λ b r x. file_unjudged files b.path _ _ r x) (model_files w s) reply st j)
 of_models files w s metas at fit are reply (went_on models read more) j =
     of_inputs files w (record { script = s; at = at; fit = fit; metas = metas; metamodels = are; models = models; read = read }) reply more j
 
-of_files : (files : Files) (w : CheckWords) (s : Script) → IsScriptAt files w.script s → NamesFit w s → (reply : Reply) → AnswerOver files w s reply
+of_files : (files : Files) (w : CheckWords) (s : Script) → IsScriptAt files w.script s → NamesFit w s → (reply : Reply) → AnswerOver VerdictAnswer files w s reply
     → IsJudged (status_of reply) → HasVerdict files w reply
 of_files files w s at fit reply (stopped st) j =
     absurd (first_unjudged (IsReadMeta files) (MetaStops files) (λ b r x. file_unjudged files b.path _ _ r x) (metamodel_files w s) reply st j)
 of_files files w s at fit reply (went_on metas are more) j = of_models files w s metas at fit are reply more j
 
-pub judged_check : (files : Files) (w : CheckWords) (reply : Reply) → WholeCheckAnswer files w reply → IsJudged (status_of reply) → HasVerdict files w reply
+pub judged_check : (files : Files) (w : CheckWords) (reply : Reply) → CheckAnswer files w reply → IsJudged (status_of reply) → HasVerdict files w reply
 judged_check files w reply (stopped st) j = absurd (script_unjudged files w.script reply st j)
 judged_check files w reply (went_on s at (failed st)) j = absurd (names_unjudged w s reply st j)
 judged_check files w reply (went_on s at (passed fit more)) j = of_files files w s at fit reply more j
 
 -- and such a verdict is the answer
-pub verdict_answer : (files : Files) (w : CheckWords) (reply : Reply) → HasVerdict files w reply → WholeCheckAnswer files w reply
+pub verdict_answer : (files : Files) (w : CheckWords) (reply : Reply) → HasVerdict files w reply → CheckAnswer files w reply
 verdict_answer files w reply h =
     let i : Inputs files w = h.inputs in
     went_on i.script i.at (passed i.fit (went_on i.metas i.metamodels (went_on i.models i.read (went_on h.program h.resolved (passed h.end h.verdict)))))

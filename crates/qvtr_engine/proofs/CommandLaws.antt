@@ -4,15 +4,15 @@ use Rattle.std.specs.Prelude.{codes}
 use Rattle.qvtr_engine.specs.CheckWords.{CheckWords}
 use Rattle.qvtr_engine.specs.Command.{Command, checks, converts, IsCommand, IsUsage, convert_after, command_after, command_of}
 use Rattle.qvtr_engine.specs.ConvertWords.{ConvertWords, IsConvert, convert_of}
-use Rattle.qvtr_engine.specs.WholeCheckWords.{IsWholeCheck, whole_check_of}
-use Rattle.qvtr_engine.proofs.WholeCheckWordLaws.{whole_check_found, whole_check_again}
+use Rattle.qvtr_engine.specs.RequestWords.{IsCheck, check_name, request_of}
+use Rattle.qvtr_engine.proofs.RequestWordLaws.{request_found, request_again}
 use Rattle.qvtr_engine.proofs.ConvertLaws.{convert_found, convert_again}
 use Rattle.std.proofs.lemmas.Option.{same_Some}
 
 pub command_found : (words : List (List ℕ)) (command : Command) → command_of words ≡ Some command → IsCommand words command
 command_found words command e =
-    elim (whole_check_of words) as (λ o. whole_check_of words ≡ o → command_after o (convert_of words) ≡ Some command → IsCommand words command) [
-      | Some w ↦ λ is f. let same : checks w ≡ command = cc in subst_command same (whole_check_found words w is)
+    elim (request_of check_name words) as (λ o. request_of check_name words ≡ o → command_after o (convert_of words) ≡ Some command → IsCommand words command) [
+      | Some w ↦ λ is f. let same : checks w ≡ command = cc in subst_command same (request_found check_name words w is)
       | None ↦ λ no f.
           elim (convert_of words) as (λ o. convert_of words ≡ o → convert_after o ≡ Some command → IsCommand words command) [
             | Some c ↦ λ is f. let same : converts c ≡ command = cc in subst_command same (convert_found words c is)
@@ -30,14 +30,14 @@ not_convert : codes "check" ≡ codes "convert" → ⊥
 not_convert e = cc
 
 -- words of one command are none of the other
-no_check : (words : List (List ℕ)) (c : ConvertWords) → IsConvert words c → (w : CheckWords) → IsWholeCheck words w → ⊥
+no_check : (words : List (List ℕ)) (c : ConvertWords) → IsConvert words c → (w : CheckWords) → IsCheck words w → ⊥
 no_check words c h w k = not_convert (head_same _ _ _ _ (sym k.named ∙ h.named))
 
 pub command_again : (words : List (List ℕ)) (command : Command) → IsCommand words command → command_of words ≡ Some command
-command_again words (checks w) h = ap (λ o. command_after o (convert_of words)) (whole_check_again words w h)
+command_again words (checks w) h = ap (λ o. command_after o (convert_of words)) (request_again check_name words w h)
 command_again words (converts c) h =
-    elim (whole_check_of words) as (λ o. whole_check_of words ≡ o → command_after o (convert_of words) ≡ Some (converts c)) [
-      | Some w ↦ λ is. absurd (no_check words c h w (whole_check_found words w is))
+    elim (request_of check_name words) as (λ o. request_of check_name words ≡ o → command_after o (convert_of words) ≡ Some (converts c)) [
+      | Some w ↦ λ is. absurd (no_check words c h w (request_found check_name words w is))
       | None ↦ λ no. ap convert_after (convert_again words c h)
     ] refl
 

@@ -21,7 +21,7 @@ use Rattle.answer_texts.specs.Question.{Question}
 use Rattle.qvtr_engine.specs.Reply.{Reply, fails, chained}
 use Rattle.qvtr_engine.specs.Steps.{failed, passed}
 use Rattle.qvtr_engine.specs.Stops.{OnStop}
-use Rattle.qvtr_engine.specs.WholeCheckAnswer.{AnswerOf}
+use Rattle.qvtr_engine.specs.CheckAnswer.{VerdictAnswer}
 use Rattle.qvtr_engine.proofs.StopLaws.{on_stop_wider}
 
 -- a fault that stands is told
@@ -55,8 +55,8 @@ told_deep q chain text is told = subst (λ t. ChainsStop q (chained t)) (sym tol
 ended : (q : Question) → AreClean (Chain q.program q.models) → ChainsEnd q
 ended q clean = record { cyclic = λ chain is. clean chain is.reached (inl is.cyclic); deep = λ chain is. clean chain is.reached (inr is.deep) }
 
-pub judged : (q : Question) (reply : Reply) → AreClean (Chain q.program q.models) → IsVerdict q reply → AnswerOf q reply
+pub judged : (q : Question) (reply : Reply) → AreClean (Chain q.program q.models) → IsVerdict q reply → VerdictAnswer q reply
 judged q reply clean verdict = passed (ended q clean) verdict
 
-pub stopped_at_chain : (s : Stop) (q : Question) → OnStop s (ChainsStop q) → OnStop s (AnswerOf q)
-stopped_at_chain s q h = on_stop_wider s (ChainsStop q) (AnswerOf q) (λ reply st. failed st) h
+pub stopped_at_chain : (s : Stop) (q : Question) → OnStop s (ChainsStop q) → OnStop s (VerdictAnswer q)
+stopped_at_chain s q h = on_stop_wider s (ChainsStop q) (VerdictAnswer q) (λ reply st. failed st) h

@@ -7,6 +7,7 @@ pub mod RefLaws
 pub mod StopLaws
 pub mod FileLaws
 pub mod ConvertingLaws
+pub mod ReadingFileLaws
 pub mod ConvertAnswerLaws
 pub mod ConvertAnsweredLaws
 pub mod VerdictLaws
@@ -21,12 +22,13 @@ pub mod RunLaws
 pub mod StepLaws
 pub mod ScriptFileLaws
 pub mod RequestLaws
-pub mod WholeCheckWordLaws
+pub mod TargetLaws
+pub mod RequestWordLaws
 pub mod NumberingLaws
 pub mod FirstLaws
 pub mod InputNameLaws
 pub mod ModelFileLaws
-pub mod WholeCheckFacts
+pub mod InputStepLaws
 pub mod ScriptInputLaws
 pub mod ReadingInputLaws
 pub mod InputFileLaws

@@ -8,7 +8,7 @@ use Rattle.qvtr_engine.specs.CheckedNames.{target_of}
 use Rattle.answer_texts.specs.Question.{Question}
 use Rattle.qvtr_engine.proofs.AlikeLaws.{HaveOneProgram}
 use Rattle.qvtr_engine.proofs.VerdictLaws.{HaveOneLeast}
-use Rattle.qvtr_engine.proofs.WholeCheckFacts.{steps_are_one}
+use Rattle.qvtr_engine.proofs.InputStepLaws.{steps_are_one}
 
 pub one_program : (files : Files) (w : CheckWords) → HaveOneProgram files w
 one_program files w i p q x y =

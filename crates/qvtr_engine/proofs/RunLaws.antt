@@ -23,8 +23,8 @@ use Rattle.qvtr_engine.specs.Reply.{Reply, misused, unread, faulty, too_long, ho
 use Rattle.qvtr_engine.specs.Run.{Due, answered, starved, faulted_at, faulted_after, Ends, printed, cut_off, IsPut, KeepsFiles, IsAnswered, HasCause, IsOwed, HasConverted}
 use Rattle.qvtr_engine.specs.Stops.{reply_of_verdict, StoppedBy}
 use Rattle.qvtr_engine.specs.Verdicts.{HasVerdict, IsJudged}
-use Rattle.qvtr_engine.specs.WholeCheckAnswer.{WholeCheckAnswer}
-use Rattle.qvtr_engine.specs.WholeCheckWords.{IsWholeCheck}
+use Rattle.qvtr_engine.specs.CheckAnswer.{CheckAnswer}
+use Rattle.qvtr_engine.specs.RequestWords.{IsCheck}
 use Rattle.qvtr_engine.proofs.AnswerLaws.{one_status}
 use Rattle.qvtr_engine.proofs.CheckedLaws.{judged_check, verdict_answer, no_memory_unjudged, fault_unjudged}
 use Rattle.qvtr_engine.proofs.CommandLaws.{one_command, no_command_usage}
@@ -62,7 +62,7 @@ verdict_due words files command faulted verdict.Yes c is = answered holds (repli
 verdict_due words files command faulted (verdict.No x) c is = answered (fails x) (replied command c (fails x) is)
 
 outcome_due : (words : List (List ℕ)) (files : Files) (w : CheckWords) (faulted : Type 0) (r : Result Verdict Stop) → IsCommand words (checks w)
-    → IfOk r (λ v. WholeCheckAnswer files w (reply_of_verdict v)) → IfErr r (λ s. StoppedBy s (Some files) (λ fs. WholeCheckAnswer fs w) faulted (check_paths w))
+    → IfOk r (λ v. CheckAnswer files w (reply_of_verdict v)) → IfErr r (λ s. StoppedBy s (Some files) (λ fs. CheckAnswer fs w) faulted (check_paths w))
     → IfSome (reply_of_outcome r) (λ reply. Due words files faulted (status_of reply) (text_of reply) files)
 outcome_due words files w faulted (Ok v) c ok err = verdict_due words files (checks w) faulted v c ok
 outcome_due words files w faulted (Err s) c ok err = stop_due words files (checks w) faulted s c err
@@ -178,7 +178,7 @@ all_only told words vf sf before after told_after result e =
 
 -- ---- verdicts
 
-answer_judged : (words : List (List ℕ)) (files : Files) (w : CheckWords) → IsWholeCheck words w → (reply : Reply) → Answer words files reply → IsJudged (status_of reply)
+answer_judged : (words : List (List ℕ)) (files : Files) (w : CheckWords) → IsCheck words w → (reply : Reply) → Answer words files reply → IsJudged (status_of reply)
     → HasVerdict files w reply
 answer_judged words files w is reply (usage u) j = absurd (u (checks w) is)
 answer_judged words files w is reply (replied command h p r) j =
@@ -188,7 +188,7 @@ answer_judged words files w is reply (replied command h p r) j =
 abbrev GivesVerdict : Files → CheckWords → Status → Type 0
 GivesVerdict files w status = (reply : Reply) × HasVerdict files w reply × (status_of reply ≡ status)
 
-due_judged : (words : List (List ℕ)) (files : Files) (w : CheckWords) (faulted : Type 0) (status : Status) (text : List ℕ) (then : Files) → IsWholeCheck words w
+due_judged : (words : List (List ℕ)) (files : Files) (w : CheckWords) (faulted : Type 0) (status : Status) (text : List ℕ) (then : Files) → IsCheck words w
     → Due words files faulted status text then → IsJudged status → GivesVerdict files w status
 due_judged words files w faulted status text then is (answered reply a) j = (reply, answer_judged words files w is reply a j, refl)
 due_judged words files w faulted NoMemory text then is starved j = absurd (no_memory_unjudged j)
@@ -196,19 +196,19 @@ due_judged words files w faulted Fault text then is (faulted_at f path p) j = ab
 due_judged words files w faulted Fault text then is (faulted_after f path bytes a) j = absurd (fault_unjudged j)
 
 ends_judged : (words : List (List ℕ)) (files : Files) (w : CheckWords) (vault_faulted sink_faulted : Type 0) (before after : Option (List ℕ)) (told : Option Files) (result : Status)
-    → IsWholeCheck words w → Ends words files vault_faulted sink_faulted before after told result → IsJudged result → GivesVerdict files w result
+    → IsCheck words w → Ends words files vault_faulted sink_faulted before after told result → IsJudged result → GivesVerdict files w result
 ends_judged words files w vf sf before after told result is (printed text then due same at) j = due_judged words files w vf result text then is due j
 ends_judged words files w vf sf before after told Fault is (cut_off text then due same f p) j = absurd (fault_unjudged j)
 
 pub all_judged : (told : Option Files) (words : List (List ℕ)) (vault_faulted sink_faulted : Type 0) (before after : Option (List ℕ)) (told_after : Option Files) (result : Status)
     → IfSome told (λ files. Ends words files vault_faulted sink_faulted before after told_after result)
-    → IfSome told (λ files. (w : CheckWords) → IsWholeCheck words w → IsJudged result → (reply : Reply) × HasVerdict files w reply × (status_of reply ≡ result))
+    → IfSome told (λ files. (w : CheckWords) → IsCheck words w → IsJudged result → (reply : Reply) × HasVerdict files w reply × (status_of reply ≡ result))
 all_judged told words vf sf before after told_after result e =
     if_some_map told _ _ (λ files ends w is j. ends_judged words files w vf sf before after told_after result is ends j) e
 
 pub all_verdict : (told : Option Files) (words : List (List ℕ)) (vault_faulted sink_faulted : Type 0) (before after : Option (List ℕ)) (told_after : Option Files) (result : Status)
     → IfSome told (λ files. Ends words files vault_faulted sink_faulted before after told_after result)
-    → IfSome told (λ files. (w : CheckWords) (reply : Reply) → IsWholeCheck words w → HasVerdict files w reply → IsOwed (status_of reply) (vault_faulted ⊎ sink_faulted) result)
+    → IfSome told (λ files. (w : CheckWords) (reply : Reply) → IsCheck words w → HasVerdict files w reply → IsOwed (status_of reply) (vault_faulted ⊎ sink_faulted) result)
 all_verdict told words vf sf before after told_after result e =
     if_some_map told _ _ (λ files ends w reply is h. ends_only words files vf sf before after told_after result reply ends
     (replied (checks w) is reply (verdict_answer files w reply h))) e
@@ -373,7 +373,7 @@ stop_fault told words command vf (stop.Chained text) c st = λ e. absurd (chain_
 stop_fault told words command vf stop.NoMemory c st = tt
 
 outcome_fault : (told : Option Files) (words : List (List ℕ)) (w : CheckWords) (vault_faulted : Type 0) (r : Result Verdict Stop) → IsCommand words (checks w)
-    → IfErr r (λ s. StoppedBy s told (λ fs. WholeCheckAnswer fs w) vault_faulted (check_paths w))
+    → IfErr r (λ s. StoppedBy s told (λ fs. CheckAnswer fs w) vault_faulted (check_paths w))
     → IfSome (reply_of_outcome r) (λ reply. status_of reply ≡ Fault → vault_faulted ⊎ IsUnreadable told words)
 outcome_fault told words w vf (Ok verdict.Yes) c err = λ e. absurd (done_not_fault e)
 outcome_fault told words w vf (Ok (verdict.No x)) c err = λ e. absurd (no_not_fault e)

@@ -7,12 +7,13 @@ use Rattle.qvtr_engine.specs.CheckWords.{CheckWords}
 use Rattle.qvtr_engine.specs.Command.{Command, checks, converts, IsCommand, IsUsage}
 use Rattle.qvtr_engine.specs.ConvertAnswer.{ConvertAnswer}
 use Rattle.qvtr_engine.specs.Reply.{Reply, misused, unread, faulty, too_long, holds, fails, chained, converted}
-use Rattle.qvtr_engine.specs.WholeCheckAnswer.{WholeCheckAnswer, AreAlike}
-use Rattle.qvtr_engine.specs.WholeCheckWords.{IsWholeCheck}
+use Rattle.qvtr_engine.specs.CheckAnswer.{CheckAnswer, AreChains}
+use Rattle.qvtr_engine.specs.RequestWords.{IsCheck}
+use Rattle.qvtr_engine.specs.StepsAnswer.{AreAlike}
 
 -- the reply to a command
 abbrev pub IsReply : Files → Command → Reply → Type 0
-IsReply files (checks w) reply = WholeCheckAnswer files w reply
+IsReply files (checks w) reply = CheckAnswer files w reply
 IsReply files (converts c) reply = ConvertAnswer files c reply
 
 pub data Answer (words : List (List ℕ)) (files : Files) : Reply → Type 0 where
@@ -39,4 +40,4 @@ pub record HasOneAnswer (words : List (List ℕ)) (files : Files) : Type 0 where
 -- Two answers of which either may be given: they are one, or alike as replies to a check.
 pub data AreAlikeAnswers (words : List (List ℕ)) (files : Files) : Reply → Reply → Type 0 where
   same : (reply : Reply) → AreAlikeAnswers words files reply reply
-  checked : (w : CheckWords) → IsWholeCheck words w → (reply other : Reply) → AreAlike files w reply other → AreAlikeAnswers words files reply other
+  checked : (w : CheckWords) → IsCheck words w → (reply other : Reply) → AreAlike AreChains files w reply other → AreAlikeAnswers words files reply other

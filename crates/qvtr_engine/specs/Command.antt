@@ -2,14 +2,14 @@
 use Rattle.std.specs.Prelude.{ℕ, List, Option, Some, None}
 use Rattle.qvtr_engine.specs.CheckWords.{CheckWords, check_paths}
 use Rattle.qvtr_engine.specs.ConvertWords.{ConvertWords, IsConvert, convert_paths, convert_of}
-use Rattle.qvtr_engine.specs.WholeCheckWords.{IsWholeCheck, whole_check_of}
+use Rattle.qvtr_engine.specs.RequestWords.{IsCheck, check_name, request_of}
 
 pub data Command : Type 0 where
   checks : CheckWords → Command
   converts : ConvertWords → Command
 
 abbrev pub IsCommand : List (List ℕ) → Command → Type 0
-IsCommand words (checks w) = IsWholeCheck words w
+IsCommand words (checks w) = IsCheck words w
 IsCommand words (converts c) = IsConvert words c
 
 -- no command stands in the words
@@ -32,4 +32,4 @@ command_after None c = convert_after c
 command_after (Some w) c = Some (checks w)
 
 abbrev pub command_of : List (List ℕ) → Option Command
-command_of words = command_after (whole_check_of words) (convert_of words)
+command_of words = command_after (request_of check_name words) (convert_of words)

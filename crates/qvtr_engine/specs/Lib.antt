@@ -14,7 +14,8 @@ pub mod CommandView
 pub mod FileStops
 pub mod CheckedScript
 pub mod CheckedRelations
-pub mod WholeCheckAnswer
+pub mod StepsAnswer
+pub mod CheckAnswer
 pub mod Verdicts
 pub mod OneSteps
 pub mod ConvertAnswer
@@ -23,9 +24,11 @@ pub mod Run
 pub mod Stops
 pub mod Outcome
 pub mod Converting
+pub mod ReadingFiles
+pub mod Target
 pub mod CommandEnds
 pub mod Status
-pub mod WholeCheckWords
+pub mod RequestWords
 pub mod RequestView
 pub mod ScriptFile
 pub mod FirstStops

@@ -7,7 +7,7 @@ use Rattle.qvtr_engine.specs.declared.status.Status.TheVariants.{Done, No}
 use Rattle.qvtr_engine.specs.CheckWords.{CheckWords}
 use Rattle.qvtr_engine.specs.CheckedRelations.{ChainsEnd, IsVerdict}
 use Rattle.qvtr_engine.specs.Reply.{Reply}
-use Rattle.qvtr_engine.specs.WholeCheckAnswer.{Inputs, ResolvesTo, question_of}
+use Rattle.qvtr_engine.specs.StepsAnswer.{Inputs, ResolvesTo, question_of}
 
 -- No step refuses the files: the script resolves, and no chain of calls is refused. The reply is the verdict on the relations: that they are
 -- satisfied, or the least binding that fails.

@@ -1,5 +1,5 @@
-//! The words of `check`: a script, a target, and a file for each name.
-ghost use Rattle.std.specs.Prelude.{◌≡◌, ◌<◌, ◌≤◌, Some, length, map, drop, slice_get, string_bytes};
+//! The words of a command over a script and models: a script, a target, and a file for each name.
+ghost use Rattle.std.specs.Prelude.{◌≡◌, ◌<◌, ◌≤◌, Some, chars, length, map, drop, slice_get, string_bytes};
 ghost use Rattle.std.specs.List.{list_all};
 ghost use Rattle.std.specs.Option.{option_map};
 ghost use Rattle.qvtr_engine.specs.ArgumentsView.{arguments_view};
@@ -7,20 +7,29 @@ ghost use Rattle.qvtr_engine.specs.CheckView.{bound_view};
 ghost use Rattle.qvtr_engine.specs.CheckWords.{check_paths};
 ghost use Rattle.qvtr_engine.specs.Names as names;
 ghost use Rattle.qvtr_engine.specs.Paths as paths;
+ghost use Rattle.mof_metamodel.specs.Characters.{same_name};
 ghost use Rattle.qvtr_engine.specs.RequestView.{request_view};
-ghost use Rattle.qvtr_engine.specs.WholeCheckWords.{has_parts, file_names, is_good, check_from, whole_check_of};
+ghost use Rattle.qvtr_engine.specs.RequestWords.{has_parts, file_names, is_good, check_from, request_of};
+ghost use Rattle.qvtr_engine.specs.Target.{target_path};
 
 use crate::arguments::Arguments;
 use crate::check_words::{Bound, split_at_equals};
 use crate::paths::are_apart;
 
-/// The words `check SCRIPT TARGET NAME=PATH..`, with one name or more. The names and paths are read where they stand, so it takes no memory.
+/// The words `SCRIPT TARGET NAME=PATH..` behind a command's name, with one name or more. The names and paths are read where they stand, so it takes no memory.
 #[derive(Clone, Copy)]
 pub(crate) struct CheckRequest<'w> {
     pub script: &'w str,
     pub target: &'w str,
     /// All arguments: the words that bind names to paths stand behind the first two.
     pub arguments: Arguments<'w>,
+}
+
+/// Whether two names have the same characters.
+fn is_same_name(name: &str, other: &str) -> bool
+    ensures { result ≡ same_name (chars name.now) (chars other.now) }
+{
+    name == other
 }
 
 impl<'w> CheckRequest<'w> {
@@ -43,6 +52,19 @@ impl<'w> CheckRequest<'w> {
         let _arguments = self.arguments.len();
         let (name, path) = split_at_equals(self.arguments.at(place + 2));
         Bound { name, path }
+    }
+
+    /// The path of the target's file, or an empty one where the target has none.
+    pub(crate) fn target_path(&self) -> &'w str
+        ensures { result.now ≡ target_path (request_view self.now) }
+    {
+        for i in 0..self.count() {
+            let file = self.file(i);
+            if is_same_name(self.target, file.name) {
+                return file.path;
+            }
+        }
+        ""
     }
 
     /// Whether each word has a name and a path.
@@ -125,7 +147,7 @@ impl<'w> CheckRequest<'w> {
     }
 
     /// What three arguments or more ask for.
-    #[tactic(auto, unfolding(crate::specs::WholeCheckWords::check_from))]
+    #[tactic(auto, unfolding(crate::specs::RequestWords::check_from))]
     fn from_arguments(arguments: Arguments<'w>) -> Option<CheckRequest<'w>>
         ensures { option_map request_view result ≡ check_from (arguments_view arguments.entry) }
     {
@@ -144,14 +166,14 @@ impl<'w> CheckRequest<'w> {
         }
     }
 
-    /// What the words ask for, if they are `check SCRIPT TARGET` and one word `NAME=PATH` or more, with distinct names and with paths that
-    /// are apart and not empty. A first `--` among them is left out, and no word before it stands for an option. It takes no memory.
-    #[tactic(auto, unfolding(crate::specs::WholeCheckWords::whole_check_of))]
-    pub(crate) fn read(words: &'w [String]) -> Option<CheckRequest<'w>>
-        ensures { option_map request_view result ≡ whole_check_of (map string_bytes words.now) }
+    /// What the words ask for, if they are the command's name, `SCRIPT TARGET` and one word `NAME=PATH` or more, with distinct names and with
+    /// paths that are apart and not empty. A first `--` among them is left out, and no word before it stands for an option. It takes no memory.
+    #[tactic(auto, unfolding(crate::specs::RequestWords::request_of))]
+    pub(crate) fn read(words: &'w [String], command: &str) -> Option<CheckRequest<'w>>
+        ensures { option_map request_view result ≡ request_of command.now (map string_bytes words.now) }
     {
         let (name, further) = words.split_first()?;
-        if name.as_str() != "check" {
+        if name.as_str() != command {
             return None;
         }
         CheckRequest::from_arguments(Arguments::read(further)?)

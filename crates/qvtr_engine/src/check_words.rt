@@ -2,7 +2,7 @@
 ghost use Rattle.std.specs.Prelude.{◌≡◌};
 ghost use Rattle.qvtr_engine.specs.CheckView.{bound_view};
 ghost use Rattle.qvtr_engine.specs.Reading.{name_part, path_part};
-ghost use Rattle.qvtr_engine.specs.WholeCheckWords.{has_parts};
+ghost use Rattle.qvtr_engine.specs.RequestWords.{has_parts};
 
 /// A word `NAME=PATH`.
 #[derive(Clone, Copy)]

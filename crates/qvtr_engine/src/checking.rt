@@ -8,7 +8,8 @@ ghost use Rattle.qvtr_engine.specs.CheckedNames.{NamesFit, name_of};
 ghost use Rattle.qvtr_engine.specs.FoundFiles.{items_of, names_of};
 ghost use Rattle.qvtr_engine.specs.RequestView.{request_view};
 ghost use Rattle.qvtr_engine.specs.Stops.{OnStop, StoppedBy, reply_of_verdict};
-ghost use Rattle.qvtr_engine.specs.WholeCheckAnswer.{AnswerFor, AnswerOver, AnswerWith, WholeCheckAnswer};
+ghost use Rattle.qvtr_engine.specs.CheckAnswer.{CheckAnswer, VerdictAnswer};
+ghost use Rattle.qvtr_engine.specs.StepsAnswer.{AnswerFor, AnswerOver, AnswerWith};
 
 use crate::check_request::CheckRequest;
 use crate::input_names::fit_names;
@@ -35,9 +36,9 @@ fn check_read<'w>(
     requires fits { NamesFit (request_view request.now) script.now }
     requires count { length metas.now ≡ length (metamodel_names script.now) }
     requires names { names_of found.items ≡ map name_of (model_files (request_view request.now) script.now) }
-    ensures ok { IfOk result (λ v. AnswerFor (request_view request.now) script.now metas.now
+    ensures ok { IfOk result (λ v. AnswerFor VerdictAnswer (request_view request.now) script.now metas.now
         (numbered_models (request_view request.now) script.now (items_of found.entry.items)) (reply_of_verdict v)) }
-    ensures err { IfErr result (λ stop. OnStop stop (AnswerFor (request_view request.now) script.now metas.now
+    ensures err { IfErr result (λ stop. OnStop stop (AnswerFor VerdictAnswer (request_view request.now) script.now metas.now
         (numbered_models (request_view request.now) script.now (items_of found.entry.items)))) }
 {
     let program = resolve_script(alloc, request.script, script, metas, request.target)?;
@@ -61,14 +62,14 @@ fn check_models<'w, F: Vault>(
     requires fits { NamesFit (request_view request.now) script.now }
     requires count { length metas.now ≡ length (metamodel_names script.now) }
     ensures ok { IfOk result (λ v. IfSome (F.files vault.old) (λ files.
-        AnswerWith files (request_view request.now) script.now metas.now (reply_of_verdict v))) }
-    ensures err { IfErr result (λ stop. StoppedBy stop (F.files vault.old) (λ files. AnswerWith files (request_view request.now) script.now metas.now)
+        AnswerWith VerdictAnswer files (request_view request.now) script.now metas.now (reply_of_verdict v))) }
+    ensures err { IfErr result (λ stop. StoppedBy stop (F.files vault.old) (λ files. AnswerWith VerdictAnswer files (request_view request.now) script.now metas.now)
         (Rose (F.faults vault.old) (F.faults vault.new)) (check_paths (request_view request.now))) }
     ensures files { F.files vault.new ≡ F.files vault.old }
     ensures faults { F.faults vault.old ≤ F.faults vault.new }
 {
-    let found = read_models(alloc, vault, request, script, metas)?;
-    check_read(alloc, request, script, metas, found)
+    let read = read_models(alloc, vault, request, script, metas)?;
+    check_read(alloc, request, script, metas, read.found)
 }
 
 /// The steps of a check from the reading of its metamodels on.
@@ -79,8 +80,8 @@ fn check_files<'w, F: Vault>(
     script: &Script,
 ) -> Result<Verdict, Stop<'w>>
     requires { NamesFit (request_view request.now) script.now }
-    ensures ok { IfOk result (λ v. IfSome (F.files vault.old) (λ files. AnswerOver files (request_view request.now) script.now (reply_of_verdict v))) }
-    ensures err { IfErr result (λ stop. StoppedBy stop (F.files vault.old) (λ files. AnswerOver files (request_view request.now) script.now)
+    ensures ok { IfOk result (λ v. IfSome (F.files vault.old) (λ files. AnswerOver VerdictAnswer files (request_view request.now) script.now (reply_of_verdict v))) }
+    ensures err { IfErr result (λ stop. StoppedBy stop (F.files vault.old) (λ files. AnswerOver VerdictAnswer files (request_view request.now) script.now)
         (Rose (F.faults vault.old) (F.faults vault.new)) (check_paths (request_view request.now))) }
     ensures files { F.files vault.new ≡ F.files vault.old }
     ensures faults { F.faults vault.old ≤ F.faults vault.new }
@@ -95,8 +96,8 @@ pub(crate) fn check<'w, F: Vault>(
     vault: &mut F,
     request: &CheckRequest<'w>,
 ) -> Result<Verdict, Stop<'w>>
-    ensures ok { IfOk result (λ v. IfSome (F.files vault.old) (λ files. WholeCheckAnswer files (request_view request.now) (reply_of_verdict v))) }
-    ensures err { IfErr result (λ stop. StoppedBy stop (F.files vault.old) (λ files. WholeCheckAnswer files (request_view request.now))
+    ensures ok { IfOk result (λ v. IfSome (F.files vault.old) (λ files. CheckAnswer files (request_view request.now) (reply_of_verdict v))) }
+    ensures err { IfErr result (λ stop. StoppedBy stop (F.files vault.old) (λ files. CheckAnswer files (request_view request.now))
         (Rose (F.faults vault.old) (F.faults vault.new)) (check_paths (request_view request.now))) }
     ensures files { F.files vault.new ≡ F.files vault.old }
     ensures faults { F.faults vault.old ≤ F.faults vault.new }

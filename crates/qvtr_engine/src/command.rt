@@ -19,7 +19,7 @@ impl<'w> Command<'w> {
     pub(crate) fn read(words: &'w [String]) -> Option<Command<'w>>
         ensures { option_map command_view result ≡ spec.command_of (map string_bytes words.now) }
     {
-        match CheckRequest::read(words) {
+        match CheckRequest::read(words, "check") {
             Some(request) => Some(Command::Check(request)),
             None => ConvertRequest::read(words).map(Command::Convert),
         }

@@ -6,31 +6,28 @@ ghost use Rattle.object_tables.specs.Models.{IsLive};
 ghost use Rattle.object_tables.specs.Validity.{Valid};
 ghost use Rattle.object_tables.specs.declared.limit.TheConstants.{MAX_DEPTH};
 ghost use Rattle.xmi_profile.specs.declared.fault.Externs.TheVariants as externs;
-ghost use Rattle.model_files.specs.Emof.{emof};
-ghost use Rattle.model_files.specs.FaultTexts.{IsKnownError};
-ghost use Rattle.model_files.specs.Files.{FileSpells, IsFileError, MetaSpells, IsMetaFileError};
-ghost use Rattle.qvtr_engine.specs.ConvertAnswer.{ConvertAnswer, IsMetamodelAt, IsModelAt, text_in};
+ghost use Rattle.model_files.specs.Files.{IsFileError};
+ghost use Rattle.qvtr_engine.specs.ConvertAnswer.{ConvertAnswer, text_in};
 ghost use Rattle.qvtr_engine.specs.ConvertView.{convert_view};
 ghost use Rattle.qvtr_engine.specs.ConvertWords.{convert_paths};
-ghost use Rattle.qvtr_engine.specs.FileStops.{HasShortFile, Unloaded, Stops};
-ghost use Rattle.qvtr_engine.specs.Converting.{ConvertEnds, IsDuePut, IsMisread, IsShort, IsTextAt, IsTooLong, IsUnread, IsWritten, is_starved, IsStopBy, PutEnds};
+ghost use Rattle.qvtr_engine.specs.FileStops.{Stops};
+ghost use Rattle.qvtr_engine.specs.Converting.{ConvertEnds, IsDuePut, IsShort, IsTextAt, IsTooLong, IsWritten, PutEnds};
+ghost use Rattle.qvtr_engine.specs.ReadingFiles.{IsUnread};
 ghost use Rattle.qvtr_engine.specs.Reply as spec;
 ghost use Rattle.qvtr_engine.specs.Stops.{StoppedBy};
 
 use crate::convert_words::ConvertRequest;
 use crate::limits::MAX_FILE;
 use crate::outcome::Stop;
+use crate::reading_files::{load_file, metamodel_at, model_in};
 use crate::rendering::{DONE, fault_text};
 use crate::reporting::{finish, report_stop};
 use crate::status::Status;
-use model_files::{
-    FileError, Form, fault_text as error_text, metamodel_fault_text, read_any, read_metamodel,
-    write_json,
-};
+use model_files::{Form, write_json};
 use mof_metamodel::{MetaModel, NoMemory, Seq};
 use object_tables::Model;
 use std::alloc::Global;
-use vault_io::{Failed, LoadError, Sink, Vault, load};
+use vault_io::{Failed, Sink, Vault};
 use xmi_profile::write_model;
 
 /// What a conversion puts, and what is printed where the put fails: both are made before it, so that it needs no memory.
@@ -38,111 +35,6 @@ use xmi_profile::write_model;
 pub(crate) struct Conversion {
     pub text: Seq<u8>,
     pub failure: Seq<u8>,
-}
-
-/// The bytes of a file that is no longer than a file may be.
-fn load_file<'w, F: Vault>(alloc: Global, vault: &mut F, path: &'w str) -> Result<Seq<u8>, Stop<'w>>
-    ensures ok { IfOk result (λ bytes. IfSome (F.files vault.old) (λ files. HasShortFile files path.now bytes)) }
-    ensures err { IfErr result (λ stop. StoppedBy stop (F.files vault.old) (λ files. Unloaded files path.now)
-        (Rose (F.faults vault.old) (F.faults vault.new)) (path.now ∷ [])) }
-    ensures files { F.files vault.new ≡ F.files vault.old }
-    ensures faults { F.faults vault.old ≤ F.faults vault.new }
-{
-    match load(alloc, vault, path, MAX_FILE) {
-        Ok(bytes) => Ok(bytes),
-        Err(LoadError::Failed) => Err(Stop::Fault(path)),
-        Err(LoadError::TooLong) => Err(Stop::TooLong(path)),
-        Err(LoadError::NoMemory) => Err(Stop::NoMemory),
-    }
-}
-
-/// What stops the work at an error that is told of a metamodel's file.
-fn metamodel_stop<'w>(alloc: Global, path: &'w str, error: &FileError) -> Stop<'w>
-    requires { IsKnownError emof error.now }
-    ensures { IsMisread result emof path.now error.now }
-{
-    let is_limit = error.is_limit();
-    match metamodel_fault_text(alloc, path, error) {
-        Ok(line) => Stop::Faulty { is_limit, line },
-        Err(NoMemory) => Stop::NoMemory,
-    }
-}
-
-/// What stops the work at an error that is told of a model's file.
-fn model_stop<'w>(alloc: Global, meta: &MetaModel, path: &'w str, error: &FileError) -> Stop<'w>
-    requires { IsKnownError meta.now error.now }
-    ensures { IsMisread result meta.now path.now error.now }
-{
-    let is_limit = error.is_limit();
-    match error_text(alloc, meta, path, error) {
-        Ok(line) => Stop::Faulty { is_limit, line },
-        Err(NoMemory) => Stop::NoMemory,
-    }
-}
-
-/// Whether memory could not be had, which isn't told of a file.
-fn is_starved(error: &FileError) -> bool
-    ensures { result ≡ is_starved error.now }
-{
-    match error {
-        FileError::NoMemory => true,
-        _ => false,
-    }
-}
-
-/// What stops the work at an error of a metamodel's file, or for want of memory.
-fn metamodel_unread<'w>(alloc: Global, path: &'w str, error: &FileError) -> Stop<'w>
-    requires { IsKnownError emof error.now }
-    ensures { IsStopBy (is_starved error.now) result emof path.now error.now }
-{
-    if is_starved(error) {
-        Stop::NoMemory
-    } else {
-        metamodel_stop(alloc, path, error)
-    }
-}
-
-/// What stops the work at an error of a model's file, or for want of memory.
-fn model_unread<'w>(alloc: Global, meta: &MetaModel, path: &'w str, error: &FileError) -> Stop<'w>
-    requires { IsKnownError meta.now error.now }
-    ensures { IsStopBy (is_starved error.now) result meta.now path.now error.now }
-{
-    if is_starved(error) {
-        Stop::NoMemory
-    } else {
-        model_stop(alloc, meta, path, error)
-    }
-}
-
-/// The metamodel that the bytes of a file are.
-fn metamodel_in<'w>(alloc: Global, path: &'w str, bytes: &[u8]) -> Result<MetaModel, Stop<'w>>
-    ensures ok { IfOk result (MetaSpells bytes.now) }
-    ensures err { IfErr result (λ stop. IsUnread stop emof path.now (IsMetaFileError bytes.now)) }
-{
-    match read_metamodel(alloc, bytes) {
-        Ok(meta) => Ok(meta),
-        Err(error) => {
-            let unread = metamodel_unread(alloc, path, &error);
-            drop(error);
-            Err(unread)
-        }
-    }
-}
-
-/// The metamodel that a file is.
-pub(crate) fn metamodel_at<'w, F: Vault>(
-    alloc: Global,
-    vault: &mut F,
-    path: &'w str,
-) -> Result<MetaModel, Stop<'w>>
-    ensures ok { IfOk result (λ meta. IfSome (F.files vault.old) (λ files. IsMetamodelAt files path.now meta)) }
-    ensures err { IfErr result (λ stop. StoppedBy stop (F.files vault.old) (λ files. Stops files path.now emof IsMetaFileError)
-        (Rose (F.faults vault.old) (F.faults vault.new)) (path.now ∷ [])) }
-    ensures files { F.files vault.new ≡ F.files vault.old }
-    ensures faults { F.faults vault.old ≤ F.faults vault.new }
-{
-    let bytes = load_file(alloc, vault, path)?;
-    metamodel_in(alloc, path, bytes.as_slice())
 }
 
 /// The bytes of a model as a file of this form.
@@ -157,43 +49,6 @@ fn written(alloc: Global, model: &Model<'_>, form: Form) -> Result<Seq<u8>, NoMe
     }
 }
 
-/// The model that the bytes of a file are.
-fn model_in<'w, 'm>(
-    alloc: Global,
-    meta: &'m MetaModel,
-    path: &'w str,
-    bytes: &[u8],
-) -> Result<Model<'m>, Stop<'w>>
-    ensures ok { IfOk result (FileSpells meta.now externs.None bytes.now) }
-    ensures err { IfErr result (λ stop. IsUnread stop meta.now path.now (IsFileError meta.now externs.None bytes.now)) }
-{
-    match read_any(alloc, meta, bytes) {
-        Ok(read) => Ok(read.model),
-        Err(error) => {
-            let unread = model_unread(alloc, meta, path, &error);
-            drop(error);
-            Err(unread)
-        }
-    }
-}
-
-/// The model that a file is.
-pub(crate) fn model_at<'w, 'm, F: Vault>(
-    alloc: Global,
-    vault: &mut F,
-    meta: &'m MetaModel,
-    path: &'w str,
-) -> Result<Model<'m>, Stop<'w>>
-    ensures ok { IfOk result (λ model. IfSome (F.files vault.old) (λ files. IsModelAt files path.now meta.now model)) }
-    ensures err { IfErr result (λ stop. StoppedBy stop (F.files vault.old) (λ files. Stops files path.now meta.now (IsFileError meta.now externs.None))
-        (Rose (F.faults vault.old) (F.faults vault.new)) (path.now ∷ [])) }
-    ensures files { F.files vault.new ≡ F.files vault.old }
-    ensures faults { F.faults vault.old ≤ F.faults vault.new }
-{
-    let bytes = load_file(alloc, vault, path)?;
-    model_in(alloc, meta, path, bytes.as_slice())
-}
-
 /// The text in this form of the model that the bytes of a file are.
 fn text_of<'w>(
     alloc: Global,
@@ -205,8 +60,8 @@ fn text_of<'w>(
     ensures ok { IfOk result (IsWritten meta.now bytes.now form) }
     ensures err { IfErr result (λ stop. IsUnread stop meta.now path.now (IsFileError meta.now externs.None bytes.now)) }
 {
-    let model = model_in(alloc, meta, path, bytes)?;
-    match written(alloc, &model, form) {
+    let read = model_in(alloc, meta, path, bytes)?;
+    match written(alloc, &read.model, form) {
         Ok(text) => Ok(text),
         Err(NoMemory) => Err(Stop::NoMemory),
     }

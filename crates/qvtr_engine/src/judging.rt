@@ -13,7 +13,7 @@ ghost use Rattle.qvtr_engine.specs.CheckedRelations as relations;
 ghost use Rattle.qvtr_engine.specs.CheckedScript.{IsResolved, ScriptRefused};
 ghost use Rattle.qvtr_engine.specs.Stops.{OnStop, reply_of_verdict};
 ghost use Rattle.qvtr_engine.specs.Reply.{chained};
-ghost use Rattle.qvtr_engine.specs.WholeCheckAnswer.{AnswerOf};
+ghost use Rattle.qvtr_engine.specs.CheckAnswer.{VerdictAnswer};
 
 use crate::outcome::{Stop, Verdict};
 use answer_texts::Asked;
@@ -102,8 +102,8 @@ fn tell(alloc: Global, asked: &Asked<'_, '_>, judgement: &Judgement) -> Result<V
 pub(crate) fn judge<'w>(alloc: Global, asked: &Asked<'_, '_>) -> Result<Verdict, Stop<'w>>
     requires formed { IsFormed asked.now.program.now }
     requires few { length asked.now.program.now.rels < 2 ^ 32 }
-    ensures ok { IfOk result (λ v. AnswerOf (asked_view asked.now) (reply_of_verdict v)) }
-    ensures err { IfErr result (λ stop. OnStop stop (AnswerOf (asked_view asked.now))) }
+    ensures ok { IfOk result (λ v. VerdictAnswer (asked_view asked.now) (reply_of_verdict v)) }
+    ensures err { IfErr result (λ stop. OnStop stop (VerdictAnswer (asked_view asked.now))) }
 {
     match check(alloc, asked.program, asked.models) {
         Ok(judgement) => Ok(tell(alloc, asked, &judgement)?),

@@ -14,6 +14,7 @@ mod limits;
 mod numbering_inputs;
 mod outcome;
 mod paths;
+mod reading_files;
 mod reading_inputs;
 mod rendering;
 mod reporting;

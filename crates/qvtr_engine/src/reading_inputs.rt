@@ -1,5 +1,5 @@
 //! The fourth and the fifth step of `check`: the metamodels and the models are read, in the order of the words.
-ghost use Rattle.std.specs.Prelude.{◌≡◌, ◌<◌, ◌≤◌, Some, slice_get, not, length, map, filter, chars, All, Contains, IfOk, IfErr, IfSome};
+ghost use Rattle.std.specs.Prelude.{◌≡◌, ◌<◌, ◌≤◌, if◌then◌else◌, Some, slice_get, not, length, map, filter, chars, All, Contains, IfOk, IfErr, IfSome};
 ghost use Rattle.std.specs.List.{AllZip};
 ghost use Rattle.std.specs.Option.{unwrap_or};
 ghost use Rattle.std.specs.Set.{is_member};
@@ -19,12 +19,14 @@ ghost use Rattle.qvtr_engine.specs.FoundFiles.{items_of, names_of};
 ghost use Rattle.qvtr_engine.specs.NumberedInputs.{HasMetas};
 ghost use Rattle.qvtr_engine.specs.RequestView.{request_view};
 ghost use Rattle.qvtr_engine.specs.Stops.{StoppedBy};
+ghost use Rattle.qvtr_engine.specs.Target.{IsFormAmong, target_path};
 
 use crate::check_request::CheckRequest;
 use crate::check_words::Bound;
-use crate::converting::{metamodel_at, model_at};
 use crate::numbering_inputs::{Found, number_metas};
 use crate::outcome::Stop;
+use crate::reading_files::{metamodel_at, model_at};
+use model_files::Form;
 use mof_metamodel::{MetaModel, NoMemory, Text};
 use object_tables::Model;
 use ocl_environments::Metas;
@@ -148,6 +150,20 @@ fn meta_number(slots: &[ModelSlot], name: &str) -> u32
     0
 }
 
+/// The models that are read, and the form of the target's file.
+#[derive(Drop)]
+pub(crate) struct ReadModels<'w, 'm> {
+    pub found: Vec<Found<'w, Model<'m>>>,
+    pub form: Form,
+}
+
+/// The form of the target's file: that which was read at its path, or else what is known so far.
+fn form_after(known: Form, target: &str, path: &str, read: Form) -> Form
+    ensures { result ≡ (if same_name path.now target.now then read else known) }
+{
+    if path == target { read } else { known }
+}
+
 /// The models that files are, each by the metamodel of its name, or what the first stops at that is none.
 fn models_at<'w, 'm, F: Vault>(
     alloc: Global,
@@ -155,11 +171,13 @@ fn models_at<'w, 'm, F: Vault>(
     files: &[Bound<'w>],
     script: &Script,
     numbered: &'m Metas,
-) -> Result<Vec<Found<'w, Model<'m>>>, Stop<'w>>
+    target: &str,
+) -> Result<ReadModels<'w, 'm>, Stop<'w>>
     requires models { All (λ b. Contains (model_names script.now.models) (name_of b)) (map bound_view files.now) }
     requires count { length numbered.now ≡ length (metamodels script.now) }
-    ensures ok { IfOk result (λ found. IfSome (F.files vault.old) (λ told. AllZip (models.IsModel told script.now numbered.now) (map bound_view files.now) (items_of found.items))) }
-    ensures names { IfOk result (λ found. names_of found.items ≡ map name_of (map bound_view files.now)) }
+    ensures ok { IfOk result (λ read. IfSome (F.files vault.old) (λ told. AllZip (models.IsModel told script.now numbered.now) (map bound_view files.now) (items_of read.found.items))) }
+    ensures names { IfOk result (λ read. names_of read.found.items ≡ map name_of (map bound_view files.now)) }
+    ensures form { IfOk result (λ read. IfSome (F.files vault.old) (λ told. IsFormAmong told (map bound_view files.now) target.now read.form)) }
     ensures err { IfErr result (λ stop. StoppedBy stop (F.files vault.old) (λ told. FirstStop (models.IsReadModel told script.now numbered.now) (models.ModelStops told script.now numbered.now) (map bound_view files.now))
         (Rose (F.faults vault.old) (F.faults vault.new)) (map (λ b. b.path) (map bound_view files.now))) }
     ensures files { F.files vault.new ≡ F.files vault.old }
@@ -167,30 +185,33 @@ fn models_at<'w, 'm, F: Vault>(
 {
     let slots = slots_of(alloc, script)?;
     let mut found = Vec::new(alloc);
+    let mut form = Form::Xmi;
     for i in 0..files.len() {
         let file = file_at(files, i);
         let meta = numbered.get(meta_number(slots.as_slice(), file.name));
-        let item = model_at(alloc, vault, meta, file.path)?;
+        let read = model_at(alloc, vault, meta, file.path)?;
+        form = form_after(form, target, file.path, read.form);
         found.push(Found {
             name: file.name,
-            item,
+            item: read.model,
         })?;
     }
-    Ok(found)
+    Ok(ReadModels { found, form })
 }
 
-/// The models of the script with their names, read in the order of the words, each by its metamodel.
+/// The models of the script with their names, read in the order of the words, each by its metamodel; and the form of the target's file.
 pub(crate) fn read_models<'w, 'm, F: Vault>(
     alloc: Global,
     vault: &mut F,
     request: &CheckRequest<'w>,
     script: &Script,
     numbered: &'m Metas,
-) -> Result<Vec<Found<'w, Model<'m>>>, Stop<'w>>
+) -> Result<ReadModels<'w, 'm>, Stop<'w>>
     requires fits { NamesFit (request_view request.now) script.now }
     requires count { length numbered.now ≡ length (metamodels script.now) }
-    ensures ok { IfOk result (λ found. IfSome (F.files vault.old) (λ told. models.AreModels told (request_view request.now) script.now numbered.now (items_of found.items))) }
-    ensures names { IfOk result (λ found. names_of found.items ≡ map name_of (models.model_files (request_view request.now) script.now)) }
+    ensures ok { IfOk result (λ read. IfSome (F.files vault.old) (λ told. models.AreModels told (request_view request.now) script.now numbered.now (items_of read.found.items))) }
+    ensures names { IfOk result (λ read. names_of read.found.items ≡ map name_of (models.model_files (request_view request.now) script.now)) }
+    ensures form { IfOk result (λ read. IfSome (F.files vault.old) (λ told. IsFormAmong told (models.model_files (request_view request.now) script.now) (target_path (request_view request.now)) read.form)) }
     ensures err { IfErr result (λ stop. StoppedBy stop (F.files vault.old) (λ told. models.ModelsStop told (request_view request.now) script.now numbered.now)
         (Rose (F.faults vault.old) (F.faults vault.new)) (check_paths (request_view request.now))) }
     ensures files { F.files vault.new ≡ F.files vault.old }
@@ -198,5 +219,12 @@ pub(crate) fn read_models<'w, 'm, F: Vault>(
 {
     let names = metamodel_names(alloc, script)?;
     let files = model_files(alloc, request, names.as_slice())?;
-    models_at(alloc, vault, files.as_slice(), script, numbered)
+    models_at(
+        alloc,
+        vault,
+        files.as_slice(),
+        script,
+        numbered,
+        request.target_path(),
+    )
 }

@@ -12,7 +12,7 @@ ghost use Rattle.qvtr_engine.specs.ConvertWords.{ConvertWords, IsConvert};
 ghost use Rattle.qvtr_engine.specs.Reply.{Reply, misused, status_of, unread};
 ghost use Rattle.qvtr_engine.specs.Run.{Ends, HasCause, HasConverted, IsOwed, KeepsFiles};
 ghost use Rattle.qvtr_engine.specs.Verdicts.{HasVerdict, IsJudged};
-ghost use Rattle.qvtr_engine.specs.WholeCheckWords.{IsWholeCheck};
+ghost use Rattle.qvtr_engine.specs.RequestWords.{IsCheck};
 
 use crate::checking::check;
 use crate::command::Command;
@@ -77,9 +77,9 @@ pub fn run<F: Vault, K: Sink>(alloc: Global, words: &[String], vault: &mut F, ou
         IsOwed (status_of reply) (Rose (F.faults vault.old) (F.faults vault.new) ⊎ Rose (K.faults out.old) (K.faults out.new)) result) }
 
     // A check that ends with a verdict has passed each step, and this is the verdict; and where the files have one, it is given.
-    ensures judged { IfSome (F.files vault.old) (λ files. (w : CheckWords) → IsWholeCheck (map string_bytes words.now) w → IsJudged result →
+    ensures judged { IfSome (F.files vault.old) (λ files. (w : CheckWords) → IsCheck (map string_bytes words.now) w → IsJudged result →
         (reply : Reply) × HasVerdict files w reply × (status_of reply ≡ result)) }
-    ensures verdict { IfSome (F.files vault.old) (λ files. (w : CheckWords) (reply : Reply) → IsWholeCheck (map string_bytes words.now) w →
+    ensures verdict { IfSome (F.files vault.old) (λ files. (w : CheckWords) (reply : Reply) → IsCheck (map string_bytes words.now) w →
         HasVerdict files w reply → IsOwed (status_of reply) (Rose (F.faults vault.old) (F.faults vault.new) ⊎ Rose (K.faults out.old) (K.faults out.new)) result) }
 
     // A conversion that is done has put the text of the model that the words name; and where they name one, it is done.

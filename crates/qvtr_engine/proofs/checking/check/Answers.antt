@@ -7,7 +7,8 @@ use Rattle.qvtr_engine.specs.CheckedNames.{NamesStop}
 use Rattle.qvtr_engine.specs.RequestView.{request_view}
 use Rattle.qvtr_engine.specs.ScriptFile.{ScriptStops}
 use Rattle.qvtr_engine.specs.Stops.{StoppedBy, reply_of_verdict}
-use Rattle.qvtr_engine.specs.WholeCheckAnswer.{AnswerOver, WholeCheckAnswer}
+use Rattle.qvtr_engine.specs.CheckAnswer.{VerdictAnswer, CheckAnswer}
+use Rattle.qvtr_engine.specs.StepsAnswer.{AnswerOver}
 use Rattle.qvtr_engine.proofs.CheckingLaws.{ok_wider, err_wider, script_stops, names_stop, names_go_on}
 use Rattle.qvtr_engine.proofs.StopLaws.{rose_from, stopped_wider, on_stop_stopped, among_front}
 use Rattle.qvtr_engine.proofs.checking.check.Goals as goal
@@ -17,24 +18,24 @@ returns-in_err-script-clause-err g c =
     let p = err_from_is_err_and c.from_residual.result c.from_residual.ensures.1 in
     let told = g.F.Vault.files c.args.vault.now in
     let w = request_view c.args.request.now in
-    rw (p.1, p.2) (stopped_wider c.in_err-script.field-0.0 told (λ files. ScriptStops files w.script) (λ files. WholeCheckAnswer files w) _ _ _ (check_paths w)
-    (script_stops told w) (λ x. x) (λ path is. among_front w.script _ path is) c.in_err-script.ensures.err)
+    rw (p.1, p.2) (stopped_wider c.in_err-script.field-0.0 told (λ files. ScriptStops files w.script) (λ files. CheckAnswer files w) _ _ _ (check_paths w)
+    (script_stops VerdictAnswer told w) (λ x. x) (λ path is. among_front w.script _ path is) c.in_err-script.ensures.err)
 
 pub returns-in_err-fit_names-clause-err : goal.returns-in_err-fit_names-clause-err
 returns-in_err-fit_names-clause-err g c =
     let p = err_from_is_err_and c.from_residual-in_err-fit_names.result c.from_residual-in_err-fit_names.ensures.1 in
     let told = g.F.Vault.files c.args.vault.now in
     let w = request_view c.args.request.now in
-    rw (p.1, p.2) (on_stop_stopped c.in_err-fit_names.field-0.0 told (NamesStop w c.in_ok-script.script) (λ files. WholeCheckAnswer files w) _ (check_paths w)
-    (names_stop told w c.in_ok-script.script c.in_ok-script.ensures.ok) c.in_err-fit_names.ensures.err)
+    rw (p.1, p.2) (on_stop_stopped c.in_err-fit_names.field-0.0 told (NamesStop w c.in_ok-script.script) (λ files. CheckAnswer files w) _ (check_paths w)
+    (names_stop VerdictAnswer told w c.in_ok-script.script c.in_ok-script.ensures.ok) c.in_err-fit_names.ensures.err)
 
 pub returns-clause-ok : goal.returns-clause-ok
 returns-clause-ok g c =
     let told = g.F.Vault.files c.args.vault.now in
     let w = request_view c.args.request.now in
     let s = c.in_ok-script.script in
-    ok_wider c.check_files.result told (λ files. AnswerOver files w s) (λ files. WholeCheckAnswer files w) (names_go_on told w s c.in_ok-script.ensures.ok c.in_ok-fit_names.ensures.ok)
-    (subst (λ t. IfOk c.check_files.result (λ v. IfSome t (λ files. AnswerOver files w s (reply_of_verdict v)))) c.in_ok-script.ensures.files c.check_files.ensures.ok)
+    ok_wider c.check_files.result told (λ files. AnswerOver VerdictAnswer files w s) (λ files. CheckAnswer files w) (names_go_on VerdictAnswer told w s c.in_ok-script.ensures.ok c.in_ok-fit_names.ensures.ok)
+    (subst (λ t. IfOk c.check_files.result (λ v. IfSome t (λ files. AnswerOver VerdictAnswer files w s (reply_of_verdict v)))) c.in_ok-script.ensures.files c.check_files.ensures.ok)
 
 pub returns-clause-err : goal.returns-clause-err
 returns-clause-err g c =
@@ -44,6 +45,6 @@ returns-clause-err g c =
     let after = g.F.Vault.faults c.check_files.new.vault in
     let w = request_view c.args.request.now in
     let s = c.in_ok-script.script in
-    err_wider c.check_files.result told (λ files. AnswerOver files w s) (λ files. WholeCheckAnswer files w) (Rose mid after) (Rose before after) (check_paths w)
-    (names_go_on told w s c.in_ok-script.ensures.ok c.in_ok-fit_names.ensures.ok) (rose_from before mid after c.in_ok-script.ensures.faults)
-    (subst (λ t. IfErr c.check_files.result (λ stop. StoppedBy stop t (λ files. AnswerOver files w s) (Rose mid after) (check_paths w))) c.in_ok-script.ensures.files c.check_files.ensures.err)
+    err_wider c.check_files.result told (λ files. AnswerOver VerdictAnswer files w s) (λ files. CheckAnswer files w) (Rose mid after) (Rose before after) (check_paths w)
+    (names_go_on VerdictAnswer told w s c.in_ok-script.ensures.ok c.in_ok-fit_names.ensures.ok) (rose_from before mid after c.in_ok-script.ensures.faults)
+    (subst (λ t. IfErr c.check_files.result (λ stop. StoppedBy stop t (λ files. AnswerOver VerdictAnswer files w s) (Rose mid after) (check_paths w))) c.in_ok-script.ensures.files c.check_files.ensures.err)

@@ -6,7 +6,8 @@ use Rattle.qvtr_engine.specs.CheckWords.{check_paths}
 use Rattle.qvtr_engine.specs.CheckedMetamodels.{MetamodelsStop}
 use Rattle.qvtr_engine.specs.RequestView.{request_view}
 use Rattle.qvtr_engine.specs.Stops.{StoppedBy, reply_of_verdict}
-use Rattle.qvtr_engine.specs.WholeCheckAnswer.{AnswerOver, AnswerWith}
+use Rattle.qvtr_engine.specs.CheckAnswer.{VerdictAnswer}
+use Rattle.qvtr_engine.specs.StepsAnswer.{AnswerOver, AnswerWith}
 use Rattle.qvtr_engine.proofs.CheckingLaws.{ok_wider, err_wider, metamodels_stop, metamodels_go_on}
 use Rattle.qvtr_engine.proofs.StopLaws.{rose_from, stopped_wider}
 use Rattle.qvtr_engine.proofs.checking.check_files.Goals as goal
@@ -17,8 +18,8 @@ returns-in_err-metas-clause-err g c =
     let told = g.F.Vault.files c.args.vault.now in
     let w = request_view c.args.request.now in
     let s = c.args.script.now in
-    rw (p.1, p.2) (stopped_wider c.in_err-metas.field-0.0 told (λ files. MetamodelsStop files w s) (λ files. AnswerOver files w s) _ _ (check_paths w) (check_paths w)
-    (metamodels_stop told w s) (λ x. x) (λ path is. is) c.in_err-metas.ensures.err)
+    rw (p.1, p.2) (stopped_wider c.in_err-metas.field-0.0 told (λ files. MetamodelsStop files w s) (λ files. AnswerOver VerdictAnswer files w s) _ _ (check_paths w) (check_paths w)
+    (metamodels_stop VerdictAnswer told w s) (λ x. x) (λ path is. is) c.in_err-metas.ensures.err)
 
 pub returns-clause-ok : goal.returns-clause-ok
 returns-clause-ok g c =
@@ -26,8 +27,8 @@ returns-clause-ok g c =
     let w = request_view c.args.request.now in
     let s = c.args.script.now in
     let metas = c.in_ok-metas.metas in
-    ok_wider c.check_models.result told (λ files. AnswerWith files w s metas) (λ files. AnswerOver files w s) (metamodels_go_on told w s metas c.in_ok-metas.ensures.ok)
-    (subst (λ t. IfOk c.check_models.result (λ v. IfSome t (λ files. AnswerWith files w s metas (reply_of_verdict v)))) c.in_ok-metas.ensures.files c.check_models.ensures.ok)
+    ok_wider c.check_models.result told (λ files. AnswerWith VerdictAnswer files w s metas) (λ files. AnswerOver VerdictAnswer files w s) (metamodels_go_on VerdictAnswer told w s metas c.in_ok-metas.ensures.ok)
+    (subst (λ t. IfOk c.check_models.result (λ v. IfSome t (λ files. AnswerWith VerdictAnswer files w s metas (reply_of_verdict v)))) c.in_ok-metas.ensures.files c.check_models.ensures.ok)
 
 pub returns-clause-err : goal.returns-clause-err
 returns-clause-err g c =
@@ -38,6 +39,6 @@ returns-clause-err g c =
     let w = request_view c.args.request.now in
     let s = c.args.script.now in
     let metas = c.in_ok-metas.metas in
-    err_wider c.check_models.result told (λ files. AnswerWith files w s metas) (λ files. AnswerOver files w s) (Rose mid after) (Rose before after) (check_paths w)
-    (metamodels_go_on told w s metas c.in_ok-metas.ensures.ok) (rose_from before mid after c.in_ok-metas.ensures.faults)
-    (subst (λ t. IfErr c.check_models.result (λ stop. StoppedBy stop t (λ files. AnswerWith files w s metas) (Rose mid after) (check_paths w))) c.in_ok-metas.ensures.files c.check_models.ensures.err)
+    err_wider c.check_models.result told (λ files. AnswerWith VerdictAnswer files w s metas) (λ files. AnswerOver VerdictAnswer files w s) (Rose mid after) (Rose before after) (check_paths w)
+    (metamodels_go_on VerdictAnswer told w s metas c.in_ok-metas.ensures.ok) (rose_from before mid after c.in_ok-metas.ensures.faults)
+    (subst (λ t. IfErr c.check_models.result (λ stop. StoppedBy stop t (λ files. AnswerWith VerdictAnswer files w s metas) (Rose mid after) (check_paths w))) c.in_ok-metas.ensures.files c.check_models.ensures.err)

@@ -3,20 +3,21 @@ use Rattle.qvtr_engine.specs.CheckWords.{check_paths}
 use Rattle.qvtr_engine.specs.CheckedModels.{ModelsStop, numbered_models}
 use Rattle.qvtr_engine.specs.FoundFiles.{items_of}
 use Rattle.qvtr_engine.specs.RequestView.{request_view}
-use Rattle.qvtr_engine.specs.WholeCheckAnswer.{AnswerFor, AnswerWith}
+use Rattle.qvtr_engine.specs.CheckAnswer.{VerdictAnswer}
+use Rattle.qvtr_engine.specs.StepsAnswer.{AnswerFor, AnswerWith}
 use Rattle.qvtr_engine.proofs.CheckingLaws.{ok_wider, ok_told, models_stop, models_go_on}
 use Rattle.qvtr_engine.proofs.StopLaws.{stopped_wider, on_stop_stopped}
 use Rattle.qvtr_engine.proofs.checking.check_models.Goals as goal
 
-pub returns-in_err-found-clause-err : goal.returns-in_err-found-clause-err
-returns-in_err-found-clause-err g c =
+pub returns-in_err-read-clause-err : goal.returns-in_err-read-clause-err
+returns-in_err-read-clause-err g c =
     let p = err_from_is_err_and c.from_residual.result c.from_residual.ensures.1 in
     let told = g.F.Vault.files c.args.vault.now in
     let w = request_view c.args.request.now in
     let s = c.args.script.now in
     let metas = c.args.metas.now in
-    rw (p.1, p.2) (stopped_wider c.in_err-found.field-0.0 told (λ files. ModelsStop files w s metas) (λ files. AnswerWith files w s metas) _ _ (check_paths w) (check_paths w)
-    (models_stop told w s metas) (λ x. x) (λ path is. is) c.in_err-found.ensures.err)
+    rw (p.1, p.2) (stopped_wider c.in_err-read.field-0.0 told (λ files. ModelsStop files w s metas) (λ files. AnswerWith VerdictAnswer files w s metas) _ _ (check_paths w) (check_paths w)
+    (models_stop VerdictAnswer told w s metas) (λ x. x) (λ path is. is) c.in_err-read.ensures.err)
 
 pub returns-clause-ok : goal.returns-clause-ok
 returns-clause-ok g c =
@@ -24,10 +25,10 @@ returns-clause-ok g c =
     let w = request_view c.args.request.now in
     let s = c.args.script.now in
     let metas = c.args.metas.now in
-    let models = items_of c.in_ok-found.found.items in
-    ok_wider c.check_read.result told (λ files. AnswerFor w s metas (numbered_models w s models)) (λ files. AnswerWith files w s metas)
-    (models_go_on told w s metas models c.in_ok-found.ensures.ok)
-    (ok_told c.check_read.result told (AnswerFor w s metas (numbered_models w s models)) c.check_read.ensures.ok)
+    let models = items_of c.in_ok-read.read.found.items in
+    ok_wider c.check_read.result told (λ files. AnswerFor VerdictAnswer w s metas (numbered_models w s models)) (λ files. AnswerWith VerdictAnswer files w s metas)
+    (models_go_on VerdictAnswer told w s metas models c.in_ok-read.ensures.ok)
+    (ok_told c.check_read.result told (AnswerFor VerdictAnswer w s metas (numbered_models w s models)) c.check_read.ensures.ok)
 
 pub returns-clause-err : goal.returns-clause-err
 returns-clause-err g c =
@@ -35,7 +36,7 @@ returns-clause-err g c =
     let w = request_view c.args.request.now in
     let s = c.args.script.now in
     let metas = c.args.metas.now in
-    let models = items_of c.in_ok-found.found.items in
+    let models = items_of c.in_ok-read.read.found.items in
     IfErr-weaker c.check_read.result _ _
-    (λ stop on. on_stop_stopped stop told (AnswerFor w s metas (numbered_models w s models)) (λ files. AnswerWith files w s metas) _ (check_paths w)
-    (models_go_on told w s metas models c.in_ok-found.ensures.ok) on) c.check_read.ensures.err
+    (λ stop on. on_stop_stopped stop told (AnswerFor VerdictAnswer w s metas (numbered_models w s models)) (λ files. AnswerWith VerdictAnswer files w s metas) _ (check_paths w)
+    (models_go_on VerdictAnswer told w s metas models c.in_ok-read.ensures.ok) on) c.check_read.ensures.err

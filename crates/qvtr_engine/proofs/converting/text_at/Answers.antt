@@ -4,7 +4,8 @@ use Rattle.qvtr_engine.specs.FileStops.{HasShortFile}
 use Rattle.std.proofs.lemmas.Result.{err_from_is_err_and}
 use Rattle.xmi_profile.specs.declared.fault.Externs.TheVariants as externs
 use Rattle.model_files.specs.Files.{IsFileError}
-use Rattle.qvtr_engine.proofs.ConvertingLaws.{unloaded_stops, text_ok, unread_err}
+use Rattle.qvtr_engine.proofs.ConvertingLaws.{text_ok}
+use Rattle.qvtr_engine.proofs.ReadingFileLaws.{unloaded_stops, unread_err}
 use Rattle.qvtr_engine.proofs.converting.text_at.Goals as goal
 
 pub returns-in_err-bytes-clause-err : goal.returns-in_err-bytes-clause-err

@@ -4,7 +4,7 @@ use Rattle.std.specs.List.{list_all}
 use Rattle.qvtr_engine.specs.CheckView.{bound_view}
 use Rattle.qvtr_engine.specs.CheckWords.{Bound}
 use Rattle.qvtr_engine.specs.RequestView.{request_view}
-use Rattle.qvtr_engine.specs.WholeCheckWords.{has_parts}
+use Rattle.qvtr_engine.specs.RequestWords.{has_parts}
 use Rattle.qvtr_engine.proofs.RequestLaws.{one_on, decided}
 use Rattle.qvtr_engine.proofs.check_request.CheckRequest.has_parts.Goals as goal
 

@@ -1,7 +1,7 @@
 use Rattle.std.proofs.Common.{◌≡◌, drop}
 use Rattle.std.specs.List.{list_all}
 use Rattle.qvtr_engine.specs.RequestView.{request_view}
-use Rattle.qvtr_engine.specs.WholeCheckWords as spec
+use Rattle.qvtr_engine.specs.RequestWords as spec
 use Rattle.qvtr_engine.proofs.check_request.CheckRequest.has_parts.Given as goal
 
 -- the words that are left have parts exactly where all have
