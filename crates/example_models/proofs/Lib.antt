@@ -1,0 +1,11 @@
+pub mod AsciiLaws
+pub mod TableLaws
+pub mod Lists
+pub mod RangeLaws
+pub mod SizeLaws
+pub mod IdLaws
+pub mod LabelLaws
+pub mod GrowLaws
+pub mod StepLaws
+pub mod PartLaws
+pub mod ValidLaws
