@@ -334,7 +334,7 @@ How to read it:
 
 1. The contract of `run`, then `Answer`, `Run` and `Reply` in `qvtr_engine`. They say what is printed, with
    which status, and what the files are afterwards.
-2. `WholeCheckAnswer` and `ConvertAnswer`: the steps of a check and of a conversion, one definition a step.
+2. `CheckAnswer` and `ConvertAnswer`: the steps of a check and of a conversion, one definition a step.
 3. What a check means, in `qvtr_semantics`: `Satisfaction`, `Calls`, `Bindings`, `Templates`, and then
    `Expressions`.
 4. Which files are models: `Markup` (`xmi_text`), `Content` and `FirstFault` (`xmi_profile`), `Files`
