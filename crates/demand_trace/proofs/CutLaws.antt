@@ -72,7 +72,7 @@ cut_is w all ds n [] from same = refl
 cut_is w all ds n (e ∷ es) from same =
     ap (λ own. entry_trace w e own ∷ entries_cut w (drop (own_count n ds) ds) (suc n) es) (sym (own_first n ds from) ∙ same n (omega arith))
     ∙ ap (λ rest. entry_trace w e (filter (is_of n) all) ∷ rest)
-        (cut_is w all (drop (own_count n ds) ds) (suc n) es (left_from n ds from) (λ m le. later_left n m ds (omega (arith, le)) ∙ same m (omega (arith, le))))
+    (cut_is w all (drop (own_count n ds) ds) (suc n) es (left_from n ds from) (λ m le. later_left n m ds (omega (arith, le)) ∙ same m (omega (arith, le))))
 
 pub cut_whole : (w : World) (ds : List Demand) (es : List Entry) → AreFrom 0 ds → entries_cut w ds 0 es ≡ entries_trace w ds 0 es
 cut_whole w ds es from = cut_is w ds ds 0 es from (λ m le. refl)

@@ -96,7 +96,7 @@ all_at : (number : ℕ) (all keys : List Key) (n : ℕ) (table : Places) (d : �
 all_at number all [] n table d left within = none_else all (place_at table d)
 all_at number all (key ∷ keys) n table d left within =
     all_at number all keys (suc n) (with_key number n key table) d (rest_at all keys key n left)
-        (λ k among. subst (λ count. HasPlace number count k) (sym (key_long number n key table)) (within k (contains_later k key keys among)))
+    (λ k among. subst (λ count. HasPlace number count k) (sym (key_long number n key table)) (within k (contains_later k key keys among)))
     ∙ ap (λ o. found_or all o (find (is_of number d) keys)) (one_at number n key table d (within key (contains_first key keys)))
     ∙ by (place_at table d) (is_of number d key)
   where

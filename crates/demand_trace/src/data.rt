@@ -14,12 +14,7 @@ use std::alloc::Global;
 use trace_log::TraceValue;
 
 /// Puts `::lit` behind a text, of a literal of the metamodel.
-fn add_literal(
-    text: &mut Text,
-    meta: &MetaModel,
-    of: EnumId,
-    place: u32,
-) -> Result<(), NoMemory>
+fn add_literal(text: &mut Text, meta: &MetaModel, of: EnumId, place: u32) -> Result<(), NoMemory>
     ensures { OnOk result (text.new ≡ text.old ++ (codes "::" ++ literal_at meta.now of.0 place)) }
 {
     text.push_str("::")?;

@@ -93,7 +93,12 @@ impl Names<'_, '_> {
     }
 
     /// An entry with what it demands.
-    fn entry(&self, alloc: Global, entry: &Entry, demands: &[Demand]) -> Result<TraceEntry, NoMemory>
+    fn entry(
+        &self,
+        alloc: Global,
+        entry: &Entry,
+        demands: &[Demand],
+    ) -> Result<TraceEntry, NoMemory>
         requires names { FindsNames self.now }
         requires props { All (λ (d : Demand). IsPropOf self.now.target.now d.prop) demands.now }
         ensures { IfOk result (λ e. e ≡ spec.entry_trace (world self.now) entry.now demands.now) }

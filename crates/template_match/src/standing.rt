@@ -45,12 +45,7 @@ fn linked_in(
 }
 
 /// Whether a datum stands at a property of another, if links can tell it.
-fn told_by_links(
-    task: &Task<'_, '_>,
-    datum: &Datum,
-    prop: PropId,
-    other: &Datum,
-) -> Option<bool>
+fn told_by_links(task: &Task<'_, '_>, datum: &Datum, prop: PropId, other: &Datum) -> Option<bool>
     ensures { IfSome result (λ b. b ≡ has (held_at (setting task.now.program.now task.now.models.now) datum.now prop.0) (Some other.now)) }
 {
     match (datum, other) {
