@@ -1,9 +1,9 @@
-//! What numbers of 32 bits count of a program: its variables, by their numbers; and its conjuncts.
-ghost use Rattle.std.specs.Prelude.{◌<◌, ◌≤◌, ◌^◌, ℕ, List, length, IsTrue, All, Contains};
+//! What numbers of 32 bits count of a program: its variables, by their numbers.
+ghost use Rattle.std.specs.Prelude.{◌<◌, ◌≤◌, ◌^◌, ℕ, List, length, Contains};
 ghost use Rattle.mof_metamodel.specs.declared.desc.MetaDesc.{MetaDesc};
 ghost use Rattle.qv_syntax.specs.declared.program.Rel.{Rel};
 ghost use Rattle.qv_syntax.specs.WellFormed.{IsWellFormed};
-ghost use Rattle.enforce_steps.specs.Premises.{AreFew, AreNumbered, HasFewConjuncts};
+ghost use Rattle.enforce_steps.specs.Premises.{AreFew, AreNumbered};
 
 use qv_syntax::{Program, Rel};
 
@@ -39,30 +39,4 @@ pub fn variables_are_few(program: &Program)
     ensures { (metas : List MetaDesc) → IsWellFormed metas program.now → (rel : Rel) → Contains program.now.rels rel → length rel.vars ≤ 2 ^ 32 }
 {
     few_in_each(program.rels.as_slice())
-}
-
-/// Whether the where clause of a relation has no more conjuncts than numbers of 32 bits count.
-fn has_few(rel: &Rel) -> bool
-    ensures { IsTrue result → HasFewConjuncts rel.now }
-{
-    rel.wheres.len() <= u32::MAX as usize
-}
-
-/// Whether each of relations has.
-fn have_few(rels: &[Rel]) -> bool
-    ensures { IsTrue result → All HasFewConjuncts rels.now }
-{
-    for rel in rels {
-        if !has_few(rel) {
-            return false;
-        }
-    }
-    true
-}
-
-/// Whether the where clauses of a program have no more conjuncts than numbers of 32 bits count. Each that stands in a script has.
-pub fn has_few_conjuncts(program: &Program) -> bool
-    ensures { IsTrue result → All HasFewConjuncts program.now.rels }
-{
-    have_few(program.rels.as_slice())
 }

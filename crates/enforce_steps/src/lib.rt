@@ -20,7 +20,7 @@ mod step_texts;
 mod tracing;
 
 pub use cause::{Cause, StepError};
-pub use counting::{has_few_conjuncts, variables_are_few};
+pub use counting::variables_are_few;
 pub use enforcing::enforced;
 pub use laws::enforced_targets_satisfy;
 pub use outcome::Enforced;
