@@ -11,12 +11,14 @@ use Rattle.repair_semantics.specs.Reports.{IsReport}
 use Rattle.demand_set.specs.DemandSets.{DemandData}
 use Rattle.enforce_mode.specs.Made.{IsSound}
 use Rattle.enforce_mode.specs.Reports.{EditData}
+use Rattle.xmi_profile.specs.Held.{IsHeldModel}
 use Rattle.answer_texts.specs.Question.{Question}
 use Rattle.enforce_steps.specs.declared.cause.Cause.TheVariants as causes
 use Rattle.enforce_steps.specs.declared.cause.StepError.{StepError}
 use Rattle.enforce_steps.specs.Endings.{Ended, refused, OutputData, OnRefusal}
 use Rattle.enforce_steps.specs.StepTexts.{long_text, text_in}
 use Rattle.enforce_steps.specs.EnforceAnswer.{DemandsEnd, EnforceAnswer, IsMade, MadeEnds, MadeStops, done, long}
+use Rattle.enforce_steps.specs.Premises.{IsAskable}
 use Rattle.enforce_steps.specs.Readied.{IsFitted, IsReady, IsTooLong, IsWritten}
 use Rattle.enforce_steps.proofs.RefusalLaws.{refusal_wider}
 
@@ -25,9 +27,9 @@ module _ (q : Question) (m : ModelData) (d : DemandData) (target : slice_get q.m
   pub is_made : (made : ModelData) → made ≡ candidate q.program m d.list → IsMade q made
   is_made made is = record { target = m; target_is = target; demands = d; demanded = demanded; made_is = is }
 
-  pub is_ready : (e : EditData) → e.made ≡ candidate q.program m d.list → IsSound e.made → IsReport q.program m d.list e.report → IsReady q e
-  is_ready e made sound report = record {
-    made = record { is_made = record { target = m; target_is = target; demands = d; demanded = demanded; made_is = made }; is_report = report };
+  pub is_ready : IsAskable q → (e : EditData) → e.made ≡ candidate q.program m d.list → IsSound e.made → IsReport q.program m d.list e.report → IsReady q e
+  is_ready askable e made sound report = record {
+    made = record { is_made = record { target = m; target_is = target; demands = d; demanded = demanded; made_is = made }; is_report = report; askable = askable };
     sound = sound;
   }
 
@@ -45,9 +47,9 @@ shallow made sound o depth live is = elim (cases_lt MAX_DEPTH depth) [
 ]
 
 -- a text that isn't too long is what comes of it
-pub fits : (o : OutputData) (made : ModelData) (report : Report) (text : List ℕ) (end : Ended) → IsSound made → text ≡ text_in o.form made → IsFitted o text report end → IsWritten o made report end
-fits o made report text end sound is f =
-    (record { sound = sound; short = subst (λ t. length t ≤ o.limit) is f.0 }, subst (λ t. MadeEnds t report end) is f.1)
+pub fits : (o : OutputData) (made : ModelData) (report : Report) (text : List ℕ) (end : Ended) → IsSound made → IsHeldModel made → text ≡ text_in o.form made → IsFitted o text report end → IsWritten o made report end
+fits o made report text end sound held is f =
+    (record { sound = sound; held = held; short = subst (λ t. length t ≤ o.limit) is f.0 }, subst (λ t. MadeEnds t report end) is f.1)
 
 -- one that is too long stands against it
 pub too_long : (o : OutputData) (made : ModelData) (text : List ℕ) (e : StepError) → IsSound made → text ≡ text_in o.form made → OnRefusal e (IsTooLong o text) → OnRefusal e (MadeStops o made)

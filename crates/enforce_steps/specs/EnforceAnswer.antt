@@ -19,12 +19,14 @@ use Rattle.repair_semantics.specs.Reports.{IsReport}
 use Rattle.entry_finding.specs.Found.{IsUnmetAt}
 use Rattle.demand_set.specs.DemandSets.{DemandData, IsConflict, IsDemandSet}
 use Rattle.enforce_mode.specs.Made.{HasFewObjects, IsSound, IsTooDeep}
+use Rattle.xmi_profile.specs.Held.{IsHeldModel}
 use Rattle.trace_log.specs.TraceData.{text_of_trace}
 use Rattle.demand_trace.specs.Traces.{trace_of}
 use Rattle.answer_texts.specs.Question.{Question}
 use Rattle.entry_texts.specs.EntryTexts.{conflict_text, entry_cycle_text, entry_deep_text, rule_text, unmet_text}
 use Rattle.enforce_steps.specs.declared.cause.Cause.TheVariants as causes
 use Rattle.enforce_steps.specs.Endings.{Ended, refused, unchanged, changed, traced, OutputData}
+use Rattle.enforce_steps.specs.Premises.{IsAskable}
 use Rattle.enforce_steps.specs.StepTexts.{invalid_text, limit_text, long_text, text_in}
 
 -- ---- the steps that both have: the rules, chains and entries, conflicts
@@ -63,10 +65,11 @@ pub record IsMade (q : Question) (made : ModelData) : Type 0 where
   pub demanded : DemandsEnd q demands
   pub made_is : made ≡ candidate q.program target demands.list
 
--- and this says what it changes
+-- and this says what it changes, of a program that can be asked
 pub record IsMadeSo (q : Question) (made : ModelData) (report : Report) : Type 0 where
   pub is_made : IsMade q made
   pub is_report : IsReport q.program is_made.target is_made.demands.list report
+  pub askable : IsAskable q
 
 -- What stands against a model that is made, and is to be put there: it has too many objects; or its first breach; or it is too deep; or its text is too
 -- long.
@@ -77,9 +80,10 @@ pub data MadeStops (o : OutputData) (made : ModelData) : Ended → Type 0 where
   deep_objects : HasFewObjects made → Valid made → IsTooDeep made → MadeStops o made (refused causes.Limit (limit_text o.path limits.Depth))
   long : IsSound made → o.limit < length (text_in o.form made) → MadeStops o made (refused causes.Limit (long_text o.path))
 
--- nothing stands against it
+-- nothing stands against it: it is sound, its texts are characters and its integers have 64 bits, and its text is short
 pub record IsFit (o : OutputData) (made : ModelData) : Type 0 where
   pub sound : IsSound made
+  pub held : IsHeldModel made
   pub short : length (text_in o.form made) ≤ o.limit
 
 -- what then comes of it and of its text: nothing changes, or the text is put

@@ -21,6 +21,7 @@ use mof_metamodel::{NoMemory, Seq};
 use object_tables::Model;
 use repair_semantics::Report;
 use std::alloc::Global;
+use xmi_profile::models_are_held;
 
 /// The target among the models.
 fn target_of<'a, 'm>(asked: &Asked<'a, 'm>) -> &'a Model<'m>
@@ -116,6 +117,7 @@ fn written(
     ensures ok { IfOk result (λ e. IsWritten (output_view output.now) made.now report (ended_of e)) }
     ensures err { IfErr result (λ e. OnRefusal e (MadeStops (output_view output.now) made.now)) }
 {
+    models_are_held(made);
     match model_text(alloc, made, output.form) {
         Ok(bytes) => fitted(alloc, bytes, output, report),
         Err(NoMemory) => Err(StepError::NoMemory),

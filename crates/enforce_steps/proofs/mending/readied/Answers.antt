@@ -24,7 +24,7 @@ prepare-requires-clause-demands c =
 
 pub returns-in-Ok-clause-ok : goal.returns-in-Ok-clause-ok
 returns-in-Ok-clause-ok c =
-    is_ready (asked_view c.args.asked.now) c.target_of-target.result.now c.args.found.now c.target_of-target.ensures c.requires.demanded c.in-Ok.edits c.in-Ok.ensures.made
+    is_ready (asked_view c.args.asked.now) c.target_of-target.result.now c.args.found.now c.target_of-target.ensures c.requires.demanded c.requires.askable c.in-Ok.edits c.in-Ok.ensures.made
     c.in-Ok.ensures.sound c.in-Ok.ensures.report
 
 pub made_refusal-refused-requires : goal.made_refusal-refused-requires

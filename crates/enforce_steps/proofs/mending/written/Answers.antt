@@ -9,7 +9,7 @@ model_text-requires-clause-depth c = shallow c.args.made.now c.requires
 pub returns-in-Ok-clause-ok : goal.returns-in-Ok-clause-ok
 returns-in-Ok-clause-ok c =
     IfOk-weaker c.fitted.result _ _
-    (λ e f. fits (output_view c.args.output.now) c.args.made.now c.args.report c.in-Ok.bytes (ended_of e) c.requires c.in-Ok.ensures f) c.fitted.ensures.ok
+    (λ e f. fits (output_view c.args.output.now) c.args.made.now c.args.report c.in-Ok.bytes (ended_of e) c.requires c.models_are_held.ensures c.in-Ok.ensures f) c.fitted.ensures.ok
 
 pub returns-in-Ok-clause-err : goal.returns-in-Ok-clause-err
 returns-in-Ok-clause-err c =
