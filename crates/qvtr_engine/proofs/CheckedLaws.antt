@@ -1,4 +1,4 @@
--- A check that ends with a verdict has passed each step.
+-- An execution that is done or has a verdict has passed each step up to its last.
 use Rattle.std.proofs.Common.{inl, inr, ℕ, List, [], ◌∷◌, Bool, true, false}
 use Rattle.vault_io.specs.Files.{Files}
 use Rattle.mof_metamodel.specs.declared.desc.MetaDesc.{MetaDesc}
@@ -9,8 +9,8 @@ use Rattle.qv_syntax.specs.declared.program.Program.{Program}
 use Rattle.qv_syntax.specs.declared.script.Script.{Script}
 use Rattle.qvtr_engine.specs.declared.status.Status.TheVariants.{Fault, Limit, NoMemory, Refused, Chain}
 use Rattle.qvtr_engine.specs.CheckWords.{CheckWords}
-use Rattle.qvtr_engine.specs.CheckedMetamodels.{AreMetamodels, MetamodelsStop, metamodel_files, numbered_metas, IsReadMeta, MetaStops}
-use Rattle.qvtr_engine.specs.CheckedModels.{AreModels, ModelsStop, model_files, numbered_models, IsReadModel, ModelStops}
+use Rattle.qvtr_engine.specs.CheckedMetamodels.{AreMetamodels, metamodel_files, numbered_metas, IsReadMeta, MetaStops}
+use Rattle.qvtr_engine.specs.CheckedModels.{model_files, numbered_models, IsReadModel, ModelStops}
 use Rattle.qvtr_engine.specs.CheckedNames.{NamesFit, NamesStop, misnamed, target_of}
 use Rattle.qvtr_engine.specs.CheckedRelations.{ChainsStop, cyclic, deep}
 use Rattle.qvtr_engine.specs.CheckedScript.{ScriptRefused, fault}
@@ -22,7 +22,7 @@ use Rattle.qvtr_engine.specs.ScriptFile.{IsScriptAt, IsMisspelled, misspelled, S
 use Rattle.qvtr_engine.specs.Steps.{stopped, went_on, failed, passed}
 use Rattle.qvtr_engine.specs.Verdicts.{HasVerdict, IsJudged}
 use Rattle.qvtr_engine.specs.CheckAnswer.{VerdictAnswer, CheckAnswer}
-use Rattle.qvtr_engine.specs.StepsAnswer.{AnswerOver, AnswerWith, AnswerFor, Inputs, ResolvesTo, question_of}
+use Rattle.qvtr_engine.specs.StepsAnswer.{StepsAnswer, AnswerOver, AnswerWith, AnswerFor, Inputs, ResolvesTo, question_of, HasPassed}
 
 pub fault_unjudged : IsJudged Fault → ⊥
 fault_unjudged (inl e) = cc
@@ -74,39 +74,46 @@ names_unjudged w s reply (misnamed f is) j = refused_unjudged j
 types_unjudged : (path : List ℕ) (metas : List MetaDesc) (s : Script) (target : List ℕ) (reply : Reply) → ScriptRefused path metas s target reply → IsJudged (status_of reply) → ⊥
 types_unjudged path metas s target reply (fault f stands) j = refused_unjudged j
 
+-- ---- from the last step to the first
+
+module _ (Last : Question → Reply → Type 0) (files : Files) (w : CheckWords) where
+  of_inputs : (i : Inputs files w) (reply : Reply)
+      → AnswerFor Last w i.script (numbered_metas w i.script i.metas) (numbered_models w i.script i.models) reply → IsJudged (status_of reply) → HasPassed Last files w reply
+  of_inputs i reply (stopped st) j = absurd (types_unjudged w.script (numbered_metas w i.script i.metas) i.script (target_of w) reply st j)
+  of_inputs i reply (went_on p is more) j = record { inputs = i; program = p; resolved = is; last = more }
+
+  of_models : (s : Script) (metas : List MetaDesc) → IsScriptAt files w.script s → NamesFit w s → AreMetamodels files w s metas
+      → (reply : Reply) → AnswerWith Last files w s (numbered_metas w s metas) reply → IsJudged (status_of reply) → HasPassed Last files w reply
+  of_models s metas at fit are reply (stopped st) j =
+      absurd (first_unjudged (IsReadModel files s (numbered_metas w s metas)) (ModelStops files s (numbered_metas w s metas)) (λ b r x. file_unjudged files b.path _ _ r x) (model_files w s) reply st j)
+  of_models s metas at fit are reply (went_on models read more) j =
+      of_inputs (record { script = s; at = at; fit = fit; metas = metas; metamodels = are; models = models; read = read }) reply more j
+
+  of_files : (s : Script) → IsScriptAt files w.script s → NamesFit w s → (reply : Reply) → AnswerOver Last files w s reply
+      → IsJudged (status_of reply) → HasPassed Last files w reply
+  of_files s at fit reply (stopped st) j =
+      absurd (first_unjudged (IsReadMeta files) (MetaStops files) (λ b r x. file_unjudged files b.path _ _ r x) (metamodel_files w s) reply st j)
+  of_files s at fit reply (went_on metas are more) j = of_models s metas at fit are reply more j
+
+  pub passed_steps : (reply : Reply) → StepsAnswer Last files w reply → IsJudged (status_of reply) → HasPassed Last files w reply
+  passed_steps reply (stopped st) j = absurd (script_unjudged files w.script reply st j)
+  passed_steps reply (went_on s at (failed st)) j = absurd (names_unjudged w s reply st j)
+  passed_steps reply (went_on s at (passed fit more)) j = of_files s at fit reply more j
+
+-- ---- a check
+
 chains_unjudged : (q : Question) (reply : Reply) → ChainsStop q reply → IsJudged (status_of reply) → ⊥
 chains_unjudged q reply (cyclic chain is) j = chain_unjudged j
 chains_unjudged q reply (deep chain is) j = chain_unjudged j
-
--- ---- from the last step to the first
 
 of_question : (files : Files) (w : CheckWords) (i : Inputs files w) (p : Program) → ResolvesTo files w i p → (reply : Reply) → VerdictAnswer (question_of files w i p) reply
     → IsJudged (status_of reply) → HasVerdict files w reply
 of_question files w i p is reply (failed st) j = absurd (chains_unjudged (question_of files w i p) reply st j)
 of_question files w i p is reply (passed end verdict) j = record { inputs = i; program = p; resolved = is; end = end; verdict = verdict }
 
-of_inputs : (files : Files) (w : CheckWords) (i : Inputs files w) (reply : Reply)
-    → AnswerFor VerdictAnswer w i.script (numbered_metas w i.script i.metas) (numbered_models w i.script i.models) reply → IsJudged (status_of reply) → HasVerdict files w reply
-of_inputs files w i reply (stopped st) j = absurd (types_unjudged w.script (numbered_metas w i.script i.metas) i.script (target_of w) reply st j)
-of_inputs files w i reply (went_on p is more) j = of_question files w i p is reply more j
-
-of_models : (files : Files) (w : CheckWords) (s : Script) (metas : List MetaDesc) → IsScriptAt files w.script s → NamesFit w s → AreMetamodels files w s metas
-    → (reply : Reply) → AnswerWith VerdictAnswer files w s (numbered_metas w s metas) reply → IsJudged (status_of reply) → HasVerdict files w reply
-of_models files w s metas at fit are reply (stopped st) j =
-    absurd (first_unjudged (IsReadModel files s (numbered_metas w s metas)) (ModelStops files s (numbered_metas w s metas)) (λ b r x. file_unjudged files b.path _ _ r x) (model_files w s) reply st j)
-of_models files w s metas at fit are reply (went_on models read more) j =
-    of_inputs files w (record { script = s; at = at; fit = fit; metas = metas; metamodels = are; models = models; read = read }) reply more j
-
-of_files : (files : Files) (w : CheckWords) (s : Script) → IsScriptAt files w.script s → NamesFit w s → (reply : Reply) → AnswerOver VerdictAnswer files w s reply
-    → IsJudged (status_of reply) → HasVerdict files w reply
-of_files files w s at fit reply (stopped st) j =
-    absurd (first_unjudged (IsReadMeta files) (MetaStops files) (λ b r x. file_unjudged files b.path _ _ r x) (metamodel_files w s) reply st j)
-of_files files w s at fit reply (went_on metas are more) j = of_models files w s metas at fit are reply more j
-
 pub judged_check : (files : Files) (w : CheckWords) (reply : Reply) → CheckAnswer files w reply → IsJudged (status_of reply) → HasVerdict files w reply
-judged_check files w reply (stopped st) j = absurd (script_unjudged files w.script reply st j)
-judged_check files w reply (went_on s at (failed st)) j = absurd (names_unjudged w s reply st j)
-judged_check files w reply (went_on s at (passed fit more)) j = of_files files w s at fit reply more j
+judged_check files w reply a j =
+    let h = passed_steps VerdictAnswer files w reply a j in of_question files w h.inputs h.program h.resolved reply h.last j
 
 -- and such a verdict is the answer
 pub verdict_answer : (files : Files) (w : CheckWords) (reply : Reply) → HasVerdict files w reply → CheckAnswer files w reply

@@ -1,5 +1,5 @@
 -- The steps of a conversion, against the answer.
-use Rattle.std.proofs.Common.{◌≡◌, ℕ, ◌<◌, ◌≤◌, List, [], ◌∷◌, length, sym, subst, Option, Some, None, Result, Ok, Err}
+use Rattle.std.proofs.Common.{◌≡◌, ℕ, ◌<◌, ◌≤◌, List, [], ◌∷◌, length, refl, sym, subst, Option, Some, None, Result, Ok, Err}
 use Rattle.std.specs.Prelude.{IfSome, IfOk}
 use Rattle.mof_metamodel.specs.declared.desc.MetaDesc.{MetaDesc}
 use Rattle.qvtr_engine.specs.declared.limits.TheConstants.{MAX_FILE}
@@ -16,12 +16,15 @@ use Rattle.qvtr_engine.specs.declared.status.Status.{Status}
 use Rattle.qvtr_engine.specs.declared.status.Status.TheVariants.{Fault}
 use Rattle.qvtr_engine.specs.ConvertAnswer.{ConvertAnswer, IsMetamodelAt, metamodel_stops, model_stops, output_long, put}
 use Rattle.qvtr_engine.specs.ConvertWords.{ConvertWords, convert_paths}
-use Rattle.qvtr_engine.specs.Converting.{ConvertEnds, IsDuePut, IsShort, IsTextAt, IsTooLong, IsWritten, PutEnds, put_done, put_failed, put_well, put_badly}
+use Rattle.qvtr_engine.specs.Converting.{IsDuePut, IsShort, IsTextAt, IsTooLong, IsWritten}
+use Rattle.qvtr_engine.specs.Command.{converts}
+use Rattle.qvtr_engine.specs.CommandEnds.{CommandEnds, put_done, put_failed, IsPutBy}
+use Rattle.qvtr_engine.specs.Putting.{PutEnds, put_well, put_badly}
 use Rattle.qvtr_engine.specs.FileStops.{HasShortFile, Stops}
 use Rattle.qvtr_engine.specs.Outcome.{Finishes}
-use Rattle.qvtr_engine.specs.Reply.{Reply, too_long, converted, fault_text}
+use Rattle.qvtr_engine.specs.Reply.{Reply, too_long, converted, done_text, fault_text}
 use Rattle.qvtr_engine.specs.Stops.{StoppedBy}
-use Rattle.qvtr_engine.proofs.StopLaws.{rose_from, among_front, among_middle, stopped_wider}
+use Rattle.qvtr_engine.proofs.StopLaws.{rose_from, among_front, among_middle, among_third, stopped_wider}
 
 -- ---- the text that is put
 
@@ -74,7 +77,7 @@ output_stopped (stop.Fault at) told c meta text f m t l = absurd l
 output_stopped (stop.TooLong at) told c meta text f m t l =
     subst (λ p. IfSome told (λ files. ConvertAnswer files c (too_long p))) (sym l.0) (long_output told c meta text m t l.1)
 output_stopped (stop.Faulty limit line) told c meta text f m t l = absurd l
-output_stopped (stop.Chained tells) told c meta text f m t l = absurd l
+output_stopped (stop.Refused cause tells) told c meta text f m t l = absurd l
 output_stopped stop.NoMemory told c meta text f m t l = tt
 
 put_answer : (files : Files) (c : ConvertWords) (meta : MetaDesc) (text : List ℕ) → IsMetamodelAt files c.metamodel meta → IsTextAt files c.model meta c.form text
@@ -95,9 +98,15 @@ due_put told c meta text conversion at t h =
 
 -- ---- the end of a conversion, from that of its put
 
+conversion_put : (c : ConvertWords) (text : List ℕ) → IsPutBy (converts c) (converted c.output text) c.output text
+conversion_put c text = record { puts = refl; at = refl; named = among_third c.metamodel c.model c.output; done = refl }
+
 pub put_ended : (told : Option Files) (c : ConvertWords) (conversion : Conversion) (vault_faulted vault_faulted' sink_faulted : Type 0) (before after : Option (List ℕ)) (told_after : Option Files) (result : Status)
     → IsDuePut told c conversion.text → conversion.failure ≡ fault_text c.output → (vault_faulted → vault_faulted')
-    → PutEnds told c.output conversion vault_faulted sink_faulted before after told_after result → ConvertEnds told c vault_faulted' sink_faulted before after told_after result
-put_ended told c conversion vf vf' sf before after told_after result due fails t (put_well is f) = put_done conversion.text due is f
+    → PutEnds told c.output conversion.text done_text conversion.failure vault_faulted sink_faulted before after told_after result
+    → CommandEnds told (converts c) vault_faulted' sink_faulted before after told_after result
+put_ended told c conversion vf vf' sf before after told_after result due fails t (put_well is f) =
+    put_done (converted c.output conversion.text) c.output conversion.text due.answer (conversion_put c conversion.text) is f
 put_ended told c conversion vf vf' sf before after told_after result due fails t (put_badly faulted is f) =
-    put_failed conversion.text due (t faulted) is (subst (λ x. Finishes Fault x before after sf result) fails f)
+    put_failed (converted c.output conversion.text) c.output conversion.text due.answer (conversion_put c conversion.text) (t faulted) is
+    (subst (λ x. Finishes Fault x before after sf result) fails f)

@@ -26,11 +26,15 @@ use Rattle.script_variables.proofs.NameOrderLaws.{repeated_left}
 use Rattle.qvtr_types.proofs.well_formed.Numbers.{AreApart, once_apart}
 use Rattle.qvtr_engine.specs.declared.numbering_inputs.Found.{Found}
 use Rattle.qvtr_engine.specs.CheckWords.{Bound, CheckWords}
-use Rattle.qvtr_engine.specs.CheckedNames.{NamesFit, name_of, given_names}
+use Rattle.qvtr_engine.specs.CheckedNames.{NamesFit, name_of, target_of, given_names}
 use Rattle.qvtr_engine.specs.CheckedMetamodels.{metamodel_files, numbered_metas}
 use Rattle.qvtr_engine.specs.CheckedModels.{model_files, no_model, numbered_models}
 use Rattle.qvtr_engine.specs.NamedFiles.{named_item}
+use Rattle.qvtr_engine.specs.Target.{path_named, target_path}
 use Rattle.qvtr_engine.specs.FoundFiles.{items_of, names_of, item_named, items_named, StandsAt}
+use Rattle.qvtr_engine.specs.Names.{is_among}
+use Rattle.std.proofs.lemmas.Bool.{or_right}
+use Rattle.qvtr_engine.proofs.StopLaws.{among_first}
 use Rattle.qvtr_engine.proofs.RequestLaws.{item_at, take_at, drop_at}
 
 -- ---- names that stand once
@@ -199,7 +203,7 @@ twice xs ys name (i, below, at) there =
     let less : i < j = omega (arith, below, place) in
     record { first = i; second = j; order = less; one = at_left xs ys i name below at; other = other }
 
-abbrev AreDistinct : Script → Type 0
+abbrev pub AreDistinct : Script → Type 0
 AreDistinct s = (name : List ℕ) → ¬ IsRepeated (global_names s) name
 
 pub models_distinct : (s : Script) → AreDistinct s → (name : List ℕ) → ¬ IsRepeated (model_names s.models) name
@@ -223,6 +227,47 @@ models_each w s fits distinct found named = λ k d l.
     ∙ kept_name (λ n. not (is_member same_name (metamodel_names s) n)) w.files name
     (no_metamodel s distinct name has (is_member same_name (metamodel_names s) name) refl)
     (has_file w s fits name (Contains-append_left (model_names s.models) (meta_names s.models) name has))
+
+-- ---- the target's file is one of those of the models
+
+first_here : (b : Bound) (bs : List Bound) → Contains (b ∷ bs) b
+first_here b bs = Contains-append_left (b ∷ []) bs b (Contains-push [] b)
+
+-- the first word of a name is among those that pass a test of names, if the name does
+pub record IsPathAmong (bs : List Bound) (path : List ℕ) : Type 0 where
+  pub word : Bound
+  pub has : Contains bs word
+  pub is : word.path ≡ path
+  pub among : is_among (map (λ b. b.path) bs) path ≡ true
+
+later_path : (b : Bound) (bs : List Bound) (path : List ℕ) → IsPathAmong bs path → IsPathAmong (b ∷ bs) path
+later_path b bs path h = record {
+  word = h.word;
+  has = Contains-append_right (b ∷ []) bs h.word h.has;
+  is = h.is;
+  among = or_right (same_name path b.path) _ h.among;
+}
+
+path_found : (test : List ℕ → Bool) (bs : List Bound) (name : List ℕ) → test name ≡ true → is_member same_name (map name_of bs) name ≡ true
+    → IsPathAmong (filter (λ b. test (name_of b)) bs) (path_named bs name)
+path_found test [] name passes h = absurd (true≢false (sym h))
+path_found test (b ∷ bs) name passes h = by (λ has. path_found test bs name passes has) (same_name name (name_of b)) refl (test (name_of b)) refl
+  where
+    by : (is_member same_name (map name_of bs) name ≡ true → IsPathAmong (filter (λ x. test (name_of x)) bs) (path_named bs name))
+        → (same : Bool) → same_name name (name_of b) ≡ same → (kept : Bool) → test (name_of b) ≡ kept
+        → IsPathAmong (cond kept (b ∷ filter (λ x. test (name_of x)) bs) (filter (λ x. test (name_of x)) bs)) (cond same b.path (path_named bs name))
+    by later true e true k =
+        let rest : List Bound = filter (λ x. test (name_of x)) bs in
+        record { word = b; has = first_here b rest; is = refl; among = among_first b.path (map (λ (x : Bound). x.path) rest) }
+    by later true e false k = absurd (true≢false (sym (ap test (sym (same_is name (name_of b) e)) ∙ passes) ∙ k))
+    by later false e true k = later_path b (filter (λ x. test (name_of x)) bs) (path_named bs name) (later (sym (ap (λ t. t || is_member same_name (map name_of bs) name) e) ∙ h))
+    by later false e false k = later (sym (ap (λ t. t || is_member same_name (map name_of bs) name) e) ∙ h)
+
+pub target_among : (w : CheckWords) (s : Script) → NamesFit w s → AreDistinct s → IsPathAmong (model_files w s) (target_path w)
+target_among w s fits distinct =
+    path_found (λ n. not (is_member same_name (metamodel_names s) n)) w.files (target_of w)
+    (no_metamodel s distinct (target_of w) fits.aimed (is_member same_name (metamodel_names s) (target_of w)) refl)
+    (has_file w s fits (target_of w) (Contains-append_left (model_names s.models) (meta_names s.models) (target_of w) fits.aimed))
 
 pub metas_distinct : (s : Script) (name : List ℕ) → ¬ IsRepeated (metamodel_names s) name
 metas_distinct s = once_apart (meta_names s.models)

@@ -13,7 +13,12 @@ use Rattle.model_files.specs.declared.fault.FileError.TheVariants as errors
 use Rattle.model_files.specs.declared.file_form.Form.{Form}
 use Rattle.model_files.specs.declared.files.Read.{Read}
 use Rattle.model_files.specs.FileForm.{form_of}
-use Rattle.model_files.specs.Files.{FileSpells, IsTold, MetaSpells}
+use Rattle.model_files.specs.declared.file_form.Form.TheVariants.{Xmi, Json}
+use Rattle.model_files.specs.Files.{FileSpells, IsTold, MetaSpells, SpellsIn}
+use Rattle.object_tables.specs.declared.limit.TheConstants.{MAX_OBJECTS}
+use Rattle.object_tables.specs.Kept.{Kept}
+use Rattle.qvtr_engine.specs.ReadModels.{IsReadBy}
+use Rattle.qvtr_engine.proofs.FileLaws.{file_valid}
 use Rattle.qvtr_engine.specs.declared.limits.TheConstants.{MAX_FILE}
 use Rattle.qvtr_engine.specs.declared.outcome.Stop.{Stop}
 use Rattle.qvtr_engine.specs.declared.outcome.Stop.TheVariants as stop
@@ -54,7 +59,7 @@ pub misread_is_unread : (s : Stop) (meta : MetaDesc) (path : List ℕ) (error : 
 misread_is_unread (stop.Fault at) meta path error IsError n e m = m
 misread_is_unread (stop.TooLong at) meta path error IsError n e m = m
 misread_is_unread (stop.Faulty limit line) meta path error IsError n e m = (error, n, e, m)
-misread_is_unread (stop.Chained text) meta path error IsError n e m = m
+misread_is_unread (stop.Refused cause text) meta path error IsError n e m = m
 misread_is_unread stop.NoMemory meta path error IsError n e m = tt
 
 -- the work stops at an error of the file, or for want of memory
@@ -78,7 +83,7 @@ unread_stops (stop.Fault at) told path bytes meta IsError f ps h u = absurd u
 unread_stops (stop.TooLong at) told path bytes meta IsError f ps h u = absurd u
 unread_stops (stop.Faulty limit line) None path bytes meta IsError f ps h u = tt
 unread_stops (stop.Faulty limit line) (Some files) path bytes meta IsError f ps h u = line_stops files path bytes meta IsError limit line u.0 h u.1 u.2 u.3
-unread_stops (stop.Chained text) told path bytes meta IsError f ps h u = absurd u
+unread_stops (stop.Refused cause text) told path bytes meta IsError f ps h u = absurd u
 unread_stops stop.NoMemory told path bytes meta IsError f ps h u = tt
 
 all_replies : (told : Option Files) (P Q : Files → Reply → Type 0) → ((files : Files) (reply : Reply) → P files reply → Q files reply)
@@ -127,3 +132,21 @@ pub unread_err : {X : Type 0} (r : Result X Stop) (told : Option Files) (path by
     → IfErr r (λ s. StoppedBy s told (λ files. Stops files path meta IsError) faulted paths)
 unread_err (Ok x) told path bytes meta IsError faulted paths h u = tt
 unread_err (Err s) told path bytes meta IsError faulted paths h u = unread_stops s told path bytes meta IsError faulted paths h u
+
+-- ---- what is known of a model that is read
+
+model_meta : (meta : MetaDesc) (form : Form) (bytes : List ℕ) (m : ModelData) → SpellsIn meta externs.None bytes form m → m.meta ≡ meta
+model_meta meta Xmi bytes m s = s.model.content.meta
+model_meta meta Json bytes m s = s.2.model.content.meta
+
+model_few : (meta : MetaDesc) (form : Form) (bytes : List ℕ) (m : ModelData) → SpellsIn meta externs.None bytes form m → length m.objects ≤ MAX_OBJECTS
+model_few meta Xmi bytes m s = subst (λ n. n ≤ MAX_OBJECTS) (sym s.model.content.count) s.model.objects
+model_few meta Json bytes m s = subst (λ n. n ≤ MAX_OBJECTS) (sym s.2.model.content.count) s.2.model.objects
+
+pub read_by : (meta : MetaDesc) (bytes : List ℕ) (m : ModelData) → FileSpells meta externs.None bytes m → Kept m → IsReadBy meta m
+read_by meta bytes m s kept = record {
+  meta_is = model_meta meta (form_of bytes) bytes m s;
+  kept = kept;
+  valid = file_valid meta externs.None bytes m s;
+  few = model_few meta (form_of bytes) bytes m s;
+}

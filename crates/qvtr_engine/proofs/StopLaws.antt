@@ -7,7 +7,7 @@ use Rattle.mof_metamodel.specs.Metamodels.{same_name}
 use Rattle.qvtr_engine.specs.declared.outcome.Stop.{Stop}
 use Rattle.qvtr_engine.specs.declared.outcome.Stop.TheVariants as stop
 use Rattle.qvtr_engine.specs.Names.{is_among}
-use Rattle.qvtr_engine.specs.Reply.{Reply, unread, faulty, too_long, chained}
+use Rattle.qvtr_engine.specs.Reply.{Reply, unread, faulty, too_long, refused_for}
 use Rattle.qvtr_engine.specs.Stops.{StoppedBy, OnStop}
 use Rattle.qvtr_engine.proofs.ReadingLaws.{same_holds}
 use Rattle.std.proofs.lemmas.Bool.{or_right}
@@ -31,8 +31,8 @@ stopped_wider (stop.TooLong path) None P Q f f' ps ps' w t i s = s
 stopped_wider (stop.TooLong path) (Some files) P Q f f' ps ps' w t i s = w (too_long path.now) s
 stopped_wider (stop.Faulty is_limit line) None P Q f f' ps ps' w t i s = s
 stopped_wider (stop.Faulty is_limit line) (Some files) P Q f f' ps ps' w t i s = w (faulty is_limit line) s
-stopped_wider (stop.Chained text) None P Q f f' ps ps' w t i s = s
-stopped_wider (stop.Chained text) (Some files) P Q f f' ps ps' w t i s = w (chained text) s
+stopped_wider (stop.Refused cause text) None P Q f f' ps ps' w t i s = s
+stopped_wider (stop.Refused cause text) (Some files) P Q f f' ps ps' w t i s = w (refused_for cause text) s
 stopped_wider stop.NoMemory told P Q f f' ps ps' w t i s = tt
 
 -- a stop that is no fault of the outside, in terms of the files
@@ -42,8 +42,8 @@ on_stop_stopped (stop.Fault path) told P Q f ps w h = absurd h
 on_stop_stopped (stop.TooLong path) told P Q f ps w h = absurd h
 on_stop_stopped (stop.Faulty is_limit line) None P Q f ps w h = tt
 on_stop_stopped (stop.Faulty is_limit line) (Some files) P Q f ps w h = w (faulty is_limit line) h
-on_stop_stopped (stop.Chained text) None P Q f ps w h = tt
-on_stop_stopped (stop.Chained text) (Some files) P Q f ps w h = w (chained text) h
+on_stop_stopped (stop.Refused cause text) None P Q f ps w h = tt
+on_stop_stopped (stop.Refused cause text) (Some files) P Q f ps w h = w (refused_for cause text) h
 on_stop_stopped stop.NoMemory told P Q f ps w h = tt
 
 -- one that is told of something else, too
@@ -51,7 +51,7 @@ pub on_stop_wider : (s : Stop) (P Q : Reply → Type 0) → ((reply : Reply) →
 on_stop_wider (stop.Fault path) P Q w h = h
 on_stop_wider (stop.TooLong path) P Q w h = h
 on_stop_wider (stop.Faulty is_limit line) P Q w h = w (faulty is_limit line) h
-on_stop_wider (stop.Chained text) P Q w h = w (chained text) h
+on_stop_wider (stop.Refused cause text) P Q w h = w (refused_for cause text) h
 on_stop_wider stop.NoMemory P Q w h = tt
 
 or_false_right : (a : Bool) → (a || false) ≡ true → a ≡ true

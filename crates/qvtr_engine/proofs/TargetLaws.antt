@@ -1,15 +1,21 @@
 -- The file of the target: its path and its form.
-use Rattle.std.proofs.Common.{◌≡◌, ℕ, ◌+◌, Bool, true, false, cond, List, [], ◌∷◌, take, drop, refl, sym, ◌∙◌, ap, subst, true≢false, Option, Some, None, IsUtf8}
-use Rattle.std.specs.Prelude.{chars, slice_get, IfSome}
+use Rattle.std.proofs.Common.{◌≡◌, ℕ, ◌+◌, Bool, true, false, cond, List, [], take, drop, refl, sym, ◌∙◌, ap, subst, true≢false, Option, Some, None, IsUtf8}
+use Rattle.std.specs.Prelude.{chars, not, slice_get, IfSome}
 use Rattle.std.proofs.lemmas.Bool.{false_from_ne_true}
-use Rattle.std.proofs.lemmas.List.Elements.{All-nil, All-push, All-weaker}
+use Rattle.std.proofs.lemmas.List.Elements.{All-nil, All-push, All-weaker, All-contains}
 use Rattle.vault_io.specs.Files.{Files}
 use Rattle.mof_metamodel.specs.Characters.{same_name}
 use Rattle.mof_metamodel.specs.TextLaws.{bytes_same}
 use Rattle.model_files.specs.declared.file_form.Form.{Form}
-use Rattle.qvtr_engine.specs.CheckWords.{Bound}
-use Rattle.qvtr_engine.specs.CheckedNames.{name_of}
-use Rattle.qvtr_engine.specs.Target.{path_named, form_at, IsFormAmong}
+use Rattle.qv_syntax.specs.declared.script.Script.{Script}
+use Rattle.qvtr_engine.specs.CheckWords.{Bound, CheckWords, check_paths}
+use Rattle.qvtr_engine.specs.CheckedMetamodels.{is_metamodel}
+use Rattle.qvtr_engine.specs.CheckedModels.{model_files}
+use Rattle.qvtr_engine.specs.CheckedNames.{NamesFit, name_of}
+use Rattle.qvtr_engine.specs.Names.{is_among}
+use Rattle.qvtr_engine.specs.Target.{path_named, form_at, target_form, target_path, IsFormAmong}
+use Rattle.qvtr_engine.proofs.NumberingLaws.{AreDistinct, target_among}
+use Rattle.qvtr_engine.proofs.ReadingInputLaws.{of_the_words}
 use Rattle.qvtr_engine.proofs.ReadingLaws.{same_is, same_holds}
 use Rattle.qvtr_engine.proofs.RequestLaws.{drop_at, take_at}
 
@@ -77,3 +83,15 @@ pub form_read : (told : Option Files) (bs cs : List Bound) (path other : List �
     → IfSome told (λ files. IsFormAmong files bs path form) → IfSome told (λ files. IsFormAmong files cs other form)
 form_read told bs cs path other form same there h =
     subst (λ p. IfSome told (λ files. IsFormAmong files cs p form)) there (subst (λ xs. IfSome told (λ files. IsFormAmong files xs path form)) same h)
+
+-- ---- the form of the target's file
+
+pub same_form : (files : Files) (w : CheckWords) (s : Script) (form : Form) → NamesFit w s → AreDistinct s → IsFormAmong files (model_files w s) (target_path w) form
+    → form ≡ target_form files w
+same_form files w s form fits distinct among =
+    let at = target_among w s fits distinct in
+    All-contains (λ c. c.path ≡ target_path w → form ≡ form_at files (target_path w)) (model_files w s) at.word among at.has at.is
+
+-- its path is one of the words
+pub target_named : (w : CheckWords) (s : Script) → NamesFit w s → AreDistinct s → is_among (check_paths w) (target_path w) ≡ true
+target_named w s fits distinct = of_the_words w (λ x. not (is_metamodel s x)) (target_path w) (target_among w s fits distinct).among

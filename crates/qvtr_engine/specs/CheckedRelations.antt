@@ -6,7 +6,8 @@ use Rattle.qvtr_semantics.specs.Satisfaction.{Satisfied, LeastFailing}
 use Rattle.qvtr_semantics.specs.Templates.{Values}
 use Rattle.answer_texts.specs.Question.{Question}
 use Rattle.answer_texts.specs.AnswerTexts.{cycle_text, deep_text, failing_text}
-use Rattle.qvtr_engine.specs.Reply.{Reply, holds, fails, chained}
+use Rattle.enforce_steps.specs.declared.cause.Cause.TheVariants.{Chain}
+use Rattle.qvtr_engine.specs.Reply.{Reply, holds, fails, refused_for}
 
 -- ---- it goes on
 
@@ -18,8 +19,8 @@ pub record ChainsEnd (q : Question) : Type 0 where
 -- ---- or stops: at such a chain, any of them
 
 pub data ChainsStop (q : Question) : Reply → Type 0 where
-  cyclic : (chain : List RelationCall) → CyclicChain q.program q.models chain → ChainsStop q (chained (cycle_text q chain))
-  deep : (chain : List RelationCall) → DeepChain q.program q.models chain → ChainsStop q (chained (deep_text q chain))
+  cyclic : (chain : List RelationCall) → CyclicChain q.program q.models chain → ChainsStop q (refused_for Chain (cycle_text q chain))
+  deep : (chain : List RelationCall) → DeepChain q.program q.models chain → ChainsStop q (refused_for Chain (deep_text q chain))
 
 -- ---- the verdict
 

@@ -5,12 +5,9 @@ use Rattle.mof_metamodel.specs.declared.desc.MetaDesc.{MetaDesc}
 use Rattle.qvtr_engine.specs.declared.limits.TheConstants.{MAX_FILE}
 use Rattle.object_tables.specs.Models.{ModelData}
 use Rattle.xmi_profile.specs.declared.fault.Externs.TheVariants as externs
-use Rattle.xmi_profile.specs.Canon.{canon_bytes}
-use Rattle.model_files.specs.declared.file_form.Form.{Form}
-use Rattle.model_files.specs.declared.file_form.Form.TheVariants.{Xmi, Json}
-use Rattle.model_files.specs.CanonJson.{canon_json}
 use Rattle.model_files.specs.Emof.{emof}
 use Rattle.model_files.specs.Files.{FileSpells, IsFileError, MetaSpells, IsMetaFileError}
+pub use Rattle.enforce_steps.specs.StepTexts.{text_in}
 use Rattle.qvtr_engine.specs.ConvertWords.{ConvertWords}
 use Rattle.qvtr_engine.specs.FileStops.{HasShortFile, Stops}
 use Rattle.qvtr_engine.specs.Reply.{Reply, too_long, converted}
@@ -22,11 +19,6 @@ IsMetamodelAt files path meta = (bytes : List ℕ) × HasShortFile files path by
 -- the file at a path is this model
 abbrev pub IsModelAt : Files → List ℕ → MetaDesc → ModelData → Type 0
 IsModelAt files path meta m = (bytes : List ℕ) × HasShortFile files path bytes × FileSpells meta externs.None bytes m
-
--- the bytes of a model as a file of this form
-abbrev pub text_in : Form → ModelData → List ℕ
-text_in Xmi m = canon_bytes m
-text_in Json m = canon_json m
 
 -- the model that the words name, by the metamodel that they name
 pub record IsConverted (files : Files) (c : ConvertWords) (m : ModelData) : Type 0 where

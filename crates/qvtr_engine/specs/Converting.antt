@@ -1,6 +1,6 @@
--- The steps of a conversion, and how it ends.
-use Rattle.std.specs.Prelude.{◌≡◌, ◌<◌, ◌≤◌, ◌⊎◌, ℕ, List, length, Option, IfSome}
-use Rattle.vault_io.specs.Files.{Files, bound}
+-- The steps of a conversion.
+use Rattle.std.specs.Prelude.{◌≡◌, ◌<◌, ◌≤◌, ℕ, List, length, Option, IfSome}
+use Rattle.vault_io.specs.Files.{Files}
 use Rattle.mof_metamodel.specs.declared.desc.MetaDesc.{MetaDesc}
 use Rattle.qvtr_engine.specs.declared.limits.TheConstants.{MAX_FILE}
 use Rattle.object_tables.specs.Models.{ModelData}
@@ -10,13 +10,9 @@ use Rattle.model_files.specs.Files.{FileSpells}
 use Rattle.qvtr_engine.specs.declared.converting.Conversion.{Conversion}
 use Rattle.qvtr_engine.specs.declared.outcome.Stop.{Stop}
 use Rattle.qvtr_engine.specs.declared.outcome.Stop.TheVariants as stop
-use Rattle.qvtr_engine.specs.declared.status.Status.{Status}
-use Rattle.qvtr_engine.specs.declared.status.Status.TheVariants.{Done, Fault}
 use Rattle.qvtr_engine.specs.ConvertAnswer.{ConvertAnswer, IsModelAt, text_in}
-use Rattle.qvtr_engine.specs.ConvertWords.{ConvertWords, convert_paths}
-use Rattle.qvtr_engine.specs.Outcome.{reply_of_stop, Finishes, Reports}
-use Rattle.qvtr_engine.specs.Reply.{converted, done_text, fault_text}
-use Rattle.qvtr_engine.specs.Stops.{StoppedBy}
+use Rattle.qvtr_engine.specs.ConvertWords.{ConvertWords}
+use Rattle.qvtr_engine.specs.Reply.{converted, fault_text}
 
 -- the text is that of the model that the bytes are
 abbrev pub IsWritten : MetaDesc → List ℕ → Form → List ℕ → Type 0
@@ -37,25 +33,9 @@ abbrev pub IsTooLong : Stop → List ℕ → List ℕ → Type 0
 IsTooLong (stop.Fault at) path text = ⊥
 IsTooLong (stop.TooLong at) path text = (at.now ≡ path) × (MAX_FILE < length text)
 IsTooLong (stop.Faulty limit line) path text = ⊥
-IsTooLong (stop.Chained told) path text = ⊥
+IsTooLong (stop.Refused cause told) path text = ⊥
 IsTooLong stop.NoMemory path text = Unit {0}
 
 -- what is put is the answer, where the files are told
 pub record IsDuePut (told : Option Files) (c : ConvertWords) (text : List ℕ) : Type 0 where
   pub answer : IfSome told (λ files. ConvertAnswer files c (converted c.output text))
-
--- The end of a put: the file was put; or the vault faulted.
-pub data PutEnds (told : Option Files) (path : List ℕ) (c : Conversion) (vault_faulted sink_faulted : Type 0) (before after : Option (List ℕ)) (told_after : Option Files) (result : Status) : Type 0 where
-  put_well : told_after ≡ bound told path c.text → Finishes Done done_text before after sink_faulted result
-      → PutEnds told path c vault_faulted sink_faulted before after told_after result
-  put_badly : vault_faulted → (told_after ≡ told) ⊎ (told_after ≡ bound told path c.text) → Finishes Fault c.failure before after sink_faulted result
-      → PutEnds told path c vault_faulted sink_faulted before after told_after result
-
--- The end of a conversion: the work was stopped; or the file was put; or the vault faulted at the put.
-pub data ConvertEnds (told : Option Files) (c : ConvertWords) (vault_faulted sink_faulted : Type 0) (before after : Option (List ℕ)) (told_after : Option Files) (result : Status) : Type 0 where
-  stopped : (s : Stop) → StoppedBy s told (λ files. ConvertAnswer files c) vault_faulted (convert_paths c) → told_after ≡ told
-      → Reports (reply_of_stop s) before after sink_faulted result → ConvertEnds told c vault_faulted sink_faulted before after told_after result
-  put_done : (text : List ℕ) → IsDuePut told c text → told_after ≡ bound told c.output text
-      → Finishes Done done_text before after sink_faulted result → ConvertEnds told c vault_faulted sink_faulted before after told_after result
-  put_failed : (text : List ℕ) → IsDuePut told c text → vault_faulted → (told_after ≡ told) ⊎ (told_after ≡ bound told c.output text)
-      → Finishes Fault (fault_text c.output) before after sink_faulted result → ConvertEnds told c vault_faulted sink_faulted before after told_after result

@@ -9,6 +9,7 @@ pub mod Arguments
 pub mod ArgumentsView
 pub mod ConvertWords
 pub mod ConvertView
+pub mod Modes
 pub mod Command
 pub mod CommandView
 pub mod FileStops
@@ -24,6 +25,12 @@ pub mod Run
 pub mod Stops
 pub mod Outcome
 pub mod Converting
+pub mod Putting
+pub mod Concluding
+pub mod ExecutionAnswer
+pub mod ReadModels
+pub mod LastSteps
+pub mod Enforced
 pub mod ReadingFiles
 pub mod Target
 pub mod CommandEnds
@@ -39,3 +46,4 @@ pub mod CheckedModels
 pub mod NumberedInputs
 pub mod FoundFiles
 pub mod NamedFiles
+pub mod Mended

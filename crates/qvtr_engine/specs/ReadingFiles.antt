@@ -17,7 +17,7 @@ abbrev pub IsMisread : Stop → MetaDesc → List ℕ → FileError → Type 0
 IsMisread (stop.Fault at) meta path error = ⊥
 IsMisread (stop.TooLong at) meta path error = ⊥
 IsMisread (stop.Faulty limit line) meta path error = IsLineOf limit line meta path error
-IsMisread (stop.Chained text) meta path error = ⊥
+IsMisread (stop.Refused cause text) meta path error = ⊥
 IsMisread stop.NoMemory meta path error = Unit {0}
 
 -- memory could not be had: nothing is told of the file
@@ -39,5 +39,5 @@ abbrev pub IsUnread : Stop → MetaDesc → List ℕ → (FileError → Type 0) 
 IsUnread (stop.Fault at) meta path IsError = ⊥
 IsUnread (stop.TooLong at) meta path IsError = ⊥
 IsUnread (stop.Faulty limit line) meta path IsError = (error : FileError) × IsTold error × IsError error × IsLineOf limit line meta path error
-IsUnread (stop.Chained text) meta path IsError = ⊥
+IsUnread (stop.Refused cause text) meta path IsError = ⊥
 IsUnread stop.NoMemory meta path IsError = Unit {0}

@@ -2,11 +2,17 @@
 use Rattle.std.specs.Prelude.{ℕ, Bool, List, [], ◌∷◌, codes, if◌then◌else◌}
 use Rattle.std.specs.List.{concat}
 use Rattle.qvtr_engine.specs.declared.status.Status.{Status}
-use Rattle.qvtr_engine.specs.declared.status.Status.TheVariants.{Done, No, Usage, Fault, Refused, Chain, Limit}
+use Rattle.qvtr_engine.specs.declared.status.Status.TheVariants as status
+use Rattle.qvtr_engine.specs.declared.status.Status.TheVariants.{Done, No, Usage, Fault, Refused, Limit}
+use Rattle.repair_semantics.specs.declared.report.Report.{Report}
+use Rattle.enforce_steps.specs.declared.cause.Cause.{Cause}
+use Rattle.enforce_steps.specs.declared.cause.Cause.TheVariants as causes
+use Rattle.enforce_steps.specs.StepTexts.{report_text}
 
 -- The words are no command; the file at a path couldn't be read; a fault of a file is told by this line, for a limit that
--- is passed or not; the file at a path is too long; the relations hold; they fail, as this text tells; a chain of calls is refused, which this
--- text tells; the file at a path is put with these bytes.
+-- is passed or not; the file at a path is too long; the relations hold; they fail, as this text tells; the execution is refused for a cause, of
+-- which this text tells; the target stays as it is; the target's file, at a path, is put with these bytes, of which this is the report; this text is
+-- the trace; the file at a path is put with these bytes.
 pub data Reply : Type 0 where
   misused : Reply
   unread : List ℕ → Reply
@@ -14,12 +20,24 @@ pub data Reply : Type 0 where
   too_long : List ℕ → Reply
   holds : Reply
   fails : List ℕ → Reply
-  chained : List ℕ → Reply
+  refused_for : Cause → List ℕ → Reply
+  kept : Reply
+  mended : List ℕ → List ℕ → Report → Reply
+  traced : List ℕ → Reply
   converted : List ℕ → List ℕ → Reply
 
 -- the status of a fault of a file
 abbrev pub status_of_fault : Bool → Status
 status_of_fault is_limit = if is_limit then Limit else Refused
+
+-- that of a cause
+abbrev pub status_of_cause : Cause → Status
+status_of_cause causes.NotEnforceable = status.NotEnforceable
+status_of_cause causes.Chain = status.Chain
+status_of_cause causes.Unmet = status.Unmet
+status_of_cause causes.Conflict = status.Conflict
+status_of_cause causes.Invalid = status.Invalid
+status_of_cause causes.Limit = status.Limit
 
 abbrev pub status_of : Reply → Status
 status_of misused = Usage
@@ -28,7 +46,10 @@ status_of (faulty is_limit line) = status_of_fault is_limit
 status_of (too_long path) = Limit
 status_of holds = Done
 status_of (fails text) = No
-status_of (chained text) = Chain
+status_of (refused_for cause text) = status_of_cause cause
+status_of kept = Done
+status_of (mended path bytes report) = Done
+status_of (traced text) = Done
 status_of (converted path bytes) = Done
 
 abbrev pub usage_text : List ℕ
@@ -43,6 +64,9 @@ too_long_text path = concat (codes "limit bytes " ∷ path ∷ codes "\n" ∷ []
 abbrev pub done_text : List ℕ
 done_text = codes "done\n"
 
+abbrev pub unchanged_text : List ℕ
+unchanged_text = codes "unchanged\n"
+
 abbrev pub yes_text : List ℕ
 yes_text = codes "yes\n"
 
@@ -53,7 +77,10 @@ text_of (faulty is_limit line) = line
 text_of (too_long path) = too_long_text path
 text_of holds = yes_text
 text_of (fails text) = text
-text_of (chained text) = text
+text_of (refused_for cause text) = text
+text_of kept = unchanged_text
+text_of (mended path bytes report) = report_text report
+text_of (traced text) = text
 text_of (converted path bytes) = done_text
 
 abbrev pub no_memory_text : List ℕ

@@ -1,6 +1,6 @@
 -- The words of a command over a script and models: its name, SCRIPT, TARGET, and `NAME=PATH` for one name or more. The first step: words of
 -- another form are no command.
-use Rattle.std.specs.Prelude.{◌≡◌, ◌≢◌, ℕ, Bool, true, ◌&&◌, ◌==◌, not, nat_lt, List, [], ◌∷◌, length, map, drop, codes, Option, None, if◌then◌else◌}
+use Rattle.std.specs.Prelude.{◌≡◌, ◌≢◌, ℕ, Bool, true, ◌&&◌, ◌==◌, not, nat_lt, List, [], ◌∷◌, length, map, drop, Option, None, if◌then◌else◌}
 use Rattle.std.specs.List.{list_all}
 use Rattle.mof_metamodel.specs.Metamodels.{same_name}
 use Rattle.qvtr_engine.specs.Arguments.{AreArguments, arguments_of}
@@ -26,13 +26,6 @@ pub record IsRequest (command : List ℕ) (words : List (List ℕ)) (w : CheckWo
   pub names : are_distinct (file_names w) ≡ true
   pub filled : list_all is_filled (check_paths w) ≡ true
   pub apart : are_all_apart (check_paths w) ≡ true
-
--- the words of `check`
-abbrev pub check_name : List ℕ
-check_name = codes "check"
-
-abbrev pub IsCheck : List (List ℕ) → CheckWords → Type 0
-IsCheck words w = IsRequest check_name words w
 
 -- They are read from the front.
 

@@ -16,6 +16,10 @@ pub record HasShortScript (files : Files) (path bytes : List ℕ) : Type 0 where
   pub file : HasFile files path bytes
   pub short : length bytes ≤ MAX_SCRIPT
 
+-- a script has a text
+abbrev pub IsSpelled : Script → Type 0
+IsSpelled script = (bytes : List ℕ) × SpellsScript bytes script
+
 -- it is this script
 abbrev pub IsScriptAt : Files → List ℕ → Script → Type 0
 IsScriptAt files path script = (bytes : List ℕ) × HasShortScript files path bytes × SpellsScript bytes script

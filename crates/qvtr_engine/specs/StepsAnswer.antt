@@ -73,3 +73,10 @@ pub data AreAlike (AreAlikeLast : Question → Reply → Reply → Type 0) (file
   faults : (i : Inputs files w) → (reply other : Reply) → IsRefused files w i reply → IsRefused files w i other → AreAlike AreAlikeLast files w reply other
   lasts : (i : Inputs files w) → (program : Program) → ResolvesTo files w i program
       → (reply other : Reply) → AreAlikeLast (question_of files w i program) reply other → AreAlike AreAlikeLast files w reply other
+
+-- No step up to the sixth refuses the files, and this is a reply of the last one.
+pub record HasPassed (Last : Question → Reply → Type 0) (files : Files) (w : CheckWords) (reply : Reply) : Type 0 where
+  pub inputs : Inputs files w
+  pub program : Program
+  pub resolved : ResolvesTo files w inputs program
+  pub last : Last (question_of files w inputs program) reply

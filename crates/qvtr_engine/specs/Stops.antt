@@ -1,17 +1,10 @@
--- What a check comes to, and what stops it, against the reply that is expected.
+-- What stops the work on a command, against the reply that is expected.
 use Rattle.std.specs.Prelude.{◌≡◌, ℕ, true, List, ◌⊎◌, Option, IfSome, IsSomeAnd}
-use Rattle.qvtr_engine.specs.declared.outcome.Verdict.{Verdict}
-use Rattle.qvtr_engine.specs.declared.outcome.Verdict.TheVariants as verdict
 use Rattle.qvtr_engine.specs.declared.outcome.Stop.{Stop}
 use Rattle.qvtr_engine.specs.declared.outcome.Stop.TheVariants as stop
 use Rattle.qvtr_engine.specs.Names.{is_among}
-use Rattle.qvtr_engine.specs.Reply.{Reply, unread, faulty, too_long, holds, fails, chained}
+use Rattle.qvtr_engine.specs.Reply.{Reply, unread, faulty, too_long, refused_for}
 use Rattle.vault_io.specs.Files.{Files}
-
--- the reply that a verdict is
-abbrev pub reply_of_verdict : Verdict → Reply
-reply_of_verdict verdict.Yes = holds
-reply_of_verdict (verdict.No text) = fails text
 
 -- What stopped the work is a reply, where the files are told; or the vault faulted at one of the paths; or memory could not
 -- be had.
@@ -20,7 +13,7 @@ StoppedBy (stop.Fault path) told IsReply faulted paths =
     IsSomeAnd told (λ files. IsReply files (unread path.now)) ⊎ (faulted × (is_among paths path.now ≡ true))
 StoppedBy (stop.TooLong path) told IsReply faulted paths = IfSome told (λ files. IsReply files (too_long path.now))
 StoppedBy (stop.Faulty is_limit line) told IsReply faulted paths = IfSome told (λ files. IsReply files (faulty is_limit line))
-StoppedBy (stop.Chained text) told IsReply faulted paths = IfSome told (λ files. IsReply files (chained text))
+StoppedBy (stop.Refused cause text) told IsReply faulted paths = IfSome told (λ files. IsReply files (refused_for cause text))
 StoppedBy stop.NoMemory told IsReply faulted paths = Unit {0}
 
 -- What stopped the work is no fault of the outside, and such a reply; or memory could not be had.
@@ -28,5 +21,5 @@ abbrev pub OnStop : Stop → (Reply → Type 0) → Type 0
 OnStop (stop.Fault path) IsReply = ⊥
 OnStop (stop.TooLong path) IsReply = ⊥
 OnStop (stop.Faulty is_limit line) IsReply = IsReply (faulty is_limit line)
-OnStop (stop.Chained text) IsReply = IsReply (chained text)
+OnStop (stop.Refused cause text) IsReply = IsReply (refused_for cause text)
 OnStop stop.NoMemory IsReply = Unit {0}

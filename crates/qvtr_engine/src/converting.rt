@@ -1,17 +1,15 @@
 //! The conversion of a model to a file of another form.
-ghost use Rattle.std.specs.Prelude.{◌≡◌, ◌≤◌, ◌∷◌, [], ℕ, IfOk, IfErr, IfSome};
+ghost use Rattle.std.specs.Prelude.{◌≡◌, ◌≤◌, ◌∷◌, [], IfOk, IfErr, IfSome};
 ghost use Rattle.vault_io.specs.Counts.{Rose};
-ghost use Rattle.object_tables.specs.Containment.{IsDepth};
-ghost use Rattle.object_tables.specs.Models.{IsLive};
-ghost use Rattle.object_tables.specs.Validity.{Valid};
-ghost use Rattle.object_tables.specs.declared.limit.TheConstants.{MAX_DEPTH};
 ghost use Rattle.xmi_profile.specs.declared.fault.Externs.TheVariants as externs;
 ghost use Rattle.model_files.specs.Files.{IsFileError};
-ghost use Rattle.qvtr_engine.specs.ConvertAnswer.{ConvertAnswer, text_in};
+ghost use Rattle.qvtr_engine.specs.ConvertAnswer.{ConvertAnswer};
 ghost use Rattle.qvtr_engine.specs.ConvertView.{convert_view};
 ghost use Rattle.qvtr_engine.specs.ConvertWords.{convert_paths};
 ghost use Rattle.qvtr_engine.specs.FileStops.{Stops};
-ghost use Rattle.qvtr_engine.specs.Converting.{ConvertEnds, IsDuePut, IsShort, IsTextAt, IsTooLong, IsWritten, PutEnds};
+ghost use Rattle.qvtr_engine.specs.Command.{converts};
+ghost use Rattle.qvtr_engine.specs.CommandEnds.{CommandEnds};
+ghost use Rattle.qvtr_engine.specs.Converting.{IsDuePut, IsShort, IsTextAt, IsTooLong, IsWritten};
 ghost use Rattle.qvtr_engine.specs.ReadingFiles.{IsUnread};
 ghost use Rattle.qvtr_engine.specs.Reply as spec;
 ghost use Rattle.qvtr_engine.specs.Stops.{StoppedBy};
@@ -19,34 +17,22 @@ ghost use Rattle.qvtr_engine.specs.Stops.{StoppedBy};
 use crate::convert_words::ConvertRequest;
 use crate::limits::MAX_FILE;
 use crate::outcome::Stop;
+use crate::putting::put;
 use crate::reading_files::{load_file, metamodel_at, model_in};
 use crate::rendering::{DONE, fault_text};
-use crate::reporting::{finish, report_stop};
+use crate::reporting::report_stop;
 use crate::status::Status;
-use model_files::{Form, write_json};
+use enforce_steps::model_text;
+use model_files::Form;
 use mof_metamodel::{MetaModel, NoMemory, Seq};
-use object_tables::Model;
 use std::alloc::Global;
-use vault_io::{Failed, Sink, Vault};
-use xmi_profile::write_model;
+use vault_io::{Sink, Vault};
 
 /// What a conversion puts, and what is printed where the put fails: both are made before it, so that it needs no memory.
 #[derive(Drop)]
 pub(crate) struct Conversion {
     pub text: Seq<u8>,
     pub failure: Seq<u8>,
-}
-
-/// The bytes of a model as a file of this form.
-fn written(alloc: Global, model: &Model<'_>, form: Form) -> Result<Seq<u8>, NoMemory>
-    requires valid { Valid model.now }
-    requires depth { (o depth : ℕ) → IsLive model.now o → IsDepth model.now o depth → depth ≤ MAX_DEPTH }
-    ensures { IfOk result (λ text. text ≡ text_in form model.now) }
-{
-    match form {
-        Form::Xmi => write_model(alloc, model),
-        Form::Json => write_json(alloc, model),
-    }
 }
 
 /// The text in this form of the model that the bytes of a file are.
@@ -61,7 +47,7 @@ fn text_of<'w>(
     ensures err { IfErr result (λ stop. IsUnread stop meta.now path.now (IsFileError meta.now externs.None bytes.now)) }
 {
     let read = model_in(alloc, meta, path, bytes)?;
-    match written(alloc, &read.model, form) {
+    match model_text(alloc, &read.model, form) {
         Ok(text) => Ok(text),
         Err(NoMemory) => Err(Stop::NoMemory),
     }
@@ -119,19 +105,6 @@ fn prepare<'w, F: Vault>(
     conversion_of(alloc, request.output, text)
 }
 
-/// Puts the text, and prints that it is done or that the put failed.
-fn put<F: Vault, K: Sink>(vault: &mut F, out: &mut K, path: &str, conversion: &Conversion) -> Status
-    ensures ends { PutEnds (F.files vault.old) path.now conversion.now (Rose (F.faults vault.old) (F.faults vault.new))
-        (Rose (K.faults out.old) (K.faults out.new)) (K.told out.old) (K.told out.new) (F.files vault.new) result }
-    ensures vault_faults { F.faults vault.old ≤ F.faults vault.new }
-    ensures sink_faults { K.faults out.old ≤ K.faults out.new }
-{
-    match vault.put(path, conversion.text.as_slice()) {
-        Ok(()) => finish(out, Status::Done, DONE),
-        Err(Failed) => finish(out, Status::Fault, conversion.failure.as_slice()),
-    }
-}
-
 /// Converts the model that the words name, and prints what came of it.
 pub(crate) fn convert<F: Vault, K: Sink>(
     alloc: Global,
@@ -139,13 +112,20 @@ pub(crate) fn convert<F: Vault, K: Sink>(
     out: &mut K,
     request: &ConvertRequest<'_>,
 ) -> Status
-    ensures ends { ConvertEnds (F.files vault.old) (convert_view request.now) (Rose (F.faults vault.old) (F.faults vault.new))
+    ensures ends { CommandEnds (F.files vault.old) (converts (convert_view request.now)) (Rose (F.faults vault.old) (F.faults vault.new))
         (Rose (K.faults out.old) (K.faults out.new)) (K.told out.old) (K.told out.new) (F.files vault.new) result }
     ensures vault_faults { F.faults vault.old ≤ F.faults vault.new }
     ensures sink_faults { K.faults out.old ≤ K.faults out.new }
 {
     match prepare(alloc, vault, request) {
-        Ok(conversion) => put(vault, out, request.output, &conversion),
+        Ok(conversion) => put(
+            vault,
+            out,
+            request.output,
+            conversion.text.as_slice(),
+            DONE,
+            conversion.failure.as_slice(),
+        ),
         Err(stop) => report_stop(alloc, out, &stop),
     }
 }

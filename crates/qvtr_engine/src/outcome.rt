@@ -1,13 +1,25 @@
+use enforce_steps::Cause;
 use mof_metamodel::{NoMemory, Seq};
+use repair_semantics::Report;
 use std::alloc::AllocFailed;
 
-/// What a check comes to.
+/// What an execution comes to.
 #[derive(Drop)]
-pub(crate) enum Verdict {
+pub(crate) enum Outcome<'w> {
     /// The relations hold.
     Yes,
-    /// It doesn't, and this is what is printed of it.
+    /// They don't, and this is what is printed of it.
     No(Seq<u8>),
+    /// The target stays as it is.
+    Kept,
+    /// The file at the target's path is to have these bytes, of which this is the report.
+    Mended {
+        path: &'w str,
+        bytes: Seq<u8>,
+        report: Report,
+    },
+    /// The trace of what would be enforced.
+    Traced(Seq<u8>),
 }
 
 /// What stops the work on a command.
@@ -19,8 +31,8 @@ pub(crate) enum Stop<'w> {
     TooLong(&'w str),
     /// A file has a fault, for a limit that is passed or not. The line tells it.
     Faulty { is_limit: bool, line: Seq<u8> },
-    /// A chain of calls is refused. The text tells its calls.
-    Chained(Seq<u8>),
+    /// The execution is refused for a cause. The text tells of what.
+    Refused { cause: Cause, text: Seq<u8> },
     /// Memory could not be had.
     NoMemory,
 }

@@ -9,6 +9,7 @@ ghost use Rattle.model_files.specs.Files.{FileSpells, IsFileError, MetaSpells, I
 ghost use Rattle.qvtr_engine.specs.ConvertAnswer.{IsMetamodelAt, IsModelAt};
 ghost use Rattle.qvtr_engine.specs.FileStops.{HasShortFile, Unloaded, Stops};
 ghost use Rattle.qvtr_engine.specs.ReadingFiles.{IsMisread, IsUnread, is_starved, IsStopBy};
+ghost use Rattle.qvtr_engine.specs.ReadModels.{IsReadBy};
 ghost use Rattle.qvtr_engine.specs.Stops.{StoppedBy};
 ghost use Rattle.qvtr_engine.specs.Target.{form_at};
 
@@ -139,10 +140,15 @@ pub(crate) fn model_in<'w, 'm>(
 ) -> Result<Read<'m>, Stop<'w>>
     ensures ok { IfOk result (λ read. FileSpells meta.now externs.None bytes.now read.model) }
     ensures form { IfOk result (λ read. read.form ≡ form_of bytes.now) }
+    ensures read { IfOk result (λ read. IsReadBy meta.now read.model) }
     ensures err { IfErr result (λ stop. IsUnread stop meta.now path.now (IsFileError meta.now externs.None bytes.now)) }
 {
     match read_any(alloc, meta, bytes) {
-        Ok(read) => Ok(read),
+        Ok(read) => {
+            // What every model keeps is told by each of its calls.
+            let _ = read.model.end();
+            Ok(read)
+        }
         Err(error) => {
             let unread = model_unread(alloc, meta, path, &error);
             drop(error);
@@ -160,6 +166,7 @@ pub(crate) fn model_at<'w, 'm, F: Vault>(
 ) -> Result<Read<'m>, Stop<'w>>
     ensures ok { IfOk result (λ read. IfSome (F.files vault.old) (λ files. IsModelAt files path.now meta.now read.model)) }
     ensures form { IfOk result (λ read. IfSome (F.files vault.old) (λ files. read.form ≡ form_at files path.now)) }
+    ensures read { IfOk result (λ read. IsReadBy meta.now read.model) }
     ensures err { IfErr result (λ stop. StoppedBy stop (F.files vault.old) (λ files. Stops files path.now meta.now (IsFileError meta.now externs.None))
         (Rose (F.faults vault.old) (F.faults vault.new)) (path.now ∷ [])) }
     ensures files { F.files vault.new ≡ F.files vault.old }

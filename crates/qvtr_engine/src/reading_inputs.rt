@@ -17,6 +17,7 @@ ghost use Rattle.qvtr_engine.specs.CheckedModels as models;
 ghost use Rattle.qvtr_engine.specs.FirstStops.{FirstStop};
 ghost use Rattle.qvtr_engine.specs.FoundFiles.{items_of, names_of};
 ghost use Rattle.qvtr_engine.specs.NumberedInputs.{HasMetas};
+ghost use Rattle.qvtr_engine.specs.ReadModels.{AreRead};
 ghost use Rattle.qvtr_engine.specs.RequestView.{request_view};
 ghost use Rattle.qvtr_engine.specs.Stops.{StoppedBy};
 ghost use Rattle.qvtr_engine.specs.Target.{IsFormAmong, target_path};
@@ -178,6 +179,7 @@ fn models_at<'w, 'm, F: Vault>(
     ensures ok { IfOk result (λ read. IfSome (F.files vault.old) (λ told. AllZip (models.IsModel told script.now numbered.now) (map bound_view files.now) (items_of read.found.items))) }
     ensures names { IfOk result (λ read. names_of read.found.items ≡ map name_of (map bound_view files.now)) }
     ensures form { IfOk result (λ read. IfSome (F.files vault.old) (λ told. IsFormAmong told (map bound_view files.now) target.now read.form)) }
+    ensures read { IfOk result (λ read. AreRead script.now numbered.now read.found.items) }
     ensures err { IfErr result (λ stop. StoppedBy stop (F.files vault.old) (λ told. FirstStop (models.IsReadModel told script.now numbered.now) (models.ModelStops told script.now numbered.now) (map bound_view files.now))
         (Rose (F.faults vault.old) (F.faults vault.new)) (map (λ b. b.path) (map bound_view files.now))) }
     ensures files { F.files vault.new ≡ F.files vault.old }
@@ -212,6 +214,7 @@ pub(crate) fn read_models<'w, 'm, F: Vault>(
     ensures ok { IfOk result (λ read. IfSome (F.files vault.old) (λ told. models.AreModels told (request_view request.now) script.now numbered.now (items_of read.found.items))) }
     ensures names { IfOk result (λ read. names_of read.found.items ≡ map name_of (models.model_files (request_view request.now) script.now)) }
     ensures form { IfOk result (λ read. IfSome (F.files vault.old) (λ told. IsFormAmong told (models.model_files (request_view request.now) script.now) (target_path (request_view request.now)) read.form)) }
+    ensures read { IfOk result (λ read. AreRead script.now numbered.now read.found.items) }
     ensures err { IfErr result (λ stop. StoppedBy stop (F.files vault.old) (λ told. models.ModelsStop told (request_view request.now) script.now numbered.now)
         (Rose (F.faults vault.old) (F.faults vault.new)) (check_paths (request_view request.now))) }
     ensures files { F.files vault.new ≡ F.files vault.old }

@@ -1,11 +1,11 @@
 ghost use Rattle.std.specs.Prelude.{◌≡◌, IfOk, IsSomeAnd};
 ghost use Rattle.qvtr_engine.specs.Reply as spec;
-ghost use Rattle.qvtr_engine.specs.Stops.{reply_of_verdict};
-ghost use Rattle.qvtr_engine.specs.Outcome.{reply_of_stop, reply_of_outcome};
+ghost use Rattle.qvtr_engine.specs.Outcome.{reply_of, reply_of_stop};
 
-use crate::outcome::{Stop, Verdict};
+use crate::outcome::{Outcome, Stop};
 use crate::status::Status;
 use answer_texts::concatenate;
+use enforce_steps::{Cause, report_text};
 use mof_metamodel::{NoMemory, Seq};
 use std::alloc::Global;
 
@@ -39,20 +39,43 @@ fn too_long_text(alloc: Global, path: &str) -> Result<Seq<u8>, NoMemory>
     concatenate(alloc, &[b"limit bytes ", path.as_bytes(), b"\n"])
 }
 
-/// What is printed of a verdict.
-fn render_verdict(alloc: Global, verdict: &Verdict) -> Result<Page, NoMemory>
-    ensures status { IfOk result (λ page. page.status ≡ spec.status_of (reply_of_verdict verdict.now)) }
-    ensures text { IfOk result (λ page. page.text ≡ spec.text_of (reply_of_verdict verdict.now)) }
+/// A page with a copy of this text.
+fn page_of(alloc: Global, status: Status, text: &[u8]) -> Result<Page, NoMemory>
+    ensures { IfOk result (λ page. (page.status ≡ status) × (page.text ≡ text.now)) }
 {
-    match verdict {
-        Verdict::Yes => Ok(Page {
+    Ok(Page {
+        status,
+        text: Seq::from_slice(alloc, text)?,
+    })
+}
+
+/// What is printed of an outcome, where it needs no put or after it.
+pub(crate) fn render_outcome(alloc: Global, outcome: &Outcome<'_>) -> Result<Page, NoMemory>
+    ensures { IfOk result (λ page. (page.status ≡ spec.status_of (reply_of outcome.now)) × (page.text ≡ spec.text_of (reply_of outcome.now))) }
+{
+    match outcome {
+        Outcome::Yes => page_of(alloc, Status::Done, b"yes\n"),
+        Outcome::No(text) => page_of(alloc, Status::No, text.as_slice()),
+        Outcome::Kept => page_of(alloc, Status::Done, b"unchanged\n"),
+        Outcome::Traced(text) => page_of(alloc, Status::Done, text.as_slice()),
+        Outcome::Mended { report, .. } => Ok(Page {
             status: Status::Done,
-            text: Seq::from_slice(alloc, b"yes\n")?,
+            text: report_text(alloc, report)?,
         }),
-        Verdict::No(text) => Ok(Page {
-            status: Status::No,
-            text: Seq::from_slice(alloc, text.as_slice())?,
-        }),
+    }
+}
+
+/// The status of a refusal for a cause.
+fn status_of_cause(cause: Cause) -> Status
+    ensures { result ≡ spec.status_of_cause cause }
+{
+    match cause {
+        Cause::NotEnforceable => Status::NotEnforceable,
+        Cause::Chain => Status::Chain,
+        Cause::Unmet => Status::Unmet,
+        Cause::Conflict => Status::Conflict,
+        Cause::Invalid => Status::Invalid,
+        Cause::Limit => Status::Limit,
     }
 }
 
@@ -81,25 +104,10 @@ pub(crate) fn render_stop(alloc: Global, stop: &Stop<'_>) -> Result<Page, NoMemo
             status: Status::Limit,
             text: too_long_text(alloc, path)?,
         }),
-        Stop::Faulty { is_limit, line } => Ok(Page {
-            status: status_of_fault(*is_limit),
-            text: Seq::from_slice(alloc, line.as_slice())?,
-        }),
-        Stop::Chained(text) => Ok(Page {
-            status: Status::Chain,
-            text: Seq::from_slice(alloc, text.as_slice())?,
-        }),
+        Stop::Faulty { is_limit, line } => {
+            page_of(alloc, status_of_fault(*is_limit), line.as_slice())
+        }
+        Stop::Refused { cause, text } => page_of(alloc, status_of_cause(*cause), text.as_slice()),
         Stop::NoMemory => Err(NoMemory),
-    }
-}
-
-/// What is printed of an outcome. Where an outcome is want of memory, so is the answer.
-pub(crate) fn render(alloc: Global, outcome: &Result<Verdict, Stop<'_>>) -> Result<Page, NoMemory>
-    ensures { IfOk result (λ page. IsSomeAnd (reply_of_outcome outcome.now)
-        (λ reply. (page.status ≡ spec.status_of reply) × (page.text ≡ spec.text_of reply))) }
-{
-    match outcome {
-        Ok(verdict) => render_verdict(alloc, verdict),
-        Err(stop) => render_stop(alloc, stop),
     }
 }

@@ -1,10 +1,10 @@
 //! What a run prints, and the status with which it ends.
-ghost use Rattle.std.specs.Prelude.{◌≡◌, ◌≤◌};
+ghost use Rattle.std.specs.Prelude.{◌≡◌, ◌≤◌, Some};
 ghost use Rattle.vault_io.specs.Counts.{Rose};
-ghost use Rattle.qvtr_engine.specs.Outcome.{Finishes, Reports, reply_of_outcome, reply_of_stop};
+ghost use Rattle.qvtr_engine.specs.Outcome.{Finishes, Reports, reply_of, reply_of_stop};
 
-use crate::outcome::{Stop, Verdict};
-use crate::rendering::{NO_MEMORY, render, render_stop};
+use crate::outcome::{Outcome, Stop};
+use crate::rendering::{NO_MEMORY, render_outcome, render_stop};
 use crate::status::Status;
 use mof_metamodel::NoMemory;
 use std::alloc::Global;
@@ -21,16 +21,12 @@ pub(crate) fn finish<K: Sink>(out: &mut K, status: Status, text: &[u8]) -> Statu
     }
 }
 
-/// Prints what a check came to.
-pub(crate) fn report<K: Sink>(
-    alloc: Global,
-    out: &mut K,
-    outcome: &Result<Verdict, Stop<'_>>,
-) -> Status
-    ensures ends { Reports (reply_of_outcome outcome.now) (K.told out.old) (K.told out.new) (Rose (K.faults out.old) (K.faults out.new)) result }
+/// Prints what an execution came to by which no file is put.
+pub(crate) fn report_outcome<K: Sink>(alloc: Global, out: &mut K, outcome: &Outcome<'_>) -> Status
+    ensures ends { Reports (Some (reply_of outcome.now)) (K.told out.old) (K.told out.new) (Rose (K.faults out.old) (K.faults out.new)) result }
     ensures faults { K.faults out.old ≤ K.faults out.new }
 {
-    match render(alloc, outcome) {
+    match render_outcome(alloc, outcome) {
         Ok(page) => finish(out, page.status, page.text.as_slice()),
         Err(NoMemory) => finish(out, Status::NoMemory, NO_MEMORY),
     }

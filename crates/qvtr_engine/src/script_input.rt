@@ -5,7 +5,7 @@ ghost use Rattle.script_files.specs.ScriptErrors as errors;
 ghost use Rattle.script_files.specs.ScriptTexts.{script_text};
 ghost use Rattle.script_files.specs.Scripts.{SpellsScript, IsTold};
 ghost use Rattle.qvtr_engine.specs.Reply.{faulty};
-ghost use Rattle.qvtr_engine.specs.ScriptFile.{HasShortScript, IsMisspelled, IsScriptAt, ScriptStops};
+ghost use Rattle.qvtr_engine.specs.ScriptFile.{HasShortScript, IsMisspelled, IsScriptAt, IsSpelled, ScriptStops};
 ghost use Rattle.qvtr_engine.specs.Stops.{OnStop, StoppedBy};
 
 use crate::outcome::Stop;
@@ -75,6 +75,7 @@ pub(crate) fn script_at<'w, F: Vault>(
     path: &'w str,
 ) -> Result<Script, Stop<'w>>
     ensures ok { IfOk result (λ script. IfSome (F.files vault.old) (λ files. IsScriptAt files path.now script)) }
+    ensures spelled { IfOk result IsSpelled }
     ensures err { IfErr result (λ stop. StoppedBy stop (F.files vault.old) (λ files. ScriptStops files path.now)
         (Rose (F.faults vault.old) (F.faults vault.new)) (path.now ∷ [])) }
     ensures files { F.files vault.new ≡ F.files vault.old }

@@ -15,6 +15,9 @@ use Rattle.qvtr_engine.specs.FoundFiles.{items_of, names_of}
 use Rattle.qvtr_engine.specs.Stops.{StoppedBy}
 use Rattle.qvtr_engine.proofs.InputFileLaws.{known_at, number_is, number_within, model_by, stopped_by}
 use Rattle.qvtr_engine.proofs.ReadingInputLaws.{names_more, items_more, first_stopped}
+use Rattle.mof_metamodel.specs.declared.desc.MetaDesc.{MetaDesc}
+use Rattle.qvtr_engine.specs.ReadModels.{IsReadBy}
+use Rattle.qvtr_engine.proofs.ReadModelLaws.{read_more}
 use Rattle.qvtr_engine.proofs.TargetLaws.{form_more, no_form}
 use Rattle.qvtr_engine.specs.Target.{form_at}
 use Rattle.qvtr_engine.proofs.reading_inputs.models_at.Goals as goal
@@ -69,4 +72,6 @@ loop-i-preserved g c =
           (model_by told script numbered b c.get-meta.result.now c.in_ok-read.read.model meta read));
       form = form_more told bs c.loop-i.i b c.args.target.now c.loop-i.form c.in_ok-read.read.form c.form_after-form.result c.file_at-file.ensures c.form_after-form.ensures
           (subst (λ t. IfSome t (λ files. c.in_ok-read.read.form ≡ form_at files b.path)) c.loop-i.invariant.same_files c.in_ok-read.ensures.form) c.loop-i.invariant.form;
+      read = read_more script numbered found f c.push.new.self.items more c.loop-i.invariant.read
+          (subst (λ (d : MetaDesc). IsReadBy d c.in_ok-read.read.model) meta c.in_ok-read.ensures.read);
     }

@@ -5,6 +5,7 @@ use Rattle.qvtr_engine.specs.CheckView.{bound_view}
 use Rattle.qvtr_engine.specs.CheckedNames.{name_of}
 use Rattle.qvtr_engine.specs.CheckedModels.{IsModel}
 use Rattle.qvtr_engine.specs.FoundFiles.{items_of, names_of}
+use Rattle.qvtr_engine.specs.ReadModels.{AreRead}
 use Rattle.qvtr_engine.specs.Target.{IsFormAmong}
 use Rattle.qvtr_engine.proofs.reading_inputs.models_at.Given as goal
 
@@ -19,4 +20,5 @@ invariant-loop-i g l =
       names : names_of l.found.items ≡ map name_of (take l.i (map bound_view l.files));
       all : IfSome (told l.fn.vault) (λ files. AllZip (IsModel files l.script l.numbered) (take l.i (map bound_view l.files)) (items_of l.found.items));
       form : IfSome (told l.fn.vault) (λ files. IsFormAmong files (take l.i (map bound_view l.files)) l.target l.form);
+      read : AreRead l.script l.numbered l.found.items;
     }
