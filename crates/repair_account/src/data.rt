@@ -19,7 +19,8 @@ fn put_object(pen: &mut Pen, told: &Told<'_, '_>, model: u32, object: ObjId) {
     pen.put(told.identifier(model, object));
 }
 
-fn put_value(pen: &mut Pen, told: &Told<'_, '_>, meta: u32, value: &Value) {
+/// A value of a metamodel of this number.
+pub fn put_value(pen: &mut Pen, told: &Told<'_, '_>, meta: u32, value: &Value) {
     match value {
         Value::Str(text) => put_string(pen, text),
         Value::Int(number) => pen.put_string(format!(in told.alloc; "{number}")),

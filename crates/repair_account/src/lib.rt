@@ -3,16 +3,21 @@
 //! is slow, and for small models. Nothing of it is proved but that it is safe and ends.
 #![tactic(auto)]
 
+mod against;
 mod claims;
 mod contents;
 mod data;
 mod facts;
 mod images;
+mod models;
 mod objects;
-mod parts;
+mod outcome;
 mod repaired;
+mod slots;
 mod told;
 
 pub use data::put_datum;
-pub use repaired::put_repaired;
+pub use models::put_model;
+pub use outcome::{Outcome, put_breach, put_limit, put_report};
+pub use repaired::{account_repair, put_repaired};
 pub use told::Told;

@@ -1,17 +1,20 @@
-//! The repaired model as it is printed: what is reported, and a line for each object.
-use crate::contents::{Made, claims_by, contents, old_contents};
+//! What a repair makes of the target.
+use crate::against::{Against, first_against};
+use crate::contents::{Made, claims_by, old_contents};
 use crate::data::put_datum;
 use crate::facts::FactTable;
 use crate::images::images_of;
 use crate::objects::{numbers_of, rows_of};
-use crate::parts::{breach_at, is_on_cycle, props_of};
+use crate::outcome::{Outcome, put_breach, put_head, put_limit, put_name, put_report};
+use crate::slots::{Slot, Slots};
 use crate::told::Told;
 use case_texts::Pen;
 use demand_set::DemandSet;
-use mof_metamodel::{ClassId, MetaModel, NoMemory, PropId};
+use mof_metamodel::{MetaModel, NoMemory};
 use object_tables::Model;
 use ocl_eval::same_datum;
 use qvtr_semantics::Datum;
+use repair_semantics::Report;
 
 fn made_of(
     told: &Told<'_, '_>,
@@ -33,6 +36,8 @@ fn made_of(
     })
 }
 
+// ---- what is reported
+
 fn same_contents(ones: &[Datum], others: &[Datum]) -> bool {
     ones.len() == others.len() && ones.iter().zip(others).all(|(a, b)| same_datum(a, b))
 }
@@ -40,15 +45,13 @@ fn same_contents(ones: &[Datum], others: &[Datum]) -> bool {
 /// Whether a slot of an old object changes.
 fn is_updated(
     told: &Told<'_, '_>,
-    meta: &MetaModel,
     made: &Made,
     object: u32,
-    class: ClassId,
+    slots: &[Slot],
 ) -> Result<bool, NoMemory> {
-    for prop in props_of(meta, class) {
-        let old = old_contents(told, made, object, *prop)?;
-        let new = contents(told, made, object, *prop)?;
-        if !same_contents(old.as_slice(), new.as_slice()) {
+    for slot in slots {
+        let old = old_contents(told, made, object, slot.prop)?;
+        if !same_contents(old.as_slice(), slot.held.as_slice()) {
             return Ok(true);
         }
     }
@@ -64,14 +67,11 @@ fn is_deleted(made: &Made, object: u32) -> bool {
 }
 
 /// How many old objects change.
-fn updated_count(told: &Told<'_, '_>, meta: &MetaModel, made: &Made) -> Result<u32, NoMemory> {
+fn updated_count(told: &Told<'_, '_>, made: &Made, slots: &Slots) -> Result<u32, NoMemory> {
     let mut count = 0u32;
     for object in 0..made.end {
-        match made.class_of(object) {
-            Some(class) if is_updated(told, meta, made, object, class)? => {
-                count = count.saturating_add(1);
-            }
-            _ => {}
+        if is_updated(told, made, object, slots.of(object))? {
+            count = count.saturating_add(1);
         }
     }
     Ok(count)
@@ -88,57 +88,19 @@ fn deleted_count(made: &Made) -> u32 {
     count
 }
 
-/// How many objects are made, changed and deleted.
-fn put_report(
-    pen: &mut Pen,
-    told: &Told<'_, '_>,
-    meta: &MetaModel,
-    made: &Made,
-) -> Result<(), NoMemory> {
+fn report_of(told: &Told<'_, '_>, made: &Made, slots: &Slots) -> Result<Report, NoMemory> {
     let created = made.count.saturating_sub(made.end);
-    let updated = updated_count(told, meta, made)?;
+    let updated = updated_count(told, made, slots)?;
     let deleted = deleted_count(made);
-    pen.put_string(format!(in told.alloc;
-        " created {created} updated {updated} deleted {deleted}"
-    ));
-    Ok(())
+    Ok(Report {
+        created,
+        updated,
+        deleted,
+        unchanged: created == 0 && updated == 0 && deleted == 0,
+    })
 }
 
-/// The first breach, if there is one: a bound, or a cycle of containers.
-fn put_breach(
-    pen: &mut Pen,
-    told: &Told<'_, '_>,
-    meta: &MetaModel,
-    made: &Made,
-) -> Result<bool, NoMemory> {
-    for object in 0..made.count {
-        if let Some(class) = made.class_of(object) {
-            if let Some((kind, prop)) = breach_at(told, meta, made, object, class)? {
-                let id = made.id_of(object);
-                let name = told.any_prop_name(prop);
-                pen.put_string(format!(in told.alloc; " invalid {kind} {id} {name}"));
-                return Ok(true);
-            }
-        }
-    }
-    put_cycle(pen, told, meta, made)
-}
-
-fn put_cycle(
-    pen: &mut Pen,
-    told: &Told<'_, '_>,
-    meta: &MetaModel,
-    made: &Made,
-) -> Result<bool, NoMemory> {
-    for object in 0..made.count {
-        if made.class_of(object).is_some() && is_on_cycle(told, meta, made, object)? {
-            let id = made.id_of(object);
-            pen.put_string(format!(in told.alloc; " invalid ContainmentCycle {id}"));
-            return Ok(true);
-        }
-    }
-    Ok(false)
-}
+// ---- as it is printed
 
 fn put_element(pen: &mut Pen, told: &Told<'_, '_>, made: &Made, held: &Datum) {
     pen.put(" ");
@@ -150,81 +112,94 @@ fn put_element(pen: &mut Pen, told: &Told<'_, '_>, made: &Made, held: &Datum) {
     }
 }
 
-fn put_slot(
-    pen: &mut Pen,
-    told: &Told<'_, '_>,
-    made: &Made,
-    object: u32,
-    prop: PropId,
-) -> Result<(), NoMemory> {
-    let held = contents(told, made, object, prop)?;
-    if !held.is_empty() {
-        pen.put(", ");
-        pen.put(told.any_prop_name(prop));
-    }
-    for datum in &held {
+fn put_slot(pen: &mut Pen, told: &Told<'_, '_>, made: &Made, slot: &Slot) {
+    for (i, datum) in slot.held.as_slice().iter().enumerate() {
+        if i == 0 {
+            put_name(pen, told.any_prop_name(slot.prop));
+        }
         put_element(pen, told, made, datum);
     }
-    Ok(())
 }
 
-fn put_object(
-    pen: &mut Pen,
-    told: &Told<'_, '_>,
-    meta: &MetaModel,
-    made: &Made,
-    object: u32,
-    class: ClassId,
-) -> Result<(), NoMemory> {
-    pen.put(told.class_name(class));
-    for prop in props_of(meta, class) {
-        put_slot(pen, told, made, object, *prop)?;
-    }
-    Ok(())
-}
-
-fn put_objects(
-    pen: &mut Pen,
-    told: &Told<'_, '_>,
-    meta: &MetaModel,
-    made: &Made,
-) -> Result<(), NoMemory> {
-    for object in 0..made.count {
-        if let Some(class) = made.class_of(object) {
-            pen.put("\n  ");
-            pen.put(made.id_of(object));
-            pen.put(" ");
-            put_object(pen, told, meta, made, object, class)?;
+fn put_object(pen: &mut Pen, told: &Told<'_, '_>, made: &Made, slots: &Slots, object: u32) {
+    if let Some(class) = made.class_of(object) {
+        put_head(pen, made.id_of(object), told.class_name(class));
+        for slot in slots.of(object) {
+            put_slot(pen, told, made, slot);
         }
     }
-    Ok(())
 }
 
-fn put_made(
+fn put_objects(pen: &mut Pen, told: &Told<'_, '_>, made: &Made, slots: &Slots) {
+    for object in 0..made.count {
+        put_object(pen, told, made, slots, object);
+    }
+}
+
+fn put_against(pen: &mut Pen, told: &Told<'_, '_>, made: &Made, against: Against) {
+    match against {
+        Against::Limit(kind) => put_limit(pen, kind),
+        Against::Invalid(kind, object, prop) => {
+            put_breach(pen, told, kind, made.id_of(object), prop);
+        }
+    }
+}
+
+// ---- how it ends
+
+fn put_end(
     pen: &mut Pen,
     told: &Told<'_, '_>,
-    meta: &MetaModel,
     made: &Made,
-) -> Result<(), NoMemory> {
-    if put_breach(pen, told, meta, made)? {
-        return Ok(());
+    slots: &Slots,
+) -> Result<Option<Report>, NoMemory> {
+    match first_against(made, slots) {
+        Some(against) => {
+            put_against(pen, told, made, against);
+            Ok(None)
+        }
+        None => {
+            put_objects(pen, told, made, slots);
+            Ok(Some(report_of(told, made, slots)?))
+        }
     }
-    put_report(pen, told, meta, made)?;
-    put_objects(pen, told, meta, made)
 }
 
-/// What a repair makes of the target: the first breach, or what is reported, and each object with what its slots hold.
+fn outcome_of(told: &Told<'_, '_>, meta: &MetaModel, made: &Made) -> Result<Outcome, NoMemory> {
+    let slots = Slots::new(told, meta, made)?;
+    let mut pen = Pen::new(told.alloc)?;
+    let report = put_end(&mut pen, told, made, &slots)?;
+    let text = pen.written()?;
+    Ok(Outcome { report, text })
+}
+
+/// How a repair of the target ends, if there is a target.
+pub fn account_repair(
+    told: &Told<'_, '_>,
+    demands: &DemandSet,
+) -> Result<Option<Outcome>, NoMemory> {
+    let target = told.models.get(told.program.target as usize);
+    match (told.meta(told.target_meta()), target) {
+        (Some(meta), Some(target)) => {
+            let made = made_of(told, demands, meta, target)?;
+            let outcome = outcome_of(told, meta, &made)?;
+            Ok(Some(outcome))
+        }
+        _ => Ok(None),
+    }
+}
+
+/// What a repair makes of the target: what is reported, and each object with what its slots hold; or what stands against it.
 pub fn put_repaired(
     pen: &mut Pen,
     told: &Told<'_, '_>,
     demands: &DemandSet,
 ) -> Result<(), NoMemory> {
-    let target = told.models.get(told.program.target as usize);
-    match (told.meta(told.target_meta()), target) {
-        (Some(meta), Some(target)) => {
-            let made = made_of(told, demands, meta, target)?;
-            put_made(pen, told, meta, &made)
+    if let Some(outcome) = account_repair(told, demands)? {
+        if let Some(report) = outcome.report {
+            put_report(pen, told.alloc, report);
         }
-        _ => Ok(()),
+        pen.put(outcome.text.as_str());
     }
+    Ok(())
 }

@@ -1,45 +1,45 @@
 //! From the words of a case to what is demanded.
-ghost use Rattle.std.specs.Prelude.{◌≡◌, ◌<◌, ◌^◌, length, IsTrue, All};
+ghost use Rattle.std.specs.Prelude.{◌≡◌, ◌<◌, ◌^◌, length};
 ghost use Rattle.qv_syntax.specs.WellFormed.{IsWellFormed};
 ghost use Rattle.script_scopes.specs.Environments.{metamodel_names as metamodels};
 ghost use Rattle.enforcement_rules.specs.Rules.{IsEnforceable};
 ghost use Rattle.evaluation_laws.specs.Evaluable.{IsEvaluable};
 ghost use Rattle.entry_finding.specs.Premises.{CanBeEnforced};
-ghost use Rattle.repair_cases.specs.Small.{IsSmall};
 
+use crate::enforcing::Transformation;
 use crate::files::CaseFiles;
-use crate::inputs::{metas_of, models_of};
-use crate::outcomes::{Shown, put_outcome};
+use crate::inputs::{Origin, metas_of, models_of};
+use crate::outcomes::{Question, Shown, put_demanded, put_made};
+use crate::small::is_enforced_over;
+use crate::trials::put_trials;
 use case_texts::Pen;
-use demand_set::demands;
 use mof_metamodel::{NoMemory, Text, or_drop};
 use ocl_environments::{Metas, TypeError};
 use ocl_eval::Models;
 use program_texts::texts_are_storable;
-use qv_syntax::{Program, Rel, Script};
+use qv_syntax::{Program, Script};
 use qvtr_types::{RuleError, enforceable, resolve};
-use repair_account::Told;
 use script_files::{ScriptError, read_script};
 use script_scopes::metamodel_names;
 
-/// What a case asks: a script, a target, the files of names, and what is shown.
+/// What a case asks: of a script, a target and the files of names, a question.
 #[derive(Clone, Copy)]
 struct Asked<'a> {
     files: &'a CaseFiles,
     target: &'a str,
     pairs: &'a str,
-    shown: Shown,
+    question: Question,
 }
 
 /// The answer to a case.
-pub fn answer(files: &CaseFiles, words: &str, shown: Shown) -> Result<Text, NoMemory> {
+pub fn answer(files: &CaseFiles, words: &str, question: Question) -> Result<Text, NoMemory> {
     let (script, rest) = words.split_once(' ').unwrap_or((words, ""));
     let (target, pairs) = rest.split_once(' ').unwrap_or((rest, ""));
     let asked = Asked {
         files,
         target,
         pairs,
-        shown,
+        question,
     };
     let mut pen = Pen::new(files.alloc)?;
     or_drop!(put_script(&mut pen, &asked, script); pen);
@@ -120,7 +120,14 @@ fn put_program(
     requires queries { length program.now.queries < 2 ^ 32 }
 {
     match enforceable(asked.files.alloc, program, metas) {
-        Ok(()) => put_enforceable(pen, asked, metas, program),
+        Ok(()) => {
+            let of = Transformation {
+                alloc: asked.files.alloc,
+                metas,
+                program,
+            };
+            put_enforceable(pen, asked, &of)
+        }
         Err(RuleError::NoMemory) => Err(NoMemory),
         Err(RuleError::Broken(broken)) => {
             let rule = broken.rule;
@@ -130,39 +137,42 @@ fn put_program(
     }
 }
 
-/// Whether the relation has no more variables and conjuncts than numbers of 32 bits count.
-fn is_small_relation(rel: &Rel) -> bool
-    ensures { IsTrue result → IsSmall rel.now }
-{
-    (rel.vars.len() <= u32::MAX as usize) & (rel.wheres.len() < u32::MAX as usize)
-}
-
-/// Whether each relation has.
-fn is_small(rels: &[Rel]) -> bool
-    ensures { IsTrue result → All IsSmall rels.now }
-{
-    for rel in rels {
-        if !is_small_relation(rel) {
-            return false;
-        }
-    }
-    true
-}
-
+/// What is asked of a program that can be enforced: of random models, or of those of files.
 fn put_enforceable(
     pen: &mut Pen,
     asked: &Asked<'_>,
-    metas: &Metas,
-    program: &Program,
+    of: &Transformation<'_>,
 ) -> Result<(), NoMemory>
-    requires formed { IsWellFormed metas.now program.now }
-    requires relations { length program.now.rels < 2 ^ 32 }
-    requires enforceable { IsEnforceable metas.now program.now }
+    requires formed { IsWellFormed of.now.metas.now of.now.program.now }
+    requires relations { length of.now.program.now.rels < 2 ^ 32 }
+    requires enforceable { IsEnforceable of.now.metas.now of.now.program.now }
 {
-    match models_of(asked.files, asked.pairs, metas, program.models.as_slice())? {
-        Some(models) => {
-            texts_are_storable(program);
-            let put = put_over_models(pen, asked, metas, program, &models);
+    match asked.question {
+        Question::Files(shown) => put_of_files(pen, asked, of, shown),
+        Question::Trials { count, seed } => put_trials(pen, of, count, seed),
+    }
+}
+
+fn put_of_files(
+    pen: &mut Pen,
+    asked: &Asked<'_>,
+    of: &Transformation<'_>,
+    shown: Shown,
+) -> Result<(), NoMemory>
+    requires formed { IsWellFormed of.now.metas.now of.now.program.now }
+    requires relations { length of.now.program.now.rels < 2 ^ 32 }
+    requires enforceable { IsEnforceable of.now.metas.now of.now.program.now }
+{
+    let mut origin = Origin::Files(asked.files, asked.pairs);
+    match models_of(
+        of.alloc,
+        &mut origin,
+        of.metas,
+        of.program.models.as_slice(),
+    )? {
+        Some(mut models) => {
+            texts_are_storable(of.program);
+            let put = put_over_models(pen, of, &mut models, shown);
             drop(models);
             put
         }
@@ -175,37 +185,20 @@ fn put_enforceable(
 
 fn put_over_models(
     pen: &mut Pen,
-    asked: &Asked<'_>,
-    metas: &Metas,
-    program: &Program,
-    models: &Models<'_>,
+    of: &Transformation<'_>,
+    models: &mut Models<'_>,
+    shown: Shown,
 ) -> Result<(), NoMemory>
-    requires evaluable { IsEvaluable metas.now program.now models.now }
-    requires relations { length program.now.rels < 2 ^ 32 }
-    requires enforceable { IsEnforceable metas.now program.now }
+    requires evaluable { IsEvaluable of.now.metas.now of.now.program.now models.old }
+    requires relations { length of.now.program.now.rels < 2 ^ 32 }
+    requires enforceable { IsEnforceable of.now.metas.now of.now.program.now }
 {
-    if is_small(program.rels.as_slice()) && (program.target as usize) < models.len() {
-        return put_demanded(pen, asked, metas, program, models);
+    if !is_enforced_over(of.program, models) {
+        pen.put(" no models");
+        return Ok(());
     }
-    pen.put(" no models");
-    Ok(())
-}
-
-fn put_demanded(
-    pen: &mut Pen,
-    asked: &Asked<'_>,
-    metas: &Metas,
-    program: &Program,
-    models: &Models<'_>,
-) -> Result<(), NoMemory>
-    requires { CanBeEnforced metas.now program.now models.now }
-{
-    let told = Told {
-        alloc: asked.files.alloc,
-        program,
-        metas,
-        models,
-    };
-    let outcome = demands(asked.files.alloc, program, models);
-    put_outcome(pen, &told, &outcome, asked.shown)
+    match shown {
+        Shown::Made(made) => put_made(pen, of, models, made),
+        Shown::Demanded(demanded) => put_demanded(pen, of, models, demanded),
+    }
 }

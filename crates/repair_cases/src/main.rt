@@ -7,31 +7,70 @@
 //! | `+ TEXT` | adds a line to the file before |
 //! | `demands SCRIPT TARGET NAME=FILE..` | the entries with what they make, the demands, each with the number of its entry, and the terms |
 //! | `counts SCRIPT TARGET NAME=FILE..` | how many of each there are |
-//! | `repair SCRIPT TARGET NAME=FILE..` | what the repair of the target makes, changes and deletes, and each object of it; or its first breach |
+//! | `repair SCRIPT TARGET NAME=FILE..` | what a repair of the target makes, changes and deletes, and each object of it, or what stands against it, by the plain account |
+//! | `enforce SCRIPT TARGET NAME=FILE..` | the same by `enforce_mode`, and whether the account is the same |
+//! | `size SCRIPT TARGET NAME=FILE..` | the same without the account, and in place of the objects their number |
+//! | `random N SEED SCRIPT TARGET NAME=FILE..` | how N repairs of random models end, with the first one whole that the account ends in another way, or a single one |
 //!
 //! A refusal is printed with the entries that it names. In a TEXT `%` and two hexadecimal digits are a byte, and `%[3 ab]` is `ababab`. Lines
 //! that are empty or begin with `#` are passed over.
 #![tactic(auto)]
 
 mod asking;
+mod comparing;
+mod dice;
+mod drawing;
+mod enforcing;
 mod entries;
 mod files;
 mod inputs;
 mod outcomes;
+mod small;
+mod tally;
 mod terms;
+mod trials;
 
 use asking::answer;
 use files::CaseFiles;
 use mof_metamodel::{NoMemory, Text};
-use outcomes::Shown;
+use outcomes::{Demanded, Made, Question, Shown};
 use std::io;
+
+/// What a verb asks for.
+fn shown_by(verb: &str) -> Option<Shown> {
+    match verb {
+        "demands" => Some(Shown::Demanded(Demanded::All)),
+        "counts" => Some(Shown::Demanded(Demanded::Counts)),
+        "repair" => Some(Shown::Demanded(Demanded::Account)),
+        "enforce" => Some(Shown::Made(Made::All)),
+        "size" => Some(Shown::Made(Made::Size)),
+        _ => None,
+    }
+}
+
+/// The answer to words `N SEED` before those of a case.
+fn random(files: &CaseFiles, words: &str) -> Result<Text, NoMemory> {
+    let (count, rest) = words.split_once(' ').unwrap_or((words, ""));
+    let (seed, rest) = rest.split_once(' ').unwrap_or((rest, ""));
+    let trials = Question::Trials {
+        count: count.parse().unwrap_or(0),
+        seed: seed.parse().unwrap_or(0),
+    };
+    answer(files, rest, trials)
+}
+
+/// The answer to a verb, if it asks for something.
+fn asked(files: &CaseFiles, verb: &str, words: &str) -> Result<Option<Text>, NoMemory> {
+    match shown_by(verb) {
+        Some(shown) => Ok(Some(answer(files, words, Question::Files(shown))?)),
+        None => Ok(None),
+    }
+}
 
 /// What a line comes to: nothing, or an answer.
 fn answered(files: &mut CaseFiles, line: &str) -> Result<Option<Text>, NoMemory> {
     match line.split_once(' ') {
-        Some(("demands", words)) => Ok(Some(answer(files, words, Shown::All)?)),
-        Some(("counts", words)) => Ok(Some(answer(files, words, Shown::Counts)?)),
-        Some(("repair", words)) => Ok(Some(answer(files, words, Shown::Repair)?)),
+        Some(("random", words)) => Ok(Some(random(files, words)?)),
         Some(("file", rest)) => {
             files.add(rest)?;
             Ok(None)
@@ -40,7 +79,8 @@ fn answered(files: &mut CaseFiles, line: &str) -> Result<Option<Text>, NoMemory>
             files.add_line(rest)?;
             Ok(None)
         }
-        _ => Ok(None),
+        Some((verb, words)) => asked(files, verb, words),
+        None => Ok(None),
     }
 }
 

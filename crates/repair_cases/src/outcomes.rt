@@ -1,43 +1,126 @@
 //! What demands come to, as it is printed.
+ghost use Rattle.demand_set.specs.DemandSets.{IsDemandSet};
+ghost use Rattle.entry_finding.specs.Premises.{CanBeEnforced};
+
+use crate::comparing::{compared, put_comparison};
+use crate::enforcing::{Transformation, enforced, put_outcome};
 use crate::entries::{put_call, put_demand, put_entry, put_item, put_named, put_place};
 use crate::terms::put_term;
 use case_texts::Pen;
 use demand_set::{DemandError, DemandSet};
 use mof_metamodel::NoMemory;
+use ocl_eval::Models;
 use repair_account::{Told, put_repaired};
 use repair_semantics::{Clash, Demand, Entry, EntryName, Place, Term};
 
-/// What a case shows of demands that are there.
+/// What a case shows of what is demanded: entries, demands and terms, their numbers, or the account of the repair.
 #[derive(Clone, Copy)]
-pub enum Shown {
+pub enum Demanded {
     All,
     Counts,
-    Repair,
+    Account,
 }
 
-/// What demands come to.
-pub fn put_outcome(
+/// What it shows of the repair: all of it beside the account, or how many objects there are.
+#[derive(Clone, Copy)]
+pub enum Made {
+    All,
+    Size,
+}
+
+/// What a case shows: what is demanded, or the repair.
+#[derive(Clone, Copy)]
+pub enum Shown {
+    Demanded(Demanded),
+    Made(Made),
+}
+
+/// What is asked: what models of files come to, or so many trials from a seed on.
+#[derive(Clone, Copy)]
+pub enum Question {
+    Files(Shown),
+    Trials { count: u32, seed: u64 },
+}
+
+/// What is demanded, or why nothing is.
+pub fn put_demanded(
     pen: &mut Pen,
-    told: &Told<'_, '_>,
-    outcome: &Result<DemandSet, DemandError>,
-    shown: Shown,
-) -> Result<(), NoMemory> {
-    match outcome {
-        Ok(found) => put_found(pen, told, found, shown),
-        Err(error) => put_refusal(pen, told, error),
+    of: &Transformation<'_>,
+    models: &Models<'_>,
+    shown: Demanded,
+) -> Result<(), NoMemory>
+    requires { CanBeEnforced of.now.metas.now of.now.program.now models.now }
+{
+    match of.demands(models) {
+        Ok(found) => {
+            let put = put_found(pen, &of.told(models), &found, shown);
+            drop(found);
+            put
+        }
+        Err(error) => {
+            let put = put_refusal(pen, of, models, &error);
+            drop(error);
+            put
+        }
     }
+}
+
+/// What a repair makes of the target, or why nothing is demanded.
+pub fn put_made(
+    pen: &mut Pen,
+    of: &Transformation<'_>,
+    models: &mut Models<'_>,
+    shown: Made,
+) -> Result<(), NoMemory>
+    requires { CanBeEnforced of.now.metas.now of.now.program.now models.old }
+{
+    match of.demands(models) {
+        Ok(found) => {
+            let put = put_repair(pen, of, models, &found, shown);
+            drop(found);
+            put
+        }
+        Err(error) => {
+            let put = put_refusal(pen, of, models, &error);
+            drop(error);
+            put
+        }
+    }
+}
+
+fn put_repair(
+    pen: &mut Pen,
+    of: &Transformation<'_>,
+    models: &mut Models<'_>,
+    found: &DemandSet,
+    shown: Made,
+) -> Result<(), NoMemory>
+    requires enforced { CanBeEnforced of.now.metas.now of.now.program.now models.old }
+    requires demands { IsDemandSet of.now.program.now models.old found.now }
+{
+    match shown {
+        Made::All => match compared(of, found, models)? {
+            Some(comparison) => put_comparison(pen, of.alloc, &comparison),
+            None => pen.put(" no target"),
+        },
+        Made::Size => match enforced(of, found, models, true)? {
+            Some(outcome) => put_outcome(pen, of.alloc, &outcome, ""),
+            None => pen.put(" no target"),
+        },
+    }
+    Ok(())
 }
 
 fn put_found(
     pen: &mut Pen,
     told: &Told<'_, '_>,
     found: &DemandSet,
-    shown: Shown,
+    shown: Demanded,
 ) -> Result<(), NoMemory> {
     match shown {
-        Shown::All => put_all(pen, told, found),
-        Shown::Counts => put_counts(pen, told, found),
-        Shown::Repair => put_repaired(pen, told, found),
+        Demanded::All => put_all(pen, told, found),
+        Demanded::Counts => put_counts(pen, told, found),
+        Demanded::Account => put_repaired(pen, told, found),
     }
 }
 
@@ -76,12 +159,19 @@ fn put_terms(pen: &mut Pen, told: &Told<'_, '_>, terms: &[Term]) {
     }
 }
 
-fn put_refusal(pen: &mut Pen, told: &Told<'_, '_>, error: &DemandError) -> Result<(), NoMemory> {
+/// Why nothing is demanded.
+fn put_refusal(
+    pen: &mut Pen,
+    of: &Transformation<'_>,
+    models: &Models<'_>,
+    error: &DemandError,
+) -> Result<(), NoMemory> {
+    let told = of.told(models);
     match error {
-        DemandError::Cycle(chain) => put_chain(pen, told, " cycle", chain.as_slice()),
-        DemandError::Deep(chain) => put_chain(pen, told, " deep", chain.as_slice()),
-        DemandError::Unmet { entry, place } => put_unmet(pen, told, entry, place),
-        DemandError::Conflict(clash) => put_clash(pen, told, clash),
+        DemandError::Cycle(chain) => put_chain(pen, &told, " cycle", chain.as_slice()),
+        DemandError::Deep(chain) => put_chain(pen, &told, " deep", chain.as_slice()),
+        DemandError::Unmet { entry, place } => put_unmet(pen, &told, entry, place),
+        DemandError::Conflict(clash) => put_clash(pen, &told, clash),
         DemandError::NoMemory => return Err(NoMemory),
     }
     Ok(())

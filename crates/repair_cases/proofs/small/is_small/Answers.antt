@@ -3,7 +3,7 @@ use Rattle.std.specs.Prelude.{All}
 use Rattle.std.proofs.lemmas.List.{take_all}
 use Rattle.std.proofs.lemmas.List.Elements.{All-more}
 use Rattle.repair_cases.specs.Small.{IsSmall}
-use Rattle.repair_cases.proofs.asking.is_small.Goals as goal
+use Rattle.repair_cases.proofs.small.is_small.Goals as goal
 
 pub loop-rel-preserved : goal.loop-rel-preserved
 loop-rel-preserved c =
