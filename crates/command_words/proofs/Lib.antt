@@ -1,0 +1,6 @@
+pub mod ArgumentsLaws
+mod WordLaws
+mod WalkLaws
+mod CommandLaws
+mod ReadingLaws
+mod ValueLaws

@@ -1,0 +1,4 @@
+pub mod Arguments
+pub mod Synopses
+pub mod Commands
+pub mod Causes
