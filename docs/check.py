@@ -279,38 +279,46 @@ def cases():
             if not name.endswith('.md'):
                 lines = read(f'{here}/{name}').split('\n')[:-1]
                 questions += f'file {name} \n' + ''.join(f'+ {line}\n' for line in lines)
-        questions += 'vault\n'
-        for command, printed, status in stored_commands(folder):
-            line = 'run ' + command
-            questions += line + '\n'
-            answers += f'{line} => {status} ' + printed.replace('\n', '\\n') + '\n'
+        for group in stored_commands(folder):
+            questions += 'vault\n'
+            for command, printed in group:
+                line = 'run ' + command
+                questions += line + '\n'
+                answers += f'{line} => {status_of(printed)} ' + printed.replace('\n', '\\n') + '\n'
     return questions + '\n', answers
 
 
 def stored_commands(folder):
-    """The commands over the files of an example that documents have, each once."""
+    """The commands over the files of an example, a group a document; one that has no enforcement leaves out those that were met."""
     met = set()
     for path in documents():
-        place = folder if path.startswith(f'examples/{folder}/') else None
-        for _, _, language, block in blocks(read(path)) if language_of(path) else ():
-            if language != 'console':
-                continue
-            at = place
-            for command, printed in commands(block):
-                words = re.sub(r'\\\n\s*', '', command).split()
-                if words[0] == 'cd':
-                    at = os.path.basename(words[1])
-                given = ' '.join(words[1:])
-                if words[0] == 'qvtr' and at == folder and given not in met:
-                    met.add(given)
-                    yield given, printed, status_of(printed)
+        group = list(commands_over(folder, path))
+        if not any(given.startswith('enforce ') for given, _ in group):
+            group = [(given, printed) for given, printed in group if given not in met]
+        met.update(given for given, _ in group)
+        if group:
+            yield group
+
+
+def commands_over(folder, path):
+    """The commands of a document over the files of an example, with what they print."""
+    place = folder if path.startswith(f'examples/{folder}/') else None
+    for _, _, language, block in blocks(read(path)) if language_of(path) else ():
+        at = place
+        for command, printed in commands(block) if language == 'console' else ():
+            words = re.sub(r'\\\n\s*', '', command).split()
+            if words[0] == 'cd':
+                at = os.path.basename(words[1])
+            if words[0] == 'qvtr' and at == folder:
+                yield ' '.join(words[1:]), printed
 
 
 def language_of(path):
     return path == 'README.md' or path.startswith(('docs/', 'examples/'))
 
 
-STATUSES = {'yes': 0, 'done': 0, 'no': 1, 'usage': 2, 'fault': 3, 'refused': 4, 'cycle': 7, 'deep': 7, 'limit': 9}
+STATUSES = {'yes': 0, 'done': 0, 'unchanged': 0, 'no': 1, 'usage': 2, 'fault': 3, 'refused': 4, 'conflict': 5, 'unmet': 6, 'cycle': 7, 'deep': 7,
+            'invalid': 8, 'limit': 9, 'not-enforceable': 11}
 
 
 def status_of(printed):
