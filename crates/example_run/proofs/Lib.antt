@@ -1,0 +1,6 @@
+pub mod EmptyLaws
+pub mod ErrorLaws
+pub mod PremiseLaws
+pub mod RefusalLaws
+pub mod SecondLaws
+pub mod RunLaws

@@ -1,0 +1,92 @@
+//! One enforcement of a program on the target among models.
+ghost use Rattle.std.specs.Prelude.{◌≡◌, ◌<◌, List, length, Some, slice_get, IfOk, IfErr};
+ghost use Rattle.mof_metamodel.specs.declared.desc.MetaDesc.{MetaDesc};
+ghost use Rattle.object_tables.specs.Models.{ModelData};
+ghost use Rattle.repair_laws.specs.Repairs.{with_target};
+ghost use Rattle.entry_finding.specs.Premises.{CanBeEnforced};
+ghost use Rattle.demand_set.specs.DemandSets.{IsDemandSet};
+ghost use Rattle.example_run.specs.Repaired.{IsReadable, IsRefused, IsRepaired};
+
+use crate::error::{ExampleError, of_demands, of_making};
+use demand_set::{DemandSet, demands};
+use enforce_mode::{Edits, prepare};
+use enforcement_laws::demand_sets_are_demands;
+use object_tables::Model;
+use ocl_eval::Models;
+use qv_syntax::Program;
+use repair_semantics::Report;
+use std::alloc::Global;
+
+/// The target among the models.
+fn target_of<'a, 'm>(program: &Program, models: &'a Models<'m>) -> &'a Model<'m>
+    requires { program.now.target < length models.now }
+    ensures { slice_get models.now program.now.target ≡ Some result.now }
+{
+    match models.get(program.target as usize) {
+        Some(target) => target,
+        None => unreachable!(),
+    }
+}
+
+/// What makes the target what is demanded of it.
+fn readied<'m>(
+    alloc: Global,
+    program: &Program,
+    models: &Models<'m>,
+    found: &DemandSet,
+) -> Result<Edits<'m>, ExampleError>
+    requires premises { (metas : List MetaDesc) × CanBeEnforced metas program.now models.now }
+    requires readable { (m : ModelData) → slice_get models.now program.now.target ≡ Some m → IsReadable m }
+    requires demanded { IsDemandSet program.now models.now found.now }
+    ensures ok { IfOk result (λ e. IsRepaired program.now models.now (with_target program.now models.now e.made) e.report) }
+    ensures err { IfErr result (IsRefused program.now models.now) }
+{
+    demand_sets_are_demands();
+    let target = target_of(program, models);
+    match prepare(alloc, program, found, target) {
+        Ok(edits) => Ok(edits),
+        Err(error) => Err(of_making(error)),
+    }
+}
+
+/// The same, from the demands on.
+fn ready<'m>(
+    alloc: Global,
+    program: &Program,
+    models: &Models<'m>,
+) -> Result<Edits<'m>, ExampleError>
+    requires premises { (metas : List MetaDesc) × CanBeEnforced metas program.now models.now }
+    requires readable { (m : ModelData) → slice_get models.now program.now.target ≡ Some m → IsReadable m }
+    ensures ok { IfOk result (λ e. IsRepaired program.now models.now (with_target program.now models.now e.made) e.report) }
+    ensures err { IfErr result (IsRefused program.now models.now) }
+{
+    match demands(alloc, program, models) {
+        Ok(found) => {
+            let edits = readied(alloc, program, models, &found);
+            drop(found);
+            edits
+        }
+        Err(error) => Err(of_demands(error)),
+    }
+}
+
+/// Makes the target among the models what is demanded of it, and says what that changes. Where that is refused the models stay as they are.
+pub(crate) fn repair<'m>(
+    alloc: Global,
+    program: &Program,
+    models: &mut Models<'m>,
+) -> Result<Report, ExampleError>
+    requires premises { (metas : List MetaDesc) × CanBeEnforced metas program.now models.old }
+    requires readable { (m : ModelData) → slice_get models.old program.now.target ≡ Some m → IsReadable m }
+    ensures ok { IfOk result (IsRepaired program.now models.old models.new) }
+    ensures err { IfErr result (IsRefused program.now models.old) }
+{
+    match ready(alloc, program, &*models) {
+        Ok(edits) => {
+            let report = edits.report();
+            edits.apply(models.get_mut(program.target));
+            Ok(report)
+        }
+        Err(error) => Err(error),
+    }
+}
