@@ -20,7 +20,7 @@ use Rattle.repair_semantics.specs.Deletions.{images_of}
 use Rattle.repair_semantics.specs.CandidateObjects.{CandidateObject, fresh_terms, number_of, term_number}
 use Rattle.repair_semantics.proofs.TieLaws.{ties_are_one}
 use Rattle.term_table.specs.TermTables.{no_term, term_at, AreDistinct}
-use Rattle.term_images.specs.KeyIndexes.{number_of as id_number}
+use Rattle.term_images.specs.ClassIndexes.{number_of as id_number}
 use Rattle.term_images.specs.FoundImages.{image_numbers}
 use Rattle.candidate_laws.proofs.Lists.{from_filter}
 use Rattle.made_objects.specs.Making.{terms_at}

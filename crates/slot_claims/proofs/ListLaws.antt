@@ -1,13 +1,11 @@
--- Lists that are filtered, cut and searched.
-use Rattle.std.specs.Prelude.{◌≡◌, ◌<◌, ◌≤◌, ℕ, zero, suc, Bool, true, false, ◌&&◌, ◌||◌, not, List, [], ◌∷◌, filter, length, take, drop, cond, Option, None, Some, Contains}
+-- Lists that are filtered and searched.
+use Rattle.std.specs.Prelude.{◌≡◌, Bool, true, false, ◌&&◌, ◌||◌, List, [], ◌∷◌, filter, cond, Option, None, Some, Contains}
 use Rattle.std.specs.Cmp.{IsTotalOrder, both_ways, Equal-is}
 use Rattle.std.specs.FinMap.{IsAntisymmetric}
-use Rattle.std.specs.List.{AllByRecursion, list_any, filter_map, cons_option}
-use Rattle.std.specs.List.Sorted.{IsStrictlySortedBy, IsPartitionedBy, IsPartitionPoint}
+use Rattle.std.specs.List.{list_any, filter_map, cons_option}
 use Rattle.std.specs.Ordering.{is_eq}
 use Rattle.std.specs.declared.cmp.Ordering.{Ordering}
-use Rattle.std.specs.declared.cmp.Ordering.TheVariants.{Less}
-use Rattle.std.proofs.Common.{refl, sym, ap, ◌∙◌, subst, arith, inl, inr, get_or}
+use Rattle.std.proofs.Common.{refl, sym, ap, ◌∙◌, subst, inl, inr}
 use Rattle.std.proofs.lemmas.Cmp.{tied_itself}
 use Rattle.std.proofs.lemmas.List.Folds.{Any-from_list_any, list_any-from_Any}
 use Rattle.std.proofs.lemmas.List.Elements.{All-contains, filter_passes}
@@ -45,73 +43,6 @@ any_filtered {X} p q (x ∷ xs) = by (p x) ∙ ap (λ b. (p x && q x) || b) (any
     by : (b : Bool) → list_any q (cond b (x ∷ filter p xs) (filter p xs)) ≡ (b && q x) || list_any q (filter p xs)
     by true = refl
     by false = refl
-
--- a list that is filtered twice
-pub filtered_twice : {X : Type 0} (p q r : X → Bool) → ((x : X) → (p x && q x) ≡ r x) → (xs : List X) → filter q (filter p xs) ≡ filter r xs
-filtered_twice p q r is [] = refl
-filtered_twice {X} p q r is (x ∷ xs) =
-    by (p x) ∙ ap (λ b. cond b (x ∷ filter q (filter p xs)) (filter q (filter p xs))) (is x)
-    ∙ ap (λ ys. cond (r x) (x ∷ ys) ys) (filtered_twice p q r is xs)
-  where
-    by : (a : Bool) → filter q (cond a (x ∷ filter p xs) (filter p xs)) ≡ cond (a && q x) (x ∷ filter q (filter p xs)) (filter q (filter p xs))
-    by true = refl
-    by false = refl
-
--- ---- what a search in halves finds
-
--- a test that passes before each element that passes parts a list in order
-pub parted : {X : Type 0} (order : X → X → Ordering) (p : X → Bool) → ((x y : X) → order x y ≡ Less → p y ≡ true → p x ≡ true) → (xs : List X)
-    → IsStrictlySortedBy order xs → IsPartitionedBy p xs
-unfolding IsStrictlySortedBy
-parted order p before [] up i j d least within h = absurd (omega arith)
-parted order p before (x ∷ xs) up zero zero d least within h = h
-parted {X} order p before (x ∷ xs) up zero (suc j) d least within h = first xs j up.0 (omega arith) h
-  where
-    first : (ys : List X) (k : ℕ) → AllByRecursion (λ y. order x y ≡ Less) ys → k < length ys → p (get_or ys k d) ≡ true → p x ≡ true
-    first [] k a l g = absurd (omega (arith, l))
-    first (y ∷ ys) zero a l g = before x y a.0 g
-    first (y ∷ ys) (suc k) a l g = first ys k a.1 (omega (arith, l)) g
-parted order p before (x ∷ xs) up (suc i) zero d least within h = absurd (omega arith)
-parted order p before (x ∷ xs) up (suc i) (suc j) d least within h = parted order p before xs up.1 i j d (omega arith) (omega arith) h
-
-module _ {X : Type 0} (p : X → Bool) where
-  none_pass : (xs : List X) → ((k : ℕ) (d : X) → k < length xs → p (get_or xs k d) ≡ false) → filter p xs ≡ []
-  none_pass [] h = refl
-  none_pass (x ∷ xs) h =
-      ap (λ b. cond b (x ∷ filter p xs) (filter p xs)) (h 0 x (omega arith)) ∙ none_pass xs (λ k d l. h (suc k) d (omega (arith, l)))
-
-  all_fail : (xs : List X) → ((k : ℕ) (d : X) → k < length xs → p (get_or xs k d) ≡ false) → filter (λ x. not (p x)) xs ≡ xs
-  all_fail [] h = refl
-  all_fail (x ∷ xs) h =
-      ap (λ b. cond (not b) (x ∷ filter (λ x. not (p x)) xs) (filter (λ x. not (p x)) xs)) (h 0 x (omega arith))
-      ∙ ap (λ ys. x ∷ ys) (all_fail xs (λ k d l. h (suc k) d (omega (arith, l))))
-
-  abbrev IsPoint : List X → ℕ → Type 0
-  IsPoint xs i = IsPartitionPoint (λ y. p y ≡ true) (λ y. p y ≡ false) xs i
-
-  next_point : (x : X) (xs : List X) (i : ℕ) → IsPoint (x ∷ xs) (suc i) → IsPoint xs i
-  next_point x xs i point = (
-    λ k d low high. point.0 (suc k) d (omega arith) (omega (arith, high)),
-    λ k d low high. point.1 (suc k) d (omega (arith, low)) (omega (arith, high)),
-  )
-
-  -- the elements before the point pass
-  pub before_point : (xs : List X) (i : ℕ) → i ≤ length xs → IsPoint xs i → take i xs ≡ filter p xs
-  before_point [] zero l point = refl
-  before_point [] (suc i) l point = absurd (omega (arith, l))
-  before_point (x ∷ xs) zero l point = sym (none_pass (x ∷ xs) (λ k d below. point.1 k d (omega arith) below))
-  before_point (x ∷ xs) (suc i) l point =
-      ap (λ ys. x ∷ ys) (before_point xs i (omega (arith, l)) (next_point x xs i point))
-      ∙ sym (ap (λ b. cond b (x ∷ filter p xs) (filter p xs)) (point.0 0 x (omega arith) (omega arith)))
-
-  -- those from it on fail
-  pub from_point : (xs : List X) (i : ℕ) → i ≤ length xs → IsPoint xs i → drop i xs ≡ filter (λ x. not (p x)) xs
-  from_point [] zero l point = refl
-  from_point [] (suc i) l point = absurd (omega (arith, l))
-  from_point (x ∷ xs) zero l point = sym (all_fail (x ∷ xs) (λ k d below. point.1 k d (omega arith) below))
-  from_point (x ∷ xs) (suc i) l point =
-      from_point xs i (omega (arith, l)) (next_point x xs i point)
-      ∙ sym (ap (λ b. cond (not b) (x ∷ filter (λ x. not (p x)) xs) (filter (λ x. not (p x)) xs)) (point.0 0 x (omega arith) (omega arith)))
 
 -- ---- elements of lists
 

@@ -24,7 +24,7 @@ use Rattle.term_table.specs.declared.numbered.NumberedValue.TheVariants as numbe
 use Rattle.term_table.specs.declared.numbered.NumberedTerm.{NumberedTerm}
 use Rattle.term_table.specs.TermTables.{keyed, no_term, term_at, value_in, IsBelow}
 use Rattle.term_images.specs.KeyReadings.{as_held, asked_value, asked}
-use Rattle.term_images.specs.KeyIndexes.{number_of, object_holding}
+use Rattle.term_images.specs.ClassIndexes.{number_of, object_holding}
 use Rattle.term_images.specs.FoundImages.{image_numbers, object_value, key_image, image_by}
 use Rattle.term_images.proofs.KeyLaws.{and_false}
 

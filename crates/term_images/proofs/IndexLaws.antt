@@ -21,10 +21,10 @@ use Rattle.term_table.specs.declared.numbered.NumberedValue.{NumberedValue}
 use Rattle.term_table.specs.declared.numbered.NumberedTerm.{NumberedTerm}
 use Rattle.term_table.specs.NumberOrder.{numbered_value_order, numbered_term_order, numbered_values_total}
 use Rattle.term_table.proofs.NumberLaws.{terms_exact}
-use Rattle.term_images.specs.declared.key_index.KeyIndex.TheVariants.{Firsts}
+use Rattle.term_images.specs.declared.class_index.ClassIndex.TheVariants.{Firsts}
 use Rattle.term_images.specs.KeyReadings.{asked, alone, held_at_each}
 use Rattle.term_images.specs.Extents.{object_in}
-use Rattle.term_images.specs.KeyIndexes.{number_of, numbers_of, first_holding, table_key, first_at, object_holding, PutsFirst, HasFirsts, IsIndexOf}
+use Rattle.term_images.specs.ClassIndexes.{number_of, numbers_of, first_holding, table_key, first_at, object_holding, PutsFirst, HasFirsts, IsIndexOf}
 use Rattle.term_images.proofs.KeyLaws.{holds_these, holds_none}
 
 -- ---- extents

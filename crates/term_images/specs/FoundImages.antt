@@ -8,7 +8,7 @@ use Rattle.qvtr_semantics.specs.Outs.{all_given}
 use Rattle.term_table.specs.declared.numbered.NumberedValue.{NumberedValue}
 use Rattle.term_table.specs.declared.numbered.NumberedValue.TheVariants as numbered
 use Rattle.term_table.specs.declared.numbered.NumberedTerm.{NumberedTerm}
-use Rattle.term_images.specs.KeyIndexes.{number_of, object_holding}
+use Rattle.term_images.specs.ClassIndexes.{number_of, object_holding}
 
 -- images by the numbers of objects
 abbrev pub image_numbers : List (Option ObjId) → List (Option ℕ)

@@ -1,4 +1,4 @@
 pub mod KeyReadings
 pub mod Extents
-pub mod KeyIndexes
+pub mod ClassIndexes
 pub mod FoundImages

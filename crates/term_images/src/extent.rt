@@ -1,7 +1,7 @@
 ghost use Rattle.std.specs.Prelude.{◌≡◌, IfOk};
 ghost use Rattle.std.specs.List.{filter_map};
 ghost use Rattle.qvtr_semantics.specs.Objects.{extent_of};
-ghost use Rattle.term_images.specs.KeyIndexes.{numbers_of};
+ghost use Rattle.term_images.specs.ClassIndexes.{numbers_of};
 ghost use Rattle.term_images.specs.Extents.{object_in};
 
 use crate::target::Target;

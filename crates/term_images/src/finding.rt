@@ -1,9 +1,9 @@
 ghost use Rattle.std.specs.Prelude.{◌≡◌, map, option_map, None, slice_index_or, IfOk, OnOk};
 ghost use Rattle.repair_semantics.specs.Images.{image};
-ghost use Rattle.term_images.specs.KeyIndexes.{number_of, AreIndexes};
+ghost use Rattle.term_images.specs.ClassIndexes.{number_of, AreIndexes};
 ghost use Rattle.term_images.specs.FoundImages.{image_numbers, key_image, key_images, image_by};
 
-use crate::key_index::{KeyIndex, add_index, object_holding};
+use crate::class_index::{ClassIndex, add_index, object_holding};
 use crate::target::Target;
 use mof_metamodel::{NoMemory, Seq};
 use object_tables::{Model, ObjId};
@@ -64,7 +64,7 @@ fn key_images(
 /// The image of a term by those of its key values.
 fn term_image(
     target: &Target<'_, '_>,
-    indexes: &mut BTreeMap<u32, KeyIndex>,
+    indexes: &mut BTreeMap<u32, ClassIndex>,
     found: &[Option<ObjId>],
     term: &NumberedTerm,
 ) -> Result<Option<ObjId>, NoMemory>

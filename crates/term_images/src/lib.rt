@@ -5,10 +5,10 @@
 //! enforceable scripts haven't, each term of that class takes a pass over the objects of the class.
 #![tactic(auto)]
 
+mod class_index;
 mod extent;
 mod finding;
 mod held;
-mod key_index;
 mod keys;
 mod passing;
 mod target;

@@ -1,7 +1,7 @@
 ghost use Rattle.std.specs.Prelude.{◌≡◌, option_map, IfOk};
 ghost use Rattle.repair_semantics.specs.Images.{holds, holds_key};
 ghost use Rattle.term_images.specs.KeyReadings.{as_held, asked, is_held};
-ghost use Rattle.term_images.specs.KeyIndexes.{number_of, numbers_of, first_holding};
+ghost use Rattle.term_images.specs.ClassIndexes.{number_of, numbers_of, first_holding};
 
 use crate::held::held_at;
 use crate::target::Target;

@@ -4,7 +4,7 @@ use Rattle.std.proofs.Common.{ap, ◌∙◌}
 use Rattle.std.proofs.lemmas.Result.{IfOk-weaker}
 use Rattle.object_tables.specs.declared.value.ObjId.{ObjId}
 use Rattle.qvtr_semantics.specs.Objects.{extent_of}
-use Rattle.term_images.specs.KeyIndexes.{numbers_of}
+use Rattle.term_images.specs.ClassIndexes.{numbers_of}
 use Rattle.term_images.specs.Extents.{object_in}
 use Rattle.term_images.proofs.IndexLaws.{objects_of_numbers}
 use Rattle.term_images.proofs.extent.objects_of.Goals as goal

@@ -1,6 +1,6 @@
 use Rattle.std.proofs.Common.{◌≡◌, map, take}
 use Rattle.repair_semantics.specs.Images.{image}
-use Rattle.term_images.specs.KeyIndexes.{AreIndexes}
+use Rattle.term_images.specs.ClassIndexes.{AreIndexes}
 use Rattle.term_images.specs.FoundImages.{image_numbers}
 use Rattle.term_images.proofs.finding.images.Given as goal
 

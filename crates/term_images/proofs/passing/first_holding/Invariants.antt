@@ -1,5 +1,5 @@
 use Rattle.std.proofs.Common.{◌≡◌, drop}
-use Rattle.term_images.specs.KeyIndexes.{numbers_of, first_holding}
+use Rattle.term_images.specs.ClassIndexes.{numbers_of, first_holding}
 use Rattle.term_images.proofs.passing.first_holding.Given as goal
 
 abbrev pub invariant-loop-object : goal.invariant-loop-object

@@ -6,10 +6,10 @@ use Rattle.std.proofs.lemmas.List.{map_more}
 use Rattle.object_tables.specs.declared.value.ObjId.{ObjId}
 use Rattle.term_table.specs.declared.numbered.NumberedTerm.{NumberedTerm}
 use Rattle.term_images.specs.KeyReadings.{HasKeyValues}
-use Rattle.term_images.specs.KeyIndexes.{number_of, numbers_of, HasFirsts}
+use Rattle.term_images.specs.ClassIndexes.{number_of, numbers_of, HasFirsts}
 use Rattle.term_images.proofs.IndexLaws.{first_more, first_same}
-use Rattle.term_images.proofs.key_index.firsts_of.Goals.{in-Some+in_ok-put_first, in_default}
-use Rattle.term_images.proofs.key_index.firsts_of.Goals as goal
+use Rattle.term_images.proofs.class_index.firsts_of.Goals.{in-Some+in_ok-put_first, in_default}
+use Rattle.term_images.proofs.class_index.firsts_of.Goals as goal
 
 pub loop-object-preserved : goal.loop-object-preserved
 loop-object-preserved c =

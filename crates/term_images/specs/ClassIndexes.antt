@@ -14,8 +14,8 @@ use Rattle.repair_semantics.specs.TargetItems.{key_of}
 use Rattle.term_table.specs.declared.numbered.NumberedValue.{NumberedValue}
 use Rattle.term_table.specs.declared.numbered.NumberedTerm.{NumberedTerm}
 use Rattle.term_table.specs.NumberOrder.{numbered_term_order}
-use Rattle.term_images.specs.declared.key_index.KeyIndex.{KeyIndex}
-use Rattle.term_images.specs.declared.key_index.KeyIndex.TheVariants.{Firsts, Objects}
+use Rattle.term_images.specs.declared.class_index.ClassIndex.{ClassIndex}
+use Rattle.term_images.specs.declared.class_index.ClassIndex.TheVariants.{Firsts, Objects}
 use Rattle.term_images.specs.KeyReadings.{asked}
 
 -- ---- objects by their numbers
@@ -55,12 +55,12 @@ abbrev pub HasFirsts : Program → ModelData → ℕ → List PropId → List �
 HasFirsts program m class ps os firsts = (ws : List NumberedValue) → first_at firsts class ws ≡ first_holding program m ps ws os
 
 -- an index of the objects of the class: by key values, or all of them
-abbrev pub IsIndexOf : Program → ModelData → ℕ → KeyIndex → Type 0
+abbrev pub IsIndexOf : Program → ModelData → ℕ → ClassIndex → Type 0
 IsIndexOf program m class (Firsts firsts) = (ws : List NumberedValue) → first_at firsts class ws ≡ object_holding program m class ws
 IsIndexOf program m class (Objects objects) = numbers_of objects ≡ extent_of m class
 
 -- ---- all classes
 
 -- each is an index of its class
-abbrev pub AreIndexes : Program → ModelData → BTreeMap ℕ KeyIndex → Type 0
-AreIndexes program m indexes = (class : ℕ) (index : KeyIndex) → get nat_cmp indexes class ≡ Some index → IsIndexOf program m class index
+abbrev pub AreIndexes : Program → ModelData → BTreeMap ℕ ClassIndex → Type 0
+AreIndexes program m indexes = (class : ℕ) (index : ClassIndex) → get nat_cmp indexes class ≡ Some index → IsIndexOf program m class index

@@ -4,9 +4,9 @@ use Rattle.std.proofs.lemmas.Result.{IfOk-weaker}
 use Rattle.qvtr_semantics.specs.Objects.{extent_of}
 use Rattle.repair_semantics.specs.TargetItems.{key_of}
 use Rattle.object_tables.specs.declared.value.ObjId.{ObjId}
-use Rattle.term_images.specs.KeyIndexes.{number_of, numbers_of, first_holding, object_holding, IsIndexOf}
+use Rattle.term_images.specs.ClassIndexes.{number_of, numbers_of, first_holding, object_holding, IsIndexOf}
 use Rattle.term_images.proofs.IndexLaws.{first_in_extent}
-use Rattle.term_images.proofs.key_index.object_holding.Goals as goal
+use Rattle.term_images.proofs.class_index.object_holding.Goals as goal
 
 pub returns-in-Some : goal.returns-in-Some
 returns-in-Some c =

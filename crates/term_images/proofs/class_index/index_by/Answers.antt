@@ -1,7 +1,7 @@
 use Rattle.std.proofs.Common.{ap, ◌∙◌}
-use Rattle.term_images.specs.KeyIndexes.{numbers_of}
+use Rattle.term_images.specs.ClassIndexes.{numbers_of}
 use Rattle.term_images.proofs.IndexLaws.{firsts_index}
-use Rattle.term_images.proofs.key_index.index_by.Goals as goal
+use Rattle.term_images.proofs.class_index.index_by.Goals as goal
 
 pub returns-in-Ok : goal.returns-in-Ok
 returns-in-Ok c =

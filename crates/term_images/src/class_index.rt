@@ -2,7 +2,7 @@ ghost use Rattle.std.specs.Prelude.{◌≡◌, Some, option_map, IfOk, OnOk, IsS
 ghost use Rattle.std.specs.BTreeMap.{get};
 ghost use Rattle.std.specs.Ordering.{nat_cmp};
 ghost use Rattle.repair_semantics.specs.TargetItems.{key_of};
-ghost use Rattle.term_images.specs.KeyIndexes.{number_of, numbers_of, object_holding, PutsFirst, HasFirsts, IsIndexOf, AreIndexes};
+ghost use Rattle.term_images.specs.ClassIndexes.{number_of, numbers_of, object_holding, PutsFirst, HasFirsts, IsIndexOf, AreIndexes};
 
 use crate::extent::objects_of;
 use crate::keys::{Unkeyed, key_of, key_values};
@@ -15,7 +15,7 @@ use term_table::{NumberedTerm, NumberedValue};
 
 /// The objects of a class by their key values.
 #[derive(Drop)]
-pub(crate) enum KeyIndex {
+pub(crate) enum ClassIndex {
     /// The first object with each list of key values, in which objects go by their numbers.
     Firsts(BTreeMap<NumberedTerm, ObjId>),
     /// All objects of the class: one of them has several values or partners at a property of the key.
@@ -56,32 +56,36 @@ fn firsts_of(
 }
 
 /// The index of the objects of a class whose key has these properties.
-fn index_by(target: &Target<'_, '_>, class: ClassId, props: &[PropId]) -> Result<KeyIndex, NoMemory>
+fn index_by(
+    target: &Target<'_, '_>,
+    class: ClassId,
+    props: &[PropId],
+) -> Result<ClassIndex, NoMemory>
     requires { key_of target.now.program.now class.0 ≡ Some props.now }
     ensures { IfOk result (IsIndexOf target.now.program.now target.now.model.now class.0) }
 {
     let objects = objects_of(target, class)?;
     match firsts_of(target, class, props, objects.as_slice()) {
-        Ok(firsts) => Ok(KeyIndex::Firsts(firsts)),
-        Err(Unkeyed::Several) => Ok(KeyIndex::Objects(objects)),
+        Ok(firsts) => Ok(ClassIndex::Firsts(firsts)),
+        Err(Unkeyed::Several) => Ok(ClassIndex::Objects(objects)),
         Err(Unkeyed::NoMemory) => Err(NoMemory),
     }
 }
 
 /// The index of the objects of a class; one without a key has no object with a key.
-fn index_of(target: &Target<'_, '_>, class: ClassId) -> Result<KeyIndex, NoMemory>
+fn index_of(target: &Target<'_, '_>, class: ClassId) -> Result<ClassIndex, NoMemory>
     ensures { IfOk result (IsIndexOf target.now.program.now target.now.model.now class.0) }
 {
     match key_of(target.program, class) {
         Some(props) => index_by(target, class, props),
-        None => Ok(KeyIndex::Firsts(BTreeMap::new(target.alloc))),
+        None => Ok(ClassIndex::Firsts(BTreeMap::new(target.alloc))),
     }
 }
 
 /// Sees to it that the class has an index.
 pub(crate) fn add_index(
     target: &Target<'_, '_>,
-    indexes: &mut BTreeMap<u32, KeyIndex>,
+    indexes: &mut BTreeMap<u32, ClassIndex>,
     class: ClassId,
 ) -> Result<(), NoMemory>
     requires { AreIndexes target.now.program.now target.now.model.now indexes.old }
@@ -99,7 +103,7 @@ pub(crate) fn add_index(
 /// The object of least number that conforms to the class and holds the key values.
 pub(crate) fn object_holding(
     target: &Target<'_, '_>,
-    index: &KeyIndex,
+    index: &ClassIndex,
     class: ClassId,
     values: Seq<NumberedValue>,
 ) -> Result<Option<ObjId>, NoMemory>
@@ -107,11 +111,11 @@ pub(crate) fn object_holding(
     ensures { IfOk result (λ first. option_map number_of first ≡ object_holding target.now.program.now target.now.model.now class.0 values) }
 {
     match index {
-        KeyIndex::Firsts(firsts) => {
+        ClassIndex::Firsts(firsts) => {
             let keys = values;
             Ok(firsts.get(&NumberedTerm { class, keys }).copied())
         }
-        KeyIndex::Objects(objects) => match key_of(target.program, class) {
+        ClassIndex::Objects(objects) => match key_of(target.program, class) {
             Some(props) => first_holding(target, objects.as_slice(), props, values.as_slice()),
             None => Ok(None),
         },

@@ -1,0 +1,4 @@
+pub mod OrderLaws
+pub mod RangeLaws
+pub mod EntryLaws
+pub mod HolderLaws

@@ -1,0 +1,5 @@
+pub mod ValueOrder
+pub mod ValueOrderLaws
+pub mod HolderOrder
+pub mod Holders
+pub mod Entries
