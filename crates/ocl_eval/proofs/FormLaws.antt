@@ -28,7 +28,8 @@ use Rattle.qvtr_semantics.specs.Iterators.{iterated, collect}
 use Rattle.qvtr_semantics.specs.Objects.{extent, property}
 use Rattle.qvtr_semantics.specs.Expressions.{Scope, Meaning, Operated, Called, node_meaning, call_meaning, typed_meaning, infix_meaning, postfix_meaning, variable, with_variable, all_operated, all_called, negation, negated, chosen, literal, in_scope, each, with_datum, with_collection, operation, class_operation, on_collection}
 use Rattle.ocl_eval.specs.declared.world.World.{World}
-use Rattle.ocl_eval.specs.Worlds.{setting_of, queries_of, meaning_of, node_of, call_of, infix_of, postfix_of}
+use Rattle.ocl_eval.specs.declared.reached.Reached.{Reached}
+use Rattle.ocl_eval.specs.Worlds.{setting_of, queries_of, meaning_of, node_of, call_of, infix_of, postfix_of, reached_in}
 
 -- ---- expressions
 
@@ -74,9 +75,13 @@ pub chain_is : (w : World) (part : Typed) (scope : Scope) (out x : Out) (first :
 chain_is w part scope out x first rest e ls s1 is he hl hs hx same =
     same ∙ ap (λ s. all_operated s x (map (infix_of w) ls)) hs ∙ ap (λ y. all_operated scope y (map (infix_of w) ls)) (hx ∙ ap (λ y. meaning_of w y scope) he) ∙ ap (λ y. all_operated scope (meaning_of w first scope) (map (infix_of w) y)) hl ∙ sym (ap (λ (m : Meaning). m scope) (formed w part (of.Chain first rest) (nodes.Chain first rest) is (nodes.rolls-Chain first rest)))
 
-pub calls_is : (w : World) (part : Typed) (scope : Scope) (out x : Out) (first : Typed) (rest : List TypedPostfix) (e : Typed) (ls : List TypedPostfix) (s1 : Scope) → part.node ≡ nodes.Calls first rest → e ≡ first → ls ≡ rest → s1 ≡ scope → x ≡ meaning_of w e scope → out ≡ all_called s1 x (map (postfix_of w) ls) → out ≡ meaning_of w part scope
+calls_is : (w : World) (part : Typed) (scope : Scope) (out x : Out) (first : Typed) (rest : List TypedPostfix) (e : Typed) (ls : List TypedPostfix) (s1 : Scope) → part.node ≡ nodes.Calls first rest → e ≡ first → ls ≡ rest → s1 ≡ scope → x ≡ meaning_of w e scope → out ≡ all_called s1 x (map (postfix_of w) ls) → out ≡ meaning_of w part scope
 calls_is w part scope out x first rest e ls s1 is he hl hs hx same =
     same ∙ ap (λ s. all_called s x (map (postfix_of w) ls)) hs ∙ ap (λ y. all_called scope y (map (postfix_of w) ls)) (hx ∙ ap (λ y. meaning_of w y scope) he) ∙ ap (λ y. all_called scope (meaning_of w first scope) (map (postfix_of w) y)) hl ∙ sym (ap (λ (m : Meaning). m scope) (formed w part (of.Calls first rest) (nodes.Calls first rest) is (nodes.rolls-Calls first rest)))
+
+pub calls_from : (w : World) (part : Typed) (scope : Scope) (out : Out) (x : Reached) (first : Typed) (rest : List TypedPostfix) (e : Typed) (ls : List TypedPostfix) (s1 : Scope) → part.node ≡ nodes.Calls first rest → e ≡ first → ls ≡ rest → s1 ≡ scope → reached_in scope x ≡ meaning_of w e scope → out ≡ all_called s1 (reached_in s1 x) (map (postfix_of w) ls) → out ≡ meaning_of w part scope
+calls_from w part scope out x first rest e ls s1 is he hl hs hx same =
+    calls_is w part scope out (reached_in s1 x) first rest e ls s1 is he hl hs (ap (λ s. reached_in s x) hs ∙ hx) same
 
 pub not_is : (w : World) (part : Typed) (scope : Scope) (out x : Out) (operand : Typed) (e : Typed) → part.node ≡ nodes.Not operand → e ≡ operand → x ≡ meaning_of w e scope → out ≡ negation x → out ≡ meaning_of w part scope
 not_is w part scope out x operand e is he hx same = same ∙ ap negation (hx ∙ ap (λ y. meaning_of w y scope) he) ∙ sym (ap (λ (m : Meaning). m scope) (formed w part (of.Not operand) (nodes.Not operand) is (nodes.rolls-Not operand)))

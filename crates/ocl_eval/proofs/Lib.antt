@@ -1,3 +1,4 @@
+pub mod IndexLaws
 pub mod DataOrderLaws
 pub mod UniqueLaws
 pub mod ProgressLaws
@@ -18,4 +19,5 @@ pub mod FormLaws
 pub mod CollectLaws
 pub mod Measures
 pub mod ScopeLaws
+pub mod ReachLaws
 pub mod Refuting

@@ -28,6 +28,14 @@ among-append e (d ∷ ds) es = ap (λ b. same_datum e d || b) (among-append e ds
     grouped true b c = refl
     grouped false b c = refl
 
+pub without_absent : (d : Datum) (ds : List Datum) → is_among d ds ≡ false → ds ≡ without d ds
+without_absent d [] h = refl
+without_absent d (x ∷ xs) h = go (same_datum d x) refl (without_absent d xs) h
+  where
+    go : (a : Bool) → same_datum d x ≡ a → (is_among d xs ≡ false → xs ≡ without d xs) → a || is_among d xs ≡ false → x ∷ xs ≡ cond (not (same_datum d x)) (x ∷ without d xs) (without d xs)
+    go true p more h = absurd (cc)
+    go false p more h = ap (λ ys. x ∷ ys) (more h) ∙ ap (λ b. cond (not b) (x ∷ without d xs) (without d xs)) (sym p)
+
 among-without : (e d : Datum) (ds : List Datum) → is_among e (without d ds) ≡ not (same_datum d e) && is_among e ds
 among-without e d [] = none (same_datum d e)
   where

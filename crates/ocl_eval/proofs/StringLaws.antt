@@ -1,11 +1,11 @@
 -- The characters of words and numbers, and the length of two texts together.
 use Rattle.std.proofs.Common.{◌≡◌, ℕ, ◌<◌, ◌≤◌, List, ◌++◌, codes, length, refl, arith, length-append, Bool, true, false}
-use Rattle.std.specs.Prelude.{ℤ, nat_le, ◌-◌, ◌&&◌, encode_utf8_all, FitsSigned}
+use Rattle.std.specs.Prelude.{ℤ, nat_le, ◌-◌, FitsSigned}
 use Rattle.std.specs.Int.{w64}
 use Rattle.std.specs.Fmt.{signed_decimal}
 use Rattle.std.specs.Str.{chars}
-use Rattle.std.proofs.lemmas.Bool.{le-leb, lt-leb, leb-true, leb-false, and_parts}
-use Rattle.std.proofs.lemmas.Str.{chars-IsAscii, length-le-encodes}
+use Rattle.std.proofs.lemmas.Bool.{le-leb, lt-leb, leb-true, leb-false}
+use Rattle.std.proofs.lemmas.Str.{chars-IsAscii}
 use Rattle.std.proofs.lemmas.Fmt.{IsAscii-signed}
 
 pub true_characters : chars (codes "true") ≡ codes "true"

@@ -1,4 +1,5 @@
 pub mod Counted
+pub mod Indexes
 pub mod Lending
 pub mod Operations
 pub mod Order

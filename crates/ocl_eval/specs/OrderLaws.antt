@@ -1,32 +1,28 @@
 -- The order of data is total, is that of `is_before`, and ties exactly where two data are the same.
-use Rattle.std.proofs.Common.{◌≡◌, ℕ, Bool, true, false, cond, List, [], refl, sym, ◌∙◌, ap, arith, subst}
-use Rattle.std.specs.Prelude.{◌&&◌, ◌||◌, ◌==◌, nat_lt, int_lt, ℤ, pos, not}
+use Rattle.std.proofs.Common.{◌≡◌, ℕ, Bool, true, false, cond, refl, sym, ◌∙◌, ap, arith, subst}
+use Rattle.std.specs.Prelude.{◌&&◌, ◌||◌, ◌==◌, nat_lt, int_lt, ℤ, not}
 use Rattle.std.specs.Bool.{beq}
-use Rattle.std.specs.Ordering.{nat_cmp, int_cmp, bool_cmp, int_eq, ordering_then, ordering_reverse, is_lt, is_eq, on, then_cmp, eq_by_cmp}
+use Rattle.std.specs.Ordering.{nat_cmp, bool_cmp, int_eq, ordering_then, ordering_reverse, is_lt, is_eq, on, then_cmp, eq_by_cmp}
 use Rattle.std.specs.Cmp.{IsTotalOrder, IsEquivalence, both_ways}
 use Rattle.std.specs.Cmp.Lexicographic.{bytes_decides}
 use Rattle.std.specs.declared.cmp.Ordering.{Ordering}
 use Rattle.std.specs.declared.cmp.Ordering.TheVariants.{Less, Equal, Greater}
-use Rattle.std.proofs.lemmas.Cmp.{on_total, then_total, nat_cmp_total, int_cmp_total}
+use Rattle.std.proofs.lemmas.Cmp.{on_total, then_total, nat_cmp_total}
 use Rattle.std.proofs.lemmas.Bool.{ltb-true, eqb-true, eq-eqb, ne_eqb, and_parts, and_from, false≢true}
 use Rattle.std.proofs.lemmas.Bool.Decides.{Decides-int_eq}
-use Rattle.mof_metamodel.specs.Characters.{text_cmp}
-use Rattle.mof_metamodel.specs.TextLaws.{texts_total, text_ties}
+use Rattle.mof_metamodel.specs.TextLaws.{text_ties}
 use Rattle.mof_metamodel.specs.declared.desc.EnumId.{EnumId}
 use Rattle.object_tables.specs.declared.value.ObjId.{ObjId}
 use Rattle.object_tables.specs.declared.value.Value.{Value}
 use Rattle.object_tables.specs.declared.value.Value.TheVariants as values
 use Rattle.qvtr_semantics.specs.declared.datum.Datum.{Datum}
 use Rattle.qvtr_semantics.specs.declared.datum.Datum.TheVariants.{Obj, Val}
-use Rattle.qvtr_semantics.specs.Data.{kind_number, same_value, same_datum, is_value_before, is_before}
-use Rattle.ocl_eval.specs.Order.{value_order, datum_order}
+use Rattle.qvtr_semantics.specs.Data.{same_value, same_datum, is_value_before, is_before}
+use Rattle.key_index.specs.ValueOrder.{value_order}
+use Rattle.key_index.specs.ValueOrderLaws.{then_equal, values_total}
+use Rattle.ocl_eval.specs.Order.{datum_order}
 
 -- ---- comparisons in turn
-
-then_equal : (o : Ordering) → ordering_then o Equal ≡ o
-then_equal Less = refl
-then_equal Equal = refl
-then_equal Greater = refl
 
 lt_in_turn : (a b : Bool) (o : Ordering) → is_lt (ordering_then (cond a Less (cond b Equal Greater)) o) ≡ a || (b && is_lt o)
 lt_in_turn true b o = refl
@@ -146,90 +142,27 @@ abbrev model_key : Datum → ℕ
 model_key (Obj m o) = m
 model_key (Val m v) = m
 
-abbrev kind_key : Datum → ℕ
-kind_key (Obj m o) = 0
-kind_key (Val m v) = kind_number v
+abbrev object_key : Datum → ℕ
+object_key (Obj m o) = o.0
+object_key (Val m v) = 0
 
-abbrev first_of : Value → ℕ
-first_of (values.Str s) = 0
-first_of (values.Int i) = 0
-first_of (values.Bool b) = cond b 1 0
-first_of (values.Lit e n) = e.0
-
-abbrev first_key : Datum → ℕ
-first_key (Obj m o) = o.0
-first_key (Val m v) = first_of v
-
-abbrev second_of : Value → ℕ
-second_of (values.Str s) = 0
-second_of (values.Int i) = 0
-second_of (values.Bool b) = 0
-second_of (values.Lit e n) = n
-
-abbrev second_key : Datum → ℕ
-second_key (Obj m o) = 0
-second_key (Val m v) = second_of v
-
-abbrev text_in : Value → List ℕ
-text_in (values.Str s) = s
-text_in (values.Int i) = []
-text_in (values.Bool b) = []
-text_in (values.Lit e n) = []
-
-abbrev text_key : Datum → List ℕ
-text_key (Obj m o) = []
-text_key (Val m v) = text_in v
-
-abbrev number_in : Value → ℤ
-number_in (values.Str s) = pos 0
-number_in (values.Int i) = i
-number_in (values.Bool b) = pos 0
-number_in (values.Lit e n) = pos 0
-
-abbrev number_key : Datum → ℤ
-number_key (Obj m o) = pos 0
-number_key (Val m v) = number_in v
-
-abbrev later_keys : Datum → Datum → Ordering
-later_keys = then_cmp (on first_key nat_cmp) (then_cmp (on second_key nat_cmp) (then_cmp (on text_key text_cmp) (on number_key int_cmp)))
+abbrev value_key : Datum → Value
+value_key (Obj m o) = values.Bool false
+value_key (Val m v) = v
 
 abbrev keyed_order : Datum → Datum → Ordering
-keyed_order = then_cmp (on is_value_key nat_cmp) (then_cmp (on model_key nat_cmp) (then_cmp (on kind_key nat_cmp) later_keys))
+keyed_order = then_cmp (on is_value_key nat_cmp) (then_cmp (on model_key nat_cmp) (then_cmp (on object_key nat_cmp) (on value_key value_order)))
 
 keyed_total : IsTotalOrder keyed_order
 keyed_total =
-    then_total (on_total is_value_key nat_cmp_total) (then_total (on_total model_key nat_cmp_total) (then_total (on_total kind_key nat_cmp_total)
-    (then_total (on_total first_key nat_cmp_total) (then_total (on_total second_key nat_cmp_total) (then_total (on_total text_key texts_total) (on_total number_key int_cmp_total))))))
-
-bool_keyed : (b c : Bool) → bool_cmp b c ≡ ordering_then (nat_cmp (cond b 1 0) (cond c 1 0)) Equal
-bool_keyed true true = refl
-bool_keyed true false = refl
-bool_keyed false true = refl
-bool_keyed false false = refl
-
-value_keyed : (p q : ℕ) (v w : Value) → ordering_then (nat_cmp p q) (value_order v w) ≡ keyed_order (Val p v) (Val q w)
-value_keyed p q (values.Str s) (values.Str t) = ap (ordering_then (nat_cmp p q)) (sym (then_equal (text_cmp s t)))
-value_keyed p q (values.Str s) (values.Int j) = refl
-value_keyed p q (values.Str s) (values.Bool c) = refl
-value_keyed p q (values.Str s) (values.Lit f k) = refl
-value_keyed p q (values.Int i) (values.Str t) = refl
-value_keyed p q (values.Int i) (values.Int j) = refl
-value_keyed p q (values.Int i) (values.Bool c) = refl
-value_keyed p q (values.Int i) (values.Lit f k) = refl
-value_keyed p q (values.Bool b) (values.Str t) = refl
-value_keyed p q (values.Bool b) (values.Int j) = refl
-value_keyed p q (values.Bool b) (values.Bool c) = ap (ordering_then (nat_cmp p q)) (bool_keyed b c)
-value_keyed p q (values.Bool b) (values.Lit f k) = refl
-value_keyed p q (values.Lit e n) (values.Str t) = refl
-value_keyed p q (values.Lit e n) (values.Int j) = refl
-value_keyed p q (values.Lit e n) (values.Bool c) = refl
-value_keyed p q (values.Lit e n) (values.Lit f k) = ap (λ o. ordering_then (nat_cmp p q) (ordering_then (nat_cmp e.0 f.0) o)) (sym (then_equal (nat_cmp n k)))
+    then_total (on_total is_value_key nat_cmp_total)
+    (then_total (on_total model_key nat_cmp_total) (then_total (on_total object_key nat_cmp_total) (on_total value_key values_total)))
 
 keyed : (d e : Datum) → datum_order d e ≡ keyed_order d e
 keyed (Obj m o) (Obj n p) = ap (ordering_then (nat_cmp m n)) (sym (then_equal (nat_cmp o.0 p.0)))
 keyed (Obj m o) (Val n w) = refl
 keyed (Val m v) (Obj n p) = refl
-keyed (Val m v) (Val n w) = value_keyed m n v w
+keyed (Val m v) (Val n w) = refl
 
 pub order_total : IsTotalOrder datum_order
 order_total = record {

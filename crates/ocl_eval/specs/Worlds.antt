@@ -13,8 +13,10 @@ use Rattle.qvtr_semantics.specs.declared.out.Out.{Out}
 use Rattle.qvtr_semantics.specs.declared.out.Out.TheVariants.{One}
 use Rattle.qvtr_semantics.specs.Outs.{and_then}
 use Rattle.qvtr_semantics.specs.Objects.{Setting, ObjectClass}
-use Rattle.qvtr_semantics.specs.Expressions.{Scope, Meaning, Operated, Called, Queries, setting, queries_within, meaning, node_meaning, call_meaning, typed_meaning, infix_meaning, postfix_meaning}
+use Rattle.qvtr_semantics.specs.Expressions.{Scope, Meaning, Operated, Called, Queries, variable, setting, queries_within, meaning, node_meaning, call_meaning, typed_meaning, infix_meaning, postfix_meaning}
 use Rattle.ocl_eval.specs.declared.world.World.{World}
+use Rattle.ocl_eval.specs.declared.reached.Reached.{Reached}
+use Rattle.ocl_eval.specs.declared.reached.Reached.TheVariants.{Own, Variable}
 
 abbrev pub setting_of : World → Setting
 setting_of w = setting w.program.now w.models.now
@@ -40,6 +42,11 @@ postfix_of w = fold-TypedPostfix Called Meaning Meaning Operated Called (call_me
 -- the values of the body behind these variables, one for each element
 abbrev pub each_behind : Meaning → Scope → List Datum → List Out
 each_behind body scope ds = map (λ d. body (scope ++ One d ∷ [])) ds
+
+-- the value that is reached
+abbrev pub reached_in : Scope → Reached → Out
+reached_in scope (Own x) = x
+reached_in scope (Variable number) = variable scope number
 
 -- the metamodel and the class of a live object of these models
 abbrev pub class_in : List ModelData → Datum → Option ObjectClass

@@ -55,6 +55,18 @@ fn without(alloc: Global, datum: &Datum, elements: &[Datum]) -> Result<Seq<Datum
     Ok(others)
 }
 
+// the same; where each is another datum none is copied
+#[tactic(auto, using(crate::proofs::MemberLaws::without_absent))]
+fn remaining(alloc: Global, datum: &Datum, elements: Seq<Datum>) -> Result<Seq<Datum>, NoMemory>
+    ensures { IfOk result (λ others. others ≡ without datum.now elements) }
+{
+    if is_among(datum, elements.as_slice()) {
+        without(alloc, datum, elements.as_slice())
+    } else {
+        Ok(elements)
+    }
+}
+
 /// `c->size()` (OCL 2.4, section 11.7.1).
 #[tactic(auto, using(crate::proofs::IntegerLaws::unfit))]
 pub fn size(kind: Kind, elements: &[Datum]) -> Out
@@ -166,7 +178,7 @@ pub fn append(
     match kind {
         Kind::Sequence => with_last(kind, elements, datum),
         Kind::OrderedSet => {
-            let others = without(alloc, &datum, elements.as_slice())?;
+            let others = remaining(alloc, &datum, elements)?;
             with_last(kind, others, datum)
         }
         _ => Ok(Out::Invalid),
@@ -183,27 +195,29 @@ fn with_last(kind: Kind, elements: Seq<Datum>, datum: Datum) -> Result<Out, NoMe
 }
 
 /// `c->prepend(datum)`: in an OrderedSet an element that is present moves to the front.
-pub fn prepend(alloc: Global, kind: Kind, elements: &[Datum], datum: Datum) -> Result<Out, NoMemory>
-    ensures { IfOk result (λ out. out ≡ prepend (record { kind = kind; elements = elements.now }) datum) }
+pub fn prepend(
+    alloc: Global,
+    kind: Kind,
+    elements: Seq<Datum>,
+    datum: Datum,
+) -> Result<Out, NoMemory>
+    ensures { IfOk result (λ out. out ≡ prepend (record { kind = kind; elements = elements }) datum) }
 {
     match kind {
-        Kind::Sequence => with_first(alloc, kind, elements, datum),
+        Kind::Sequence => with_first(kind, elements, datum),
         Kind::OrderedSet => {
-            let others = without(alloc, &datum, elements)?;
-            with_first(alloc, kind, others.as_slice(), datum)
+            let others = remaining(alloc, &datum, elements)?;
+            with_first(kind, others, datum)
         }
         _ => Ok(Out::Invalid),
     }
 }
 
 // the datum and behind it the elements
-fn with_first(alloc: Global, kind: Kind, elements: &[Datum], datum: Datum) -> Result<Out, NoMemory>
-    ensures { IfOk result (λ out. out ≡ bounded kind (datum ∷ elements.now)) }
+fn with_first(kind: Kind, elements: Seq<Datum>, datum: Datum) -> Result<Out, NoMemory>
+    ensures { IfOk result (λ out. out ≡ bounded kind (datum ∷ elements)) }
 {
-    let mut all = Seq::new(alloc);
-    all.push(datum)?;
-    for element in elements {
-        all.push(duplicate_datum(alloc, element)?)?;
-    }
-    Ok(bounded(kind, all))
+    let mut all = elements.into_vec();
+    all.insert(0, datum)?;
+    Ok(bounded(kind, Seq::from_vec(all)))
 }

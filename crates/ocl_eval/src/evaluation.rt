@@ -5,11 +5,11 @@ ghost use Rattle.qvtr_semantics.specs.declared.out.Out.TheVariants.{One};
 ghost use Rattle.object_tables.specs.declared.value.Value.TheVariants.{Str};
 ghost use Rattle.qvtr_semantics.specs.declared.datum.Datum.TheVariants.{Val};
 ghost use Rattle.qvtr_semantics.specs.Outs.{boolean_of};
-ghost use Rattle.qvtr_semantics.specs.Expressions.{on_collection as on_collection_of, with_variable, chosen, all_operated, all_called, in_scope, each, with_collection, bound_value, scope_of, value, value_for, is_true};
+ghost use Rattle.qvtr_semantics.specs.Expressions.{on_collection as on_collection_of, with_variable, chosen, all_operated, all_called, in_scope, each, with_collection, variable as value_of, value, value_for, is_true};
 ghost use Rattle.qvtr_semantics.specs.Equality.{is_known_true as known_true};
 ghost use Rattle.qvtr_semantics.specs.Iterators.{iterated};
 ghost use Rattle.ocl_eval.specs.Progress.{advanced};
-ghost use Rattle.ocl_eval.specs.Worlds.{setting_of, queries_of, meaning_of, call_of, infix_of, postfix_of, each_behind};
+ghost use Rattle.ocl_eval.specs.Worlds.{setting_of, queries_of, meaning_of, call_of, infix_of, postfix_of, each_behind, reached_in};
 
 use crate::classes::{class_operation, extent};
 use crate::datum::duplicate_datum;
@@ -22,6 +22,8 @@ use crate::operations::operation;
 use crate::operators::{negated, negation, operated};
 use crate::outs::{boolean, boolean_of};
 use crate::progress::{Progress, iterator_result};
+use crate::reach::Reach;
+use crate::reached::Reached;
 use crate::running::Running;
 use crate::scope::Scope;
 use crate::world::World;
@@ -33,6 +35,7 @@ use qv_syntax::{
 };
 use qvtr_semantics::{Binding, Datum, Out};
 use std::alloc::Global;
+use std::mem;
 
 /// A String as it is written.
 fn string_literal(alloc: Global, text: &Literal) -> Result<Out, NoMemory>
@@ -46,7 +49,7 @@ fn string_literal(alloc: Global, text: &Literal) -> Result<Out, NoMemory>
 #[tactic(auto, using(crate::proofs::ScopeLaws::left_again))]
 fn eval_body(
     world: &World<'_, '_>,
-    scope: &mut Scope,
+    scope: &mut Reach<'_>,
     value: Out,
     body: &Typed,
 ) -> Result<Out, NoMemory>
@@ -64,7 +67,7 @@ fn eval_body(
 #[tactic(auto, using(crate::proofs::ScopeLaws::restored))]
 fn eval_let(
     world: &World<'_, '_>,
-    scope: &mut Scope,
+    scope: &mut Reach<'_>,
     variable: u32,
     value: &Typed,
     body: &Typed,
@@ -83,7 +86,7 @@ fn eval_let(
 #[cycle(evaluation)]
 fn eval_if(
     world: &World<'_, '_>,
-    scope: &mut Scope,
+    scope: &mut Reach<'_>,
     condition: &Typed,
     one: &Typed,
     other: &Typed,
@@ -101,7 +104,11 @@ fn eval_if(
 
 /// The values of a list of expressions.
 #[cycle(evaluation)]
-fn eval_all(world: &World<'_, '_>, scope: &mut Scope, parts: &[Typed]) -> Result<Seq<Out>, NoMemory>
+fn eval_all(
+    world: &World<'_, '_>,
+    scope: &mut Reach<'_>,
+    parts: &[Typed],
+) -> Result<Seq<Out>, NoMemory>
     ensures value { IfOk result (λ outs. outs ≡ in_scope scope.old (map (meaning_of world.now) parts.now)) }
     ensures scope { OnOk result (scope.new ≡ scope.old) }
 {
@@ -118,7 +125,7 @@ fn eval_all(world: &World<'_, '_>, scope: &mut Scope, parts: &[Typed]) -> Result
 #[tactic(auto, using(crate::proofs::FormLaws::infix_is))]
 fn eval_links(
     world: &World<'_, '_>,
-    scope: &mut Scope,
+    scope: &mut Reach<'_>,
     x: Out,
     links: &[TypedInfix],
 ) -> Result<Out, NoMemory>
@@ -133,30 +140,87 @@ fn eval_links(
     Ok(reached.into_out())
 }
 
+/// The value on which something is called. A variable isn't copied.
+#[cycle(evaluation)]
+#[tactic(auto, using(crate::proofs::FormLaws::variable_is))]
+fn eval_start(
+    world: &World<'_, '_>,
+    scope: &mut Reach<'_>,
+    part: &Typed,
+) -> Result<Reached, NoMemory>
+    ensures value { IfOk result (λ x. reached_in scope.old x ≡ meaning_of world.now part.now scope.old) }
+    ensures scope { OnOk result (scope.new ≡ scope.old) }
+{
+    if let Node::Variable { number } = &part.node {
+        return Ok(Reached::Variable(*number));
+    }
+    let out = eval_part(world, scope, part)?;
+    Ok(Reached::Own(Running::new(out)))
+}
+
 /// What is called on a value, one call after another.
 #[cycle(evaluation)]
 #[tactic(auto, using(crate::proofs::FormLaws::postfix_is))]
 fn eval_calls(
     world: &World<'_, '_>,
-    scope: &mut Scope,
-    x: Out,
+    scope: &mut Reach<'_>,
+    x: Reached,
     calls: &[TypedPostfix],
 ) -> Result<Out, NoMemory>
-    ensures value { IfOk result (λ out. out ≡ all_called scope.old x (map (postfix_of world.now) calls.now)) }
+    ensures value { IfOk result (λ out. out ≡ all_called scope.old (reached_in scope.old x) (map (postfix_of world.now) calls.now)) }
     ensures scope { OnOk result (scope.new ≡ scope.old) }
 {
-    let mut reached = Running::new(x);
+    let mut reached = x;
     for call in calls {
-        reached = eval_call(world, scope, reached, &call.call)?;
+        let out = eval_reached(world, scope, reached, &call.call)?;
+        reached = Reached::Own(out);
     }
-    Ok(reached.into_out())
+    scope.taken(world.alloc, reached)
+}
+
+/// What is called on a value that may be a variable's.
+#[cycle(evaluation)]
+fn eval_reached(
+    world: &World<'_, '_>,
+    scope: &mut Reach<'_>,
+    x: Reached,
+    call: &Call,
+) -> Result<Running, NoMemory>
+    ensures value { IfOk result (λ out. out ≡ call_of world.now call.now scope.old (reached_in scope.old x)) }
+    ensures scope { OnOk result (scope.new ≡ scope.old) }
+{
+    match x {
+        Reached::Own(x) => eval_call(world, scope, x, call),
+        Reached::Variable(number) => eval_on_variable(world, scope, number, call),
+    }
+}
+
+/// What is called on the value of a variable: an operation on a collection reads it where it stands.
+#[cycle(evaluation)]
+#[tactic(auto, using(crate::proofs::FormLaws::collection_is))]
+fn eval_on_variable(
+    world: &World<'_, '_>,
+    scope: &mut Reach<'_>,
+    number: u32,
+    call: &Call,
+) -> Result<Running, NoMemory>
+    ensures value { IfOk result (λ out. out ≡ call_of world.now call.now scope.old (value_of scope.old number)) }
+    ensures scope { OnOk result (scope.new ≡ scope.old) }
+{
+    if let Call::Collection { operation, args } = call {
+        let args = eval_all(world, scope, args.as_slice())?;
+        let out = scope.on_collection(world.alloc, number, *operation, args)?;
+        return Ok(Running::new(out));
+    }
+    let x = scope.variable(world.alloc, number)?;
+    eval_call(world, scope, Running::new(x), call)
 }
 
 /// What the values of the body, one for each element, come to so far.
 #[cycle(evaluation)]
 fn eval_each(
     world: &World<'_, '_>,
-    scope: &mut Scope,
+    scope: &mut Reach<'_>,
     begun: Progress,
     elements: &[Datum],
     body: &Typed,
@@ -178,7 +242,7 @@ fn eval_each(
 #[tactic(auto, using(crate::proofs::ScopeLaws::restored, crate::proofs::ScopeLaws::iterator_done))]
 fn eval_iterator(
     world: &World<'_, '_>,
-    scope: &mut Scope,
+    scope: &mut Reach<'_>,
     x: Out,
     iterator: IteratorKind,
     variable: u32,
@@ -203,7 +267,7 @@ fn eval_iterator(
 #[cycle(evaluation)]
 fn eval_collection(
     world: &World<'_, '_>,
-    scope: &mut Scope,
+    scope: &mut Reach<'_>,
     x: Out,
     operation: CollectionOperation,
     args: &[Typed],
@@ -225,7 +289,7 @@ fn eval_collection(
 #[tactic(auto, using(crate::proofs::FormLaws::property_is, crate::proofs::FormLaws::collect_property_is, crate::proofs::FormLaws::operation_is, crate::proofs::FormLaws::class_is, crate::proofs::FormLaws::collection_is, crate::proofs::FormLaws::iterator_is))]
 fn eval_call(
     world: &World<'_, '_>,
-    scope: &mut Scope,
+    scope: &mut Reach<'_>,
     x: Running,
     call: &Call,
 ) -> Result<Running, NoMemory>
@@ -293,7 +357,7 @@ fn call_query(world: &World<'_, '_>, query: u32, args: Seq<Out>) -> Result<Out, 
                 models: world.models,
                 calls: world.calls - 1,
             };
-            let mut scope = Scope::new(args);
+            let mut scope = Reach::of(Scope::new(args));
             eval_part(&inner, &mut scope, &query.body)
         }
         None => Ok(Out::Invalid),
@@ -302,8 +366,8 @@ fn call_query(world: &World<'_, '_>, query: u32, args: Seq<Out>) -> Result<Out, 
 
 /// The value of an expression, with these values of the variables in reach.
 #[cycle(evaluation)]
-#[tactic(auto, using(crate::proofs::FormLaws::number_is, crate::proofs::FormLaws::string_is, crate::proofs::FormLaws::bool_is, crate::proofs::FormLaws::null_is, crate::proofs::FormLaws::invalid_is, crate::proofs::FormLaws::enum_literal_is, crate::proofs::FormLaws::variable_is, crate::proofs::FormLaws::extent_is, crate::proofs::FormLaws::let_is, crate::proofs::FormLaws::chain_is, crate::proofs::FormLaws::calls_is, crate::proofs::FormLaws::not_is, crate::proofs::FormLaws::negated_is, crate::proofs::FormLaws::if_is, crate::proofs::FormLaws::coll_is, crate::proofs::FormLaws::query_is))]
-fn eval_part(world: &World<'_, '_>, scope: &mut Scope, part: &Typed) -> Result<Out, NoMemory>
+#[tactic(auto, using(crate::proofs::FormLaws::number_is, crate::proofs::FormLaws::string_is, crate::proofs::FormLaws::bool_is, crate::proofs::FormLaws::null_is, crate::proofs::FormLaws::invalid_is, crate::proofs::FormLaws::enum_literal_is, crate::proofs::FormLaws::variable_is, crate::proofs::FormLaws::extent_is, crate::proofs::FormLaws::let_is, crate::proofs::FormLaws::chain_is, crate::proofs::FormLaws::calls_from, crate::proofs::FormLaws::not_is, crate::proofs::FormLaws::negated_is, crate::proofs::FormLaws::if_is, crate::proofs::FormLaws::coll_is, crate::proofs::FormLaws::query_is))]
+fn eval_part(world: &World<'_, '_>, scope: &mut Reach<'_>, part: &Typed) -> Result<Out, NoMemory>
     ensures value { IfOk result (λ out. out ≡ meaning_of world.now part.now scope.old) }
     ensures scope { OnOk result (scope.new ≡ scope.old) }
 {
@@ -337,7 +401,7 @@ fn eval_part(world: &World<'_, '_>, scope: &mut Scope, part: &Typed) -> Result<O
             Ok(negated(&operand))
         }
         Node::Calls { of, calls } => {
-            let of = eval_part(world, scope, of.get())?;
+            let of = eval_start(world, scope, of.get())?;
             eval_calls(world, scope, of, calls.as_slice())
         }
         Node::If {
@@ -355,27 +419,6 @@ fn eval_part(world: &World<'_, '_>, scope: &mut Scope, part: &Typed) -> Result<O
             call_query(world, *query, args)
         }
     }
-}
-
-/// The value of a variable of a relation.
-fn bound_value(alloc: Global, value: &Option<Datum>) -> Result<Out, NoMemory>
-    ensures { IfOk result (λ out. out ≡ bound_value value.now) }
-{
-    match value {
-        Some(datum) => Ok(Out::One(duplicate_datum(alloc, datum)?)),
-        None => Ok(Out::Invalid),
-    }
-}
-
-/// The values of the variables of a relation.
-fn bound_values(alloc: Global, values: &[Option<Datum>]) -> Result<Seq<Out>, NoMemory>
-    ensures { IfOk result (λ outs. outs ≡ scope_of values.now) }
-{
-    let mut outs = Seq::new(alloc);
-    for value in values {
-        outs.push(bound_value(alloc, value)?)?;
-    }
-    Ok(outs)
 }
 
 /// The value of an expression (OCL 2.4, chapter 11) among the models of a program, with these values of the variables in reach, which
@@ -396,7 +439,10 @@ pub fn eval_in(
         models,
         calls: program.queries.len(),
     };
-    eval_part(&world, scope, typed)
+    let mut reach = Reach::of(mem::replace(scope, Scope::new(Seq::new(alloc))));
+    let out = eval_part(&world, &mut reach, typed)?;
+    *scope = reach.into_scope(alloc)?;
+    Ok(out)
 }
 
 /// The value of an expression (OCL 2.4, chapter 11) among the models of a program, where its first variables have the values of a
@@ -410,8 +456,14 @@ pub fn eval(
 ) -> Result<Out, NoMemory>
     ensures { IfOk result (λ out. out ≡ value_for program.now models.now typed.now binding.now.values) }
 {
-    let mut scope = Scope::new(bound_values(alloc, binding.values.as_slice())?);
-    eval_in(alloc, program, typed, models, &mut scope)
+    let world = World {
+        alloc,
+        program,
+        models,
+        calls: program.queries.len(),
+    };
+    let mut reach = Reach::over(alloc, binding.values.as_slice());
+    eval_part(&world, &mut reach, typed)
 }
 
 /// Whether the value of an expression is true.

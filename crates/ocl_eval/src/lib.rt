@@ -35,6 +35,8 @@ mod outs;
 mod progress;
 mod ranked;
 mod ranked_out;
+mod reach;
+mod reached;
 mod running;
 mod scope;
 mod spelling;

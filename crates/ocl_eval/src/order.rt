@@ -1,33 +1,10 @@
 ghost use Rattle.std.specs.Prelude.{◌≡◌};
-ghost use Rattle.qvtr_semantics.specs.Data.{is_before, kind_number};
-ghost use Rattle.ocl_eval.specs.Order.{value_order, datum_order};
+ghost use Rattle.qvtr_semantics.specs.Data.{is_before};
+ghost use Rattle.ocl_eval.specs.Order.{datum_order};
 
-use object_tables::Value;
+use key_index::value_order;
 use qvtr_semantics::Datum;
 use std::cmp::Ordering;
-
-fn kind_number(v: &Value) -> u8
-    ensures { result ≡ kind_number v.now }
-{
-    match v {
-        Value::Str(_) => 0,
-        Value::Int(_) => 1,
-        Value::Bool(_) => 2,
-        Value::Lit(..) => 3,
-    }
-}
-
-fn value_order(v: &Value, w: &Value) -> Ordering
-    ensures { result ≡ value_order v.now w.now }
-{
-    match (v, w) {
-        (Value::Str(s), Value::Str(t)) => s.cmp(t),
-        (Value::Int(i), Value::Int(j)) => i.cmp(j),
-        (Value::Bool(b), Value::Bool(c)) => b.cmp(c),
-        (Value::Lit(e, n), Value::Lit(f, k)) => e.0.cmp(&f.0).then(n.cmp(k)),
-        _ => kind_number(v).cmp(&kind_number(w)),
-    }
-}
 
 /// How two data stand in the order of values. They tie exactly where they are the same.
 pub fn datum_order(d: &Datum, e: &Datum) -> Ordering

@@ -55,6 +55,13 @@ impl Scope {
         self.values[number as usize] = value;
     }
 
+    /// The values.
+    pub(crate) fn into_values(self) -> Vec<Out>
+        ensures { result.items ≡ self }
+    {
+        self.values
+    }
+
     /// The value of a variable; one that has none is invalid.
     pub(crate) fn variable(&self, alloc: Global, number: u32) -> Result<Out, NoMemory>
         ensures { IfOk result (λ out. out ≡ variable self.now number) }

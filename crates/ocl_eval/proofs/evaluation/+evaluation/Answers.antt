@@ -19,7 +19,7 @@ call_query-returns-in-Some t c =
     let w = c.args.world.now in
     let found : slice_get w.program.now.queries c.args.query ≡ Some c.in-Some.query.now = sym c.in-Some.ensures in
     IfOk-weaker c.eval_part.result _ _
-    (λ out h. query_called w _ c.args.query c.in-Some.query.now c.args.args c.new-scope.result out found c.if-world-eq0.false refl c.new-scope.ensures h)
+    (λ out h. query_called w _ c.args.query c.in-Some.query.now c.args.args c.of-scope.result out found c.if-world-eq0.false refl (c.of-scope.ensures ∙ c.new.ensures) h)
     c.eval_part.ensures.value
 
 pub call_query-returns-in-None : goal.call_query-returns-in-None

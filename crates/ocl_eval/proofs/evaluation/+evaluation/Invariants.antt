@@ -7,7 +7,7 @@ use Rattle.qv_syntax.specs.declared.typed.TypedInfix.{size-TypedInfix}
 use Rattle.qv_syntax.specs.declared.typed.TypedPostfix.{size-TypedPostfix}
 use Rattle.qvtr_semantics.specs.Expressions.{all_operated, all_called, in_scope}
 use Rattle.ocl_eval.specs.Progress.{advanced}
-use Rattle.ocl_eval.specs.Worlds.{meaning_of, infix_of, postfix_of, each_behind}
+use Rattle.ocl_eval.specs.Worlds.{meaning_of, infix_of, postfix_of, each_behind, reached_in}
 use Rattle.ocl_eval.proofs.Measures.{left_in}
 use Rattle.ocl_eval.proofs.evaluation.+evaluation.Given as goal
 
@@ -33,6 +33,15 @@ decreases-eval_links l = left_in l.world.now + (4 * most size-TypedInfix l.links
 
 abbrev pub decreases-eval_calls : goal.decreases-eval_calls
 decreases-eval_calls l = left_in l.world.now + (4 * most size-TypedPostfix l.calls.now + 3)
+
+abbrev pub decreases-eval_start : goal.decreases-eval_start
+decreases-eval_start l = left_in l.world.now + (4 * size-Typed l.part.now + 2)
+
+abbrev pub decreases-eval_reached : goal.decreases-eval_reached
+decreases-eval_reached l = left_in l.world.now + (4 * size-Call l.call.now + 4)
+
+abbrev pub decreases-eval_on_variable : goal.decreases-eval_on_variable
+decreases-eval_on_variable l = left_in l.world.now + (4 * size-Call l.call.now + 3)
 
 abbrev pub decreases-eval_call : goal.decreases-eval_call
 decreases-eval_call l = left_in l.world.now + (4 * size-Call l.call.now + 2)
@@ -60,7 +69,7 @@ invariant-eval_links-loop-link l = (l.scope ≡ l.fn.scope)
 
 abbrev pub invariant-eval_calls-loop-call : goal.invariant-eval_calls-loop-call
 invariant-eval_calls-loop-call l = (l.scope ≡ l.fn.scope)
-    × (all_called l.fn.scope l.reached (map (postfix_of l.world) (drop l.call-index l.calls)) ≡ all_called l.fn.scope l.fn.x (map (postfix_of l.world) l.calls))
+    × (all_called l.fn.scope (reached_in l.fn.scope l.reached) (map (postfix_of l.world) (drop l.call-index l.calls)) ≡ all_called l.fn.scope (reached_in l.fn.scope l.fn.x) (map (postfix_of l.world) l.calls))
 
 abbrev pub invariant-eval_each-loop-element : goal.invariant-eval_each-loop-element
 invariant-eval_each-loop-element l = (l.scope ≡ l.fn.scope)
