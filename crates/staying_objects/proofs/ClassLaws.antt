@@ -12,9 +12,9 @@ use Rattle.qv_syntax.specs.declared.program.Var.{Var}
 use Rattle.qvtr_semantics.specs.Objects.{is_number_among}
 use Rattle.repair_semantics.specs.TargetItems.{class_in, class_of_variable, nested_variables}
 use Rattle.repair_semantics.specs.Deletions.{root_if_top, managed_variables, classes_in}
-use Rattle.staying_objects.specs.Marks.{is_marked}
+use Rattle.template_match.specs.Marks.{is_marked}
 use Rattle.staying_objects.specs.Classes.{class_if, classes_among}
-use Rattle.staying_objects.proofs.MarkLaws.{is_marked-table}
+use Rattle.template_match.proofs.MarkLaws.{is_marked-table}
 use Rattle.staying_objects.proofs.NestedLaws.{put_first}
 
 module _ (rel : Rel) where

@@ -12,12 +12,12 @@ use Rattle.object_tables.specs.Models.{class_at, IsLive, IsTop, IsContainedIn, I
 use Rattle.object_tables.proofs.ContainmentLemmas.{live-below}
 use Rattle.qvtr_semantics.specs.Objects.{conforms_if}
 use Rattle.repair_semantics.specs.Deletions.{is_unneeded, is_deleted_within}
-use Rattle.staying_objects.specs.Marks.{is_marked}
+use Rattle.template_match.specs.Marks.{is_marked}
 use Rattle.staying_objects.specs.declared.fate.Fate.{Fate}
 use Rattle.staying_objects.specs.declared.fate.Fate.TheVariants as fates
 use Rattle.staying_objects.specs.declared.repair.Repair.{Repair}
 use Rattle.staying_objects.specs.Fates.{target_of, classes_of, images_of, is_image, is_managed, is_deleted, first_fate, known_fate, is_going, IsOpen, IsFate, fate_at, AreFates}
-use Rattle.staying_objects.proofs.MarkLaws.{is_marked-table}
+use Rattle.template_match.proofs.MarkLaws.{is_marked-table}
 use Rattle.staying_objects.proofs.DeletedLaws.{contained, topmost, unneeded_goes, image_stays, open_up, open_top, deleted_up}
 
 module _ (r : Repair) where

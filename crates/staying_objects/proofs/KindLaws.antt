@@ -15,9 +15,9 @@ use Rattle.mof_metamodel.proofs.ReachLemmas.{conforms_through, lineage_exactly}
 use Rattle.qvtr_semantics.specs.Objects.{is_kind_of}
 use Rattle.ocl_eval.proofs.ClassLaws.{among_from, among_to}
 use Rattle.template_match.proofs.ListLaws.{any_from, any_at}
-use Rattle.staying_objects.specs.Marks.{is_marked}
+use Rattle.template_match.specs.Marks.{is_marked}
 use Rattle.staying_objects.specs.Kinds.{is_kind_of_any, AreKinds, AddsKinds}
-use Rattle.staying_objects.proofs.MarkLaws.{is_marked-table}
+use Rattle.template_match.proofs.MarkLaws.{is_marked-table}
 
 -- ---- a class and those that inherit from it
 

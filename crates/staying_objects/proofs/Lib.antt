@@ -1,4 +1,3 @@
-pub mod MarkLaws
 pub mod KindLaws
 pub mod NestedLaws
 pub mod ClassLaws

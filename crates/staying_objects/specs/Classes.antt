@@ -4,7 +4,7 @@ use Rattle.std.specs.List.{flat_map}
 use Rattle.std.specs.Option.{option_to_list}
 use Rattle.qv_syntax.specs.declared.program.Rel.{Rel}
 use Rattle.repair_semantics.specs.TargetItems.{class_of_variable}
-use Rattle.staying_objects.specs.Marks.{is_marked}
+use Rattle.template_match.specs.Marks.{is_marked}
 
 -- the class of an object variable that is marked
 abbrev pub class_if : Rel → List Bool → ℕ → List ℕ

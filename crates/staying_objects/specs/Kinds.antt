@@ -4,7 +4,7 @@ use Rattle.std.specs.List.{list_any}
 use Rattle.mof_metamodel.specs.declared.desc.MetaDesc.{MetaDesc}
 use Rattle.mof_metamodel.specs.Metamodels.{class_count}
 use Rattle.qvtr_semantics.specs.Objects.{is_kind_of}
-use Rattle.staying_objects.specs.Marks.{is_marked}
+use Rattle.template_match.specs.Marks.{is_marked}
 
 -- the class is one of these or inherits from one
 abbrev pub is_kind_of_any : MetaDesc → List ℕ → ℕ → Bool

@@ -1,4 +1,3 @@
-pub mod Marks
 pub mod Nested
 pub mod Classes
 pub mod Kinds

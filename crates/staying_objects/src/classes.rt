@@ -8,11 +8,11 @@ ghost use Rattle.repair_semantics.specs.TargetItems.{class_in, class_of_variable
 ghost use Rattle.repair_semantics.specs.Deletions.{classes_in, managed_classes};
 ghost use Rattle.staying_objects.specs.Classes.{class_if, classes_among};
 
-use crate::marks::{is_marked, variable_marks};
 use crate::nested::target_variables;
 use mof_metamodel::{ClassId, NoMemory, Seq};
 use qv_syntax::{Program, Rel, Ty};
 use std::alloc::Global;
+use template_match::marks::{is_marked, variable_marks};
 
 /// The class that a type is.
 fn class_in(ty: &Ty) -> Option<ClassId>

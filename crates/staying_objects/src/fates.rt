@@ -8,11 +8,12 @@ ghost use Rattle.staying_objects.specs.Fates.{target_of, classes_of, images_of, 
 
 use crate::fate::Fate;
 use crate::kinds::kinds_of;
-use crate::marks::{is_marked, object_marks};
+use crate::marks::object_marks;
 use crate::repair::Repair;
 use mof_metamodel::{NoMemory, Seq};
 use object_tables::ObjId;
 use std::alloc::Global;
+use template_match::marks::is_marked;
 
 /// Whether the number is that of an object of a managed class.
 fn is_managed(repair: &Repair<'_, '_>, kinds: &[bool], o: ObjId) -> bool

@@ -3,12 +3,12 @@ ghost use Rattle.std.specs.Prelude.{◌≡◌, ◌<◌, ◌||◌, ℕ, [], lengt
 ghost use Rattle.mof_metamodel.specs.Metamodels.{class_count};
 ghost use Rattle.mof_metamodel.specs.Tables.{class_numbers};
 ghost use Rattle.qvtr_semantics.specs.Objects.{is_kind_of};
-ghost use Rattle.staying_objects.specs.Marks.{is_marked};
+ghost use Rattle.template_match.specs.Marks.{is_marked};
 ghost use Rattle.staying_objects.specs.Kinds.{AreKinds, AddsKinds};
 
-use crate::marks::{is_marked, unmarked};
 use mof_metamodel::{ClassId, MetaModel, NoMemory};
 use std::alloc::Global;
+use template_match::marks::{is_marked, unmarked};
 
 /// Whether a class is another or inherits from it.
 fn is_kind_of(meta: &MetaModel, class: ClassId, other: ClassId) -> bool

@@ -1,5 +1,5 @@
 -- Sorted, each once, what the search finds is what is looked for; and what is looked for is what meets the source or the target.
-use Rattle.std.specs.Prelude.{◌≡◌, ◌⊎◌, ◌↔◌, List, [], ◌∷◌, length, Contains, AllPairs}
+use Rattle.std.specs.Prelude.{◌≡◌, ◌⊎◌, ◌↔◌, List, [], ◌∷◌, Contains, AllPairs}
 use Rattle.std.specs.Ordering.{ordering_reverse}
 use Rattle.std.specs.declared.cmp.Ordering.{Ordering}
 use Rattle.std.specs.declared.cmp.Ordering.TheVariants.{Less, Equal, Greater}
@@ -11,15 +11,16 @@ use Rattle.template_match.proofs.ListLaws.{contains_later}
 use Rattle.template_match.specs.Order.{values_order, binding_order}
 use Rattle.template_match.specs.Each.{IsEachOnce}
 use Rattle.template_match.specs.Problems.{Problem}
-use Rattle.template_match.specs.Search.{sought, search_from, values_of}
-use Rattle.template_match.specs.Posed.{IsPosed, IsSought}
+use Rattle.template_match.specs.Branches.{IsFound}
+use Rattle.template_match.specs.Search.{sought, values_of}
+use Rattle.template_match.specs.Posed.{IsSought}
 use Rattle.mof_metamodel.proofs.Facts.{contains_map}
 use Rattle.template_match.proofs.SideLaws.{meets_parts, valued}
 use Rattle.template_match.proofs.OrderLaws.{AreBound, values_total, less_is, ties_are, in_pairs}
-use Rattle.template_match.proofs.SearchLaws.{exact, one_binding}
+use Rattle.template_match.proofs.SearchLaws.{one_binding}
 
 -- a binding whose values are these
-binding_of : (bs : List Binding) (v : Values) → Contains (values_of bs) v → (b : Binding) × Contains bs b × (b.values ≡ v)
+pub binding_of : (bs : List Binding) (v : Values) → Contains (values_of bs) v → (b : Binding) × Contains bs b × (b.values ≡ v)
 binding_of [] v (k, within, is) = absurd (omega (arith, within))
 binding_of (b ∷ bs) v (zero, within, is) = (b, (zero, omega arith, refl), is)
 binding_of (b ∷ bs) v (suc k, within, is) =
@@ -40,14 +41,17 @@ one_or_less p roots a b one other = by (values_order (sought p) a b) (values_ord
     by o Equal is e f = inl (one_binding p roots a b one other (ties_are (sought p) a b (e ∙ is)))
     by o Greater is e f = inr (inl (less_is (sought p) a b (bound_in p roots a one) (bound_in p roots b other) (e ∙ is)))
 
-module _ (p : Problem) (roots : Values) (posed : IsPosed p roots) (places : length roots ≡ length p.rel.vars) (xs ys : List Binding)
-    (is : values_of xs ≡ search_from p (length roots) roots) (each : IsEachOnce (binding_order (sought p)) xs ys) where
+module _ (p : Problem) (roots : Values) (xs ys : List Binding) (is : IsFound p roots [] (values_of xs)) (each : IsEachOnce (binding_order (sought p)) xs ys) where
   found_sought : (x : Binding) → Contains xs x → IsSought p roots x.values
-  found_sought x c = (exact p roots posed places x.values).0 (subst (λ vs. Contains vs x.values) is (contains_map (λ b. b.values) xs x c))
+  found_sought x c = by ((is x.values).0 (contains_map (λ b. b.values) xs x c))
+    where
+      by : Contains [] x.values ⊎ IsSought p roots x.values → IsSought p roots x.values
+      by (inl (k, within, e)) = absurd (omega (arith, within))
+      by (inr whole) = whole
 
   kept : (b : Values) → IsSought p roots b → Contains (values_of ys) b
   kept b whole =
-      let x = binding_of xs b (subst (λ vs. Contains vs b) (sym is) ((exact p roots posed places b).1 whole)) in
+      let x = binding_of xs b ((is b).1 (inr whole)) in
       let y = each.all x.0 x.1 in
       let same : x.0.values ≡ y.0.values = one_binding p roots x.0.values y.0.values (found_sought x.0 x.1) (found_sought y.0 (each.only y.0 y.1))
       (ties_are (sought p) x.0.values y.0.values y.2) in

@@ -12,6 +12,10 @@ pub mod SearchLaws
 pub mod OrderLaws
 pub mod BindingLaws
 pub mod PublicLaws
-pub mod SearchForms
+pub mod AskedLaws
+pub mod HolderLaws
+pub mod ChoiceLaws
+pub mod MarkLaws
+pub mod OpenLaws
 pub mod PruneLaws
 pub mod Refuting

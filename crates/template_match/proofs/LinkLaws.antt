@@ -19,7 +19,6 @@ use Rattle.qv_syntax.specs.declared.typed.Call.TheOpen as nodes
 use Rattle.qv_syntax.specs.declared.typed.TypedInfix.{TypedInfix}
 use Rattle.qv_syntax.specs.declared.typed.TypedPostfix.{TypedPostfix}
 use Rattle.qvtr_semantics.specs.declared.datum.Datum.{Datum}
-use Rattle.qvtr_semantics.specs.declared.out.Out.TheVariants.{Invalid}
 use Rattle.qvtr_semantics.specs.Outs.{datum_of}
 use Rattle.qvtr_semantics.specs.Objects.{held_at}
 use Rattle.qvtr_semantics.specs.Expressions.{Queries, setting, queries_within, scope_of, variable, value_for}
@@ -45,7 +44,7 @@ bound_at (o ∷ b) (suc v) = bound_at b v
 some_same : (x y : ℕ) → Some x ≡ Some y → x ≡ y
 some_same x y e = cc
 
-alone_by : (d : nodes.Node-F Call Node Typed TypedInfix TypedPostfix) (v : ℕ) → variable_alone d ≡ Some v → d ≡ nodes.Variable v
+pub alone_by : (d : nodes.Node-F Call Node Typed TypedInfix TypedPostfix) (v : ℕ) → variable_alone d ≡ Some v → d ≡ nodes.Variable v
 alone_by (nodes.Variable n) v h = ap (λ x. nodes.Variable x) (some_same n v h)
 alone_by (nodes.Number value) v h = absurd (cc)
 alone_by (nodes.Str value) v h = absurd (cc)

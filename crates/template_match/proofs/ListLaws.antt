@@ -1,10 +1,10 @@
 -- Lists: what holds of each element, where an element stands, and what `find` finds.
-use Rattle.std.specs.Prelude.{◌≡◌, zero, suc, Bool, true, false, List, [], ◌∷◌, ◌++◌, map, None, Some, Contains, ◌||◌, if◌then◌else◌}
+use Rattle.std.specs.Prelude.{◌≡◌, zero, suc, Bool, true, false, List, [], ◌∷◌, ◌++◌, None, Some, Contains, ◌||◌, if◌then◌else◌}
 use Rattle.std.specs.List.{AllByRecursion, find, list_any, list_all}
 use Rattle.std.proofs.Common.{refl, sym, ap, subst, ◌∙◌, arith}
 use Rattle.std.proofs.lemmas.List.Folds.{list_any_at}
 use Rattle.std.proofs.lemmas.Bool.{and_parts, true≢false}
-use Rattle.mof_metamodel.proofs.Facts.{contains_first, contains_map}
+use Rattle.mof_metamodel.proofs.Facts.{contains_first}
 use Rattle.std.proofs.lemmas.Option.{same_Some}
 
 pub contains_later : {X : Type 0} (x y : X) (ys : List X) → Contains ys x → Contains (y ∷ ys) x

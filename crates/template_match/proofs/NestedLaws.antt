@@ -14,7 +14,7 @@ use Rattle.qv_syntax.specs.declared.program.ItemValue.{ItemValue, fold-roll-Item
 use Rattle.qv_syntax.specs.declared.program.ItemValue.TheVariants as items
 use Rattle.qv_syntax.specs.declared.program.ItemValue.TheOpen as layers
 use Rattle.qv_syntax.specs.declared.typed.Typed.{Typed}
-use Rattle.qv_syntax.specs.declared.typed.Node.{Node, out-Node, out-roll-Node}
+use Rattle.qv_syntax.specs.declared.typed.Node.{out-Node, out-roll-Node}
 use Rattle.qv_syntax.specs.declared.typed.Node.TheVariants as forms
 use Rattle.qv_syntax.specs.declared.typed.Call.TheOpen as nodes
 use Rattle.qv_syntax.specs.Parts.{IsNested, HasItem}

@@ -1,7 +1,6 @@
--- Where a variable that is sought has no value yet, the next branch is for such a variable, and names the value that it has in each binding
--- that is looked for.
-use Rattle.std.specs.Prelude.{◌≡◌, ◌≢◌, ◌⊎◌, ◌<◌, ℕ, zero, suc, Bool, true, false, ◌==◌, not, List, [], ◌∷◌, length, Option, None, Some, is_some, slice_get, Contains}
-use Rattle.std.specs.List.{find}
+-- In each binding that is looked for a variable has one of the values that a link, a conjunct, an item or its class gives it; and where none of
+-- these gives an open variable values, no binding is looked for.
+use Rattle.std.specs.Prelude.{◌≡◌, ◌⊎◌, ◌<◌, ℕ, zero, suc, Bool, true, false, ◌==◌, not, List, [], ◌∷◌, length, Option, None, Some, is_some, slice_get, Contains}
 use Rattle.std.proofs.Common.{refl, sym, ap, subst, ◌∙◌, arith, inl, inr}
 use Rattle.std.proofs.lemmas.Bool.{and_parts, and_from, true≢false, eqb-true, eq-eqb, not-false}
 use Rattle.object_tables.specs.declared.value.ObjId.{ObjId}
@@ -15,26 +14,29 @@ use Rattle.qv_syntax.specs.Parts.{Names}
 use Rattle.qv_syntax.specs.Relations.{IsSourceDomain, IsTargetDomain, OccursInTemplates, OccursInClause, IsUniversal, IsDataVariable, Says, IsItemAlone, IsBound}
 use Rattle.qvtr_semantics.specs.declared.datum.Datum.{Datum}
 use Rattle.qvtr_semantics.specs.declared.datum.Datum.TheVariants.{Obj, Val}
-use Rattle.qvtr_semantics.specs.Outs.{and_then, datum_of}
+use Rattle.qvtr_semantics.specs.Outs.{datum_of}
 use Rattle.qvtr_semantics.specs.Objects.{held_at, is_number_among}
-use Rattle.qvtr_semantics.specs.Expressions.{setting}
+use Rattle.qvtr_semantics.specs.Expressions.{setting, value_for}
 use Rattle.qvtr_semantics.specs.Templates.{Values, value_at, has}
 use Rattle.qvtr_semantics.specs.Bindings.{is_model, is_datum_for, conjunct_holds, Extends}
 use Rattle.ocl_eval.proofs.ClassLaws.{among_from, among_to}
 use Rattle.template_match.specs.declared.side.Side.{Side}
 use Rattle.template_match.specs.declared.side.Side.TheVariants.{Source, Target}
 use Rattle.template_match.specs.declared.link.Link.{Link}
-use Rattle.template_match.specs.declared.branch.Branch.{Branch}
+use Rattle.template_match.specs.declared.candidates.Candidates.{Candidates}
 use Rattle.template_match.specs.Sides.{clause_of, is_of_side}
 use Rattle.template_match.specs.Ready.{is_ready}
 use Rattle.template_match.specs.Links.{side_links}
 use Rattle.template_match.specs.Problems.{Problem}
-use Rattle.template_match.specs.Search.{sought, conjuncts_in, is_open, usable_link, usable_saying, usable_conjunct, usable_variable, saying, extent_for, some_data, one_datum, objects_of, saying_branch, link_branch, object_branch, conjunct_branch, branch_by, branch, is_any_open}
+use Rattle.template_match.specs.Asked.{AskedValue, side_asked}
+use Rattle.template_match.specs.Branches.{TellsHolders, IsStuck}
+use Rattle.template_match.specs.Search.{sought, conjuncts_in, setting_in, is_vacant, is_open, is_any_open, usable_saying, usable_conjunct, saying, extent_for, some_data, one_datum, objects_of, data_in}
 use Rattle.template_match.specs.Posed.{HasValue, HasRoots, SeeksSource, Seeks, IsPosed, IsSought}
-use Rattle.template_match.proofs.ListLaws.{all_at, list_all_at, any_from, find_none, find_some}
+use Rattle.template_match.proofs.ListLaws.{all_at, list_all_at, any_from}
+use Rattle.template_match.proofs.AskedLaws.{Stands, domains_ask}
 use Rattle.template_match.proofs.LinkLaws.{Holds, domains_hold}
 use Rattle.template_match.proofs.NestedLaws.{alone_linked}
-use Rattle.template_match.proofs.ValueLaws.{some_datum, ready_value, known_if}
+use Rattle.template_match.proofs.ValueLaws.{some_datum, within_values, vacant_parts, vacant_from, ready_value, known_if}
 use Rattle.template_match.proofs.ReadyLaws.{ready_from_known}
 use Rattle.template_match.proofs.SideLaws.{Meets, meets_parts, Valued, valued, extended, data_type, no_extent}
 use Rattle.template_match.proofs.TellingLaws.{has_contains, no_slot, said, says_saying, says_names}
@@ -43,9 +45,6 @@ use Rattle.template_match.proofs.TellingLaws.{has_contains, no_slot, said, says_
 true_of : (x : Bool) → (x ≡ false → ⊥) → x ≡ true
 true_of true h = refl
 true_of false h = absurd (h refl)
-
-not_of : (x : Bool) → x ≡ false → not x ≡ true
-not_of x h = ap not h
 
 some_of : (o : Option Datum) (d : Datum) → o ≡ Some d → is_some o ≡ true
 some_of o d h = ap is_some h
@@ -99,14 +98,14 @@ module _ (p : Problem) (roots b a : Values) (posed : IsPosed p roots) (whole : I
       let found = value_of (value_at a v) h in
       found.1 ∙ ap (λ x. Some x) (some_datum found.0 d (sym (more v found.0 found.1) ∙ at))
 
-  opened : (v : ℕ) → Contains (sought p) v → is_some (value_at a v) ≡ false → is_open p a v ≡ true
-  opened v c h = and_from (is_number_among v (sought p)) (not (is_some (value_at a v))) (among_from v (sought p) c) (not_of (is_some (value_at a v)) h)
-
-  open_sought : (v : ℕ) → is_open p a v ≡ true → Contains (sought p) v
-  open_sought v h = among_to v (sought p) (and_parts (is_number_among v (sought p)) (not (is_some (value_at a v))) h).0
-
   value_in : (v : ℕ) → Contains (sought p) v → Valued p.program p.models p.rel b v
   value_in v c = valued p.program p.models p.rel (sought p) b v parts.have c
+
+  opened : (v : ℕ) → Contains (sought p) v → is_some (value_at a v) ≡ false → is_open p a v ≡ true
+  opened v c h =
+      let val = value_in v c in
+      let within : v < length a = subst (λ n. v < n) (sym long) (within_values b v val.value val.at) in
+      and_from (is_number_among v (sought p)) (is_vacant (slice_get a v)) (among_from v (sought p) c) (vacant_from a v within h)
 
   held : (l : Link) → Contains p.links l → Holds p.program p.models b l
   held l c =
@@ -116,58 +115,69 @@ module _ (p : Problem) (roots b a : Values) (posed : IsPosed p roots) (whole : I
   conjunct_held : (c : Conj) → Contains (conjuncts_in p) c → conjunct_holds p.program p.models b c ≡ true
   conjunct_held c within = list_all_at (conjunct_holds p.program p.models b) (conjuncts_in p) c parts.clause within
 
-  -- ---- what branches tell
+  -- ---- what names the value of a variable
 
-  -- the branch is for an open variable, and names its value
-  pub record IsTold (br : Branch) : Type 0 where
-    pub open_variable : is_open p a br.variable ≡ true
-    pub named : (d : Datum) → value_at b br.variable ≡ Some d → Contains br.candidates d
+  asked_held : (t : AskedValue) → Contains (side_asked p.side p.program p.rel) t → Stands p.program p.models b t
+  asked_held t c = all_at (Stands p.program p.models b) (side_asked p.side p.program p.rel) t (domains_ask p.program p.models b p.side p.rel.domains parts.domains) c
 
-  link_told : (l : Link) → Contains p.links l → usable_link p a l ≡ true → IsTold (link_branch p a l)
-  link_told l c h =
-      let both = and_parts (is_open p a l.variable) (is_some (value_at a l.holder)) h in
+  -- the slot of the object of a link
+  pub link_named : (l : Link) → Contains p.links l → (o : Datum) → value_at a l.holder ≡ Some o → (d : Datum) → value_at b l.variable ≡ Some d
+      → Contains (some_data (held_at (setting p.program p.models) o l.prop.0)) d
+  link_named l c o at d value =
       let holds = held l c in
-      let object : value_at a l.holder ≡ Some holds.0 = same_value l.holder holds.0 holds.1 both.1 in
-      record {
-        open_variable = both.0;
-        named = λ d at.
-            subst (λ o. Contains (some_data (and_then o (λ e. held_at (setting p.program p.models) e l.prop.0))) d) (sym object)
-            (has_contains (held_at (setting p.program p.models) holds.0 l.prop.0) d (sym (ap (has (held_at (setting p.program p.models) holds.0 l.prop.0)) at) ∙ holds.2));
-      }
+      let same : o ≡ holds.0 = some_datum o holds.0 (sym (more l.holder o at) ∙ holds.1) in
+      let slot = held_at (setting p.program p.models) holds.0 l.prop.0 in
+      subst (λ x. Contains (some_data (held_at (setting p.program p.models) x l.prop.0)) d) (sym same) (has_contains slot d (sym (ap (has slot) value) ∙ holds.2))
 
-  saying_told : (c : Conj) (o : Option (ℕ × Typed)) → Contains (conjuncts_in p) c → saying c ≡ o → usable_saying p a o ≡ true → IsTold (saying_branch p a o)
-  saying_told c None within says h = absurd (true≢false (sym h))
-  saying_told c (Some s) within says h =
-      let both = and_parts (is_open p a s.0) (is_ready a s.1) h in
-      record {
-        open_variable = both.0;
-        named = λ d at.
-            subst (λ o. Contains (one_datum (datum_of o)) d) (sym (ready_value p.program p.models s.1 a b long more both.1))
-            (said p.program p.models b c s.0 s.1 says (conjunct_held c within) d at);
-      }
+  holder_fits : (v : ℕ) (prop : ℕ) (o : Option Datum) (c : Candidates) → Contains (sought p) v → TellsHolders p v prop o c → (h : Datum) → value_at b v ≡ Some h
+      → has (held_at (setting p.program p.models) h prop) o ≡ true → (d : Datum) → value_at b v ≡ Some d → Contains (data_in (setting_in p) c) d
+  holder_fits v prop o c own tells h at has_it d value =
+      let val = value_in v own in
+      let same : val.value ≡ d = some_datum val.value d (sym val.at ∙ value) in
+      let other : h ≡ d = some_datum h d (sym at ∙ value) in
+      tells val.var d val.found (subst (λ x. is_datum_for (setting p.program p.models) val.var x ≡ true) same val.fits)
+      (subst (λ x. has (held_at (setting p.program p.models) x prop) o ≡ true) other has_it)
 
-  object_told_by : (v : ℕ) → Contains (sought p) v → is_open p a v ≡ true → is_some (extent_for (slice_get p.rel.vars v)) ≡ true
+  -- the objects at whose property the value of the variable of a link stands
+  pub partner_named : (l : Link) → Contains p.links l → Contains (sought p) l.holder → (o : Datum) → value_at a l.variable ≡ Some o
+      → (c : Candidates) → TellsHolders p l.holder l.prop.0 (Some o) c → (d : Datum) → value_at b l.holder ≡ Some d → Contains (data_in (setting_in p) c) d
+  partner_named l within own o at c tells d value =
+      let holds = held l within in
+      holder_fits l.holder l.prop.0 (Some o) c own tells holds.0 holds.1
+      (sym (ap (has (held_at (setting p.program p.models) holds.0 l.prop.0)) (more l.variable o at)) ∙ holds.2) d value
+
+  -- those at whose property the value of an expression of an item stands
+  pub asked_named : (t : AskedValue) → Contains (side_asked p.side p.program p.rel) t → Contains (sought p) t.holder → is_ready a t.value ≡ true
+      → (c : Candidates) → TellsHolders p t.holder t.prop.0 (datum_of (value_for p.program p.models t.value a)) c → (d : Datum) → value_at b t.holder ≡ Some d
+      → Contains (data_in (setting_in p) c) d
+  asked_named t within own ready c tells d value =
+      let stands = asked_held t within in
+      holder_fits t.holder t.prop.0 (datum_of (value_for p.program p.models t.value a)) c own tells stands.0 stands.1
+      (ap (λ x. has (held_at (setting p.program p.models) stands.0 t.prop.0) (datum_of x)) (ready_value p.program p.models t.value a b long more ready) ∙ stands.2) d value
+
+  -- the value of the expression of a conjunct
+  pub saying_named : (c : Conj) (v : ℕ) (e : Typed) → Contains (conjuncts_in p) c → saying c ≡ Some (v, e) → is_ready a e ≡ true → (d : Datum) → value_at b v ≡ Some d
+      → Contains (one_datum (datum_of (value_for p.program p.models e a))) d
+  saying_named c v e within says ready d at =
+      subst (λ o. Contains (one_datum (datum_of o)) d) (sym (ready_value p.program p.models e a b long more ready))
+      (said p.program p.models b c v e says (conjunct_held c within) d at)
+
+  object_by : (v : ℕ) → is_some (extent_for (slice_get p.rel.vars v)) ≡ true
       → (val : Valued p.program p.models p.rel b v) → (d : Datum) → val.value ≡ d → Contains (objects_of p.models (extent_for (slice_get p.rel.vars v))) d
-  object_told_by v c opens is val (Obj m o) e =
+  object_by v is val (Obj m o) e =
       let x = extended p.program p.models val.var m o (subst (λ d. is_datum_for (setting p.program p.models) val.var d ≡ true) e val.fits) in
       subst (λ q. Contains (objects_of p.models q) (Obj m o)) (sym (ap extent_for val.found ∙ x.is)) x.within
-  object_told_by v c opens is val (Val m w) e =
+  object_by v is val (Val m w) e =
       absurd (no_extent p.program p.models val.var m w (subst (λ d. is_datum_for (setting p.program p.models) val.var d ≡ true) e val.fits) (sym (ap (λ q. is_some (extent_for q)) val.found) ∙ is))
 
-  object_told : (v : ℕ) → Contains (sought p) v → usable_variable p a v ≡ true → IsTold (object_branch p (Some v))
-  object_told v c h =
-      let both = and_parts (is_open p a v) (is_some (extent_for (slice_get p.rel.vars v))) h in
-      let val = value_in v c in
-      record { open_variable = both.0; named = λ d at. object_told_by v c both.0 both.1 val d (some_datum val.value d (sym val.at ∙ at)) }
+  -- the objects of its class
+  pub object_named : (v : ℕ) → Contains (sought p) v → is_some (extent_for (slice_get p.rel.vars v)) ≡ true → (d : Datum) → value_at b v ≡ Some d
+      → Contains (objects_of p.models (extent_for (slice_get p.rel.vars v))) d
+  object_named v c is d at = let val = value_in v c in object_by v is val d (some_datum val.value d (sym val.at ∙ at))
 
   -- ---- where nothing can be used, all have values
 
-  record IsStuck : Type 0 where
-    links : (l : Link) → Contains p.links l → usable_link p a l ≡ false
-    conjuncts : (c : Conj) → Contains (conjuncts_in p) c → usable_conjunct p a c ≡ false
-    variables : (v : ℕ) → Contains (sought p) v → usable_variable p a v ≡ false
-
-  module _ (stuck : IsStuck) where
+  module _ (stuck : IsStuck p a) where
     -- of what is sought, the objects
     object_known : (v m : ℕ) (o : ObjId) → Contains (sought p) v → value_at b v ≡ Some (Obj m o) → is_some (value_at a v) ≡ true
     object_known v m o c at = true_of (is_some (value_at a v)) (λ none.
@@ -286,32 +296,9 @@ module _ (p : Problem) (roots b a : Values) (posed : IsPosed p roots) (whole : I
     bound_known Source is v bound c = source_known is v bound c
     bound_known Target is v bound c = target_known is v bound c
 
-    none_stuck : is_any_open p a ≡ true → ⊥
+    pub none_stuck : is_any_open p a ≡ true → ⊥
     none_stuck any =
         let found = any_from (is_open p a) (sought p) any in
         let known = sought_known found.0 found.1 (λ if_data. bound_known p.side refl found.0 (posed.variables.bound found.0 if_data) found.1) in
-        let open_here = and_parts (is_number_among found.0 (sought p)) (not (is_some (value_at a found.0))) found.2 in
-        true≢false (sym open_here.1 ∙ ap not known)
-
-  -- ---- the next branch
-
-  variable_told : (o : Option ℕ) → find (usable_variable p a) (sought p) ≡ o → find (usable_link p a) p.links ≡ None → find (usable_conjunct p a) (conjuncts_in p) ≡ None
-      → is_any_open p a ≡ true → IsTold (object_branch p o)
-  variable_told (Some v) e no_link no_conjunct any = let f = find_some (usable_variable p a) (sought p) v e in object_told v f.0 f.1
-  variable_told None e no_link no_conjunct any =
-      absurd (none_stuck (record {
-        links = λ l c. find_none (usable_link p a) p.links l no_link c;
-        conjuncts = λ k c. find_none (usable_conjunct p a) (conjuncts_in p) k no_conjunct c;
-        variables = λ v c. find_none (usable_variable p a) (sought p) v e c;
-      }) any)
-
-  conjunct_told : (o : Option Conj) → find (usable_conjunct p a) (conjuncts_in p) ≡ o → find (usable_link p a) p.links ≡ None → is_any_open p a ≡ true → IsTold (conjunct_branch p a o)
-  conjunct_told (Some c) e no_link any = let f = find_some (usable_conjunct p a) (conjuncts_in p) c e in saying_told c (saying c) f.0 refl f.1
-  conjunct_told None e no_link any = variable_told (find (usable_variable p a) (sought p)) refl no_link e any
-
-  told_by : (o : Option Link) → find (usable_link p a) p.links ≡ o → is_any_open p a ≡ true → IsTold (branch_by p a o)
-  told_by (Some l) e any = let f = find_some (usable_link p a) p.links l e in link_told l f.0 f.1
-  told_by None e any = conjunct_told (find (usable_conjunct p a) (conjuncts_in p)) refl e any
-
-  pub next_is_told : is_any_open p a ≡ true → IsTold (branch p a)
-  next_is_told any = told_by (find (usable_link p a) p.links) refl any
+        let vacant = (and_parts (is_number_among found.0 (sought p)) (is_vacant (slice_get a found.0)) found.2).1 in
+        true≢false (sym known ∙ ap is_some (vacant_parts a found.0 vacant).1)

@@ -1,7 +1,9 @@
 -- Wrong answers that the definitions exclude, each on a small case: what the definition gives, and that it isn't what the wrong
 -- code would answer. A contract says that the code's result is what the definition gives, so it refuses that code.
-use Rattle.std.specs.Prelude.{◌≡◌, ℕ, true, false, pos, [], ◌∷◌, codes, None, Some}
-use Rattle.std.proofs.Common.{refl}
+use Rattle.std.specs.Prelude.{◌≡◌, ◌⊎◌, ℕ, true, false, pos, [], ◌∷◌, codes, None, Some, Contains}
+use Rattle.std.proofs.Common.{refl, sym, ◌∙◌, arith, inl, inr}
+use Rattle.std.proofs.lemmas.Bool.{true≢false}
+use Rattle.mof_metamodel.proofs.Facts.{contains_first}
 use Rattle.std.specs.declared.cmp.Ordering.TheVariants.{Less, Greater}
 use Rattle.object_tables.specs.declared.value.Value.TheVariants as values
 use Rattle.qv_syntax.specs.declared.program.Dom.{Dom}
@@ -9,11 +11,15 @@ use Rattle.qv_syntax.specs.declared.program.Marker.TheVariants.{Enforce}
 use Rattle.qvtr_semantics.specs.declared.datum.Datum.{Datum}
 use Rattle.qvtr_semantics.specs.declared.datum.Datum.TheVariants.{Obj, Val}
 use Rattle.qvtr_semantics.specs.Expressions.{setting}
-use Rattle.qvtr_semantics.specs.Templates.{has}
+use Rattle.qvtr_semantics.specs.Templates.{Values, value_at, has}
 use Rattle.qvtr_semantics.specs.Bindings.{is_datum_for}
 use Rattle.qvtr_semantics.specs.SmallModels.{program, both, object_var}
 use Rattle.template_match.specs.declared.side.Side.TheVariants.{Source}
-use Rattle.template_match.specs.Sides.{is_of_side}
+use Rattle.template_match.specs.Sides.{is_of_side, meets_side}
+use Rattle.template_match.specs.Problems.{Problem}
+use Rattle.template_match.specs.Posed.{IsSought}
+use Rattle.template_match.specs.Search.{is_vacant}
+use Rattle.template_match.specs.Branches.{IsBranch, IsFound}
 use Rattle.template_match.specs.Order.{values_order}
 
 abbrev number : ℕ → Datum
@@ -49,6 +55,28 @@ schema_domain = record { model = Some 1; marker = Enforce; root = 2; template = 
 -- a domain of the target among those of the source
 pub the_source_asks_the_target_domain : is_of_side Source program schema_domain ≡ true → ⊥
 the_source_asks_the_target_domain e = cc
+
+-- ---- the search
+
+-- a variable that has a value is open
+pub variables_with_values_are_open : is_vacant (Some (Some (number 1))) ≡ true → ⊥
+variables_with_values_are_open e = cc
+
+-- the candidates of the next variable leave out a value that it has in a binding that is looked for
+pub candidates_leave_a_value_out : (p : Problem) (a b : Values) (v : ℕ) (d : Datum) → IsSought p a b → value_at b v ≡ Some d → IsBranch p a (record { variable = v; candidates = [] }) → ⊥
+candidates_leave_a_value_out p a b v d whole at branch = let (k, within, is) = branch.named b d whole at in omega (arith, within)
+
+-- a search finds nothing where a binding is looked for
+pub a_search_gives_up : (p : Problem) (a b : Values) → IsSought p a b → IsFound p a [] [] → ⊥
+a_search_gives_up p a b whole found = let (k, within, is) = (found b).1 (inr whole) in omega (arith, within)
+
+-- a search finds a binding that doesn't meet the side
+pub a_search_finds_any_binding : (p : Problem) (a b : Values) → meets_side p.side p.variables p.program p.models p.rel b ≡ false → IsFound p a [] (b ∷ []) → ⊥
+a_search_finds_any_binding p a b against found = by ((found b).0 (contains_first b []))
+  where
+    by : Contains [] b ⊎ IsSought p a b → ⊥
+    by (inl (k, within, is)) = omega (arith, within)
+    by (inr whole) = true≢false (sym whole.meets ∙ against)
 
 -- ---- the order of bindings
 

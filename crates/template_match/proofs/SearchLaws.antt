@@ -1,50 +1,67 @@
--- The search finds exactly the bindings that are looked for.
-use Rattle.std.specs.Prelude.{◌≡◌, ◌≢◌, ◌⊎◌, ◌≤◌, ◌<◌, ◌↔◌, ℕ, zero, suc, Bool, true, false, not, [], ◌∷◌, length, Option, None, Some, is_some, Contains, if◌then◌else◌}
-use Rattle.std.specs.List.{flat_map, find}
-use Rattle.std.proofs.Common.{refl, sym, ap, subst, ◌∙◌, arith, inl, inr}
+-- A search finds exactly the bindings that are looked for: from a binding on those that it finds for each value of the next variable, and where
+-- nothing is open the binding itself, if it meets the side.
+use Rattle.std.specs.Prelude.{◌≡◌, ◌≢◌, ◌⊎◌, ◌≤◌, ◌<◌, ◌+◌, ◌++◌, ℕ, zero, suc, Bool, true, false, List, [], ◌∷◌, length, Option, None, Some, is_some, slice_get, Contains, if◌then◌else◌}
+use Rattle.std.proofs.Common.{refl, sym, ap, subst, ◌∙◌, arith, inl, inr, take, get_or}
 use Rattle.std.proofs.lemmas.Bool.{and_parts, and_from, true≢false, cases_eq}
-use Rattle.std.proofs.lemmas.List.{length-set}
-use Rattle.mof_metamodel.proofs.PropLemmas.{from_flat_map, to_flat_map}
-use Rattle.qv_syntax.specs.declared.program.Conj.{Conj}
-use Rattle.qv_syntax.specs.declared.typed.Typed.{Typed}
+use Rattle.std.proofs.lemmas.List.{length-set, take_more, take_all}
+use Rattle.std.proofs.lemmas.List.Elements.{Contains-append_left, Contains-append_right, Contains-append_cases, Contains-push_cases}
+use Rattle.mof_metamodel.proofs.Facts.{contains_first}
+use Rattle.qv_syntax.specs.declared.program.Rel.{Rel}
+use Rattle.qv_syntax.specs.declared.program.Dom.{Dom}
 use Rattle.qvtr_semantics.specs.declared.datum.Datum.{Datum}
 use Rattle.qvtr_semantics.specs.Objects.{is_number_among}
 use Rattle.qvtr_semantics.specs.Templates.{Values, value_at}
 use Rattle.qvtr_semantics.specs.Bindings.{Extends}
-use Rattle.mof_metamodel.proofs.Facts.{contains_first}
 use Rattle.ocl_eval.proofs.ClassLaws.{among_from, among_to}
-use Rattle.template_match.specs.declared.link.Link.{Link}
+use Rattle.template_match.specs.declared.side.Side.{Side}
+use Rattle.template_match.specs.declared.side.Side.TheVariants.{Source, Target}
+use Rattle.template_match.specs.declared.branch.Branch.{Branch}
+use Rattle.template_match.specs.declared.prepared.Prepared.{Prepared}
 use Rattle.template_match.specs.Sides.{meets_side}
-use Rattle.template_match.specs.Ready.{is_ready}
 use Rattle.template_match.specs.Problems.{Problem}
 use Rattle.template_match.specs.Pruning.{may_meet}
-use Rattle.template_match.specs.Search.{sought, conjuncts_in, is_open, usable_link, usable_saying, usable_conjunct, usable_variable, saying, saying_branch, object_branch, conjunct_branch, branch_by, branch, is_any_open, with_value, tried, tested, search_from}
-use Rattle.template_match.specs.Posed.{IsPosed, IsPartial, IsSought}
-use Rattle.template_match.proofs.ListLaws.{any_at, find_some}
-use Rattle.template_match.proofs.ValueLaws.{not_some, same_values, within_values, same_place, other_place, missing, missing_within, fewer_missing}
+use Rattle.template_match.specs.Search.{sought, is_vacant, is_open, is_any_open, with_value, missing, tested}
+use Rattle.template_match.specs.Posed.{HasRoots, IsPosed, IsSought}
+use Rattle.template_match.specs.Prepared.{problem_in, IsPrepared}
+use Rattle.template_match.specs.Branches.{IsBranch, IsStuck, IsFound, IsFoundWith}
+use Rattle.template_match.proofs.ListLaws.{any_at, any_from}
+use Rattle.template_match.proofs.ValueLaws.{not_some, same_values, within_values, vacant_parts, vacant_from, same_place, other_place, some_missing, fewer_missing}
 use Rattle.template_match.proofs.SideLaws.{meets_parts, valued}
 use Rattle.template_match.proofs.PruneLaws.{not_dropped}
-use Rattle.template_match.proofs.ProgressLaws.{next_is_told}
+use Rattle.template_match.proofs.ProgressLaws.{none_stuck}
 
-open_parts : (p : Problem) (a : Values) (v : ℕ) → is_open p a v ≡ true → Contains (sought p) v × (value_at a v ≡ None)
-open_parts p a v h =
-    let both = and_parts (is_number_among v (sought p)) (not (is_some (value_at a v))) h in
-    (among_to v (sought p) both.0, none_from (value_at a v) both.1)
-  where
-    none_from : (o : Option Datum) → not (is_some o) ≡ true → o ≡ None
-    none_from None h = refl
-    none_from (Some d) h = absurd (true≢false (sym h))
+-- ---- open variables
 
-not_open : (p : Problem) (a : Values) (v : ℕ) → is_any_open p a ≡ false → Contains (sought p) v → (d : Datum) × (value_at a v ≡ Some d)
-not_open p a v none c = by (value_at a v) refl
+-- an open variable is sought, and its place has no value
+pub record IsOpen (p : Problem) (a : Values) (v : ℕ) : Type 0 where
+  pub sought_is : Contains (sought p) v
+  pub within : v < length a
+  pub none : value_at a v ≡ None
+
+pub opened : (p : Problem) (a : Values) (v : ℕ) → is_open p a v ≡ true → IsOpen p a v
+opened p a v h =
+    let both = and_parts (is_number_among v (sought p)) (is_vacant (slice_get a v)) h in
+    let parts = vacant_parts a v both.1 in
+    record { sought_is = among_to v (sought p) both.0; within = parts.0; none = parts.1 }
+
+not_open : (p : Problem) (a : Values) (v : ℕ) → is_any_open p a ≡ false → Contains (sought p) v → v < length a → (d : Datum) × (value_at a v ≡ Some d)
+not_open p a v none c within = by (value_at a v) refl
   where
     by : (o : Option Datum) → value_at a v ≡ o → (d : Datum) × (value_at a v ≡ Some d)
     by (Some d) e = (d, e)
     by None e =
-        let here : is_open p a v ≡ true = and_from (is_number_among v (sought p)) (not (is_some (value_at a v))) (among_from v (sought p) c) (ap (λ o. not (is_some o)) e) in
+        let here : is_open p a v ≡ true = and_from (is_number_among v (sought p)) (is_vacant (slice_get a v)) (among_from v (sought p) c) (vacant_from a v within (ap is_some e)) in
         absurd (true≢false (sym (any_at (is_open p a) (sought p) v here c) ∙ none))
 
--- ---- one step
+-- as many variables may get values as have none
+pub none_left : (p : Problem) (a : Values) → is_any_open p a ≡ true → missing a ≤ 0 → ⊥
+none_left p a any few =
+    let found = any_from (is_open p a) (sought p) any in
+    let open_one = opened p a found.0 found.2 in
+    let some = some_missing a found.0 open_one.within open_one.none in
+    omega (arith, some, few)
+
+-- ---- one value more
 
 extended_still : (a b : Values) (v : ℕ) (d : Datum) → v < length a → Extends a b → value_at b v ≡ Some d → Extends (with_value a v d) b
 extended_still a b v d within more at w e h = by (cases_eq w v)
@@ -55,151 +72,201 @@ extended_still a b v d within more at w e h = by (cases_eq w v)
         ap (value_at b) same ∙ at ∙ put
     by (inr apart) = more w e (sym (other_place a v w d apart) ∙ h)
 
-kept_still : (roots a : Values) (v : ℕ) (d : Datum) → value_at a v ≡ None → Extends roots a → Extends roots (with_value a v d)
-kept_still roots a v d none from w e h = by (cases_eq w v)
+pub extends_with : (a : Values) (v : ℕ) (d : Datum) → value_at a v ≡ None → Extends a (with_value a v d)
+extends_with a v d none w e h = by (cases_eq w v)
   where
     by : (w ≡ v) ⊎ (w ≢ v) → value_at (with_value a v d) w ≡ Some e
-    by (inl same) = absurd (not_some e (sym none ∙ sym (ap (value_at a) same) ∙ from w e h))
-    by (inr apart) = other_place a v w d apart ∙ from w e h
+    by (inl same) = absurd (not_some e (sym none ∙ sym (ap (value_at a) same) ∙ h))
+    by (inr apart) = other_place a v w d apart ∙ h
 
-partial_still : (p : Problem) (roots a : Values) (v : ℕ) (d : Datum) → IsPartial p roots a → Contains (sought p) v → value_at a v ≡ None → IsPartial p roots (with_value a v d)
-partial_still p roots a v d part c none = record {
-  places = length-set a v (Some d) ∙ part.places;
-  extends = kept_still roots a v d none part.extends;
-  no_others = others;
-}
-  where
-    others : (w : ℕ) (e : Datum) → value_at (with_value a v d) w ≡ Some e → Contains (sought p) w ⊎ (value_at roots w ≡ Some e)
-    others w e h = by (cases_eq w v)
-      where
-        by : (w ≡ v) ⊎ (w ≢ v) → Contains (sought p) w ⊎ (value_at roots w ≡ Some e)
-        by (inl same) = inl (subst (Contains (sought p)) (sym same) c)
-        by (inr apart) = part.no_others w e (sym (other_place a v w d apart) ∙ h)
+roots_still : (side : Side) (rel : Rel) (a c : Values) → HasRoots side rel a → Extends a c → HasRoots side rel c
+roots_still Source rel a c has more = λ (dom : Dom) top within none. let x = has dom top within none in (x.0, more dom.root x.0 x.1)
+roots_still Target rel a c has more = λ (v : ℕ) within. let x = has v within in (x.0, more v x.0 x.1)
 
--- ---- what is found is looked for
+posed_still : (p : Problem) (a c : Values) → IsPosed p a → Extends a c → IsPosed p c
+posed_still p a c posed more = record { links = posed.links; variables = posed.variables; seeks = posed.seeks; roots = roots_still p.side p.rel a c posed.roots more }
 
--- a branch with a candidate is for an open variable
-branch_open : (p : Problem) (a : Values) (d : Datum) → Contains (branch p a).candidates d → is_open p a (branch p a).variable ≡ true
-branch_open p a d c = by_link (find (usable_link p a) p.links) refl c
-  where
-    by_variable : (o : Option ℕ) → find (usable_variable p a) (sought p) ≡ o → Contains (object_branch p o).candidates d → is_open p a (object_branch p o).variable ≡ true
-    by_variable None e c = let (k, within, is) = c in absurd (omega arith)
-    by_variable (Some v) e c =
-        let f = find_some (usable_variable p a) (sought p) v e in
-        (and_parts (is_open p a v) _ f.1).0
+-- what was made ready stays so
+pub prepared_with : (s : Prepared) (a : Values) (v : ℕ) (d : Datum) (c : Values) → IsPrepared s a → is_open (problem_in s) a v ≡ true → c ≡ with_value a v d → IsPrepared s c
+prepared_with s a v d c h is same =
+    subst (IsPrepared s) (sym same) (record {
+      posed = posed_still (problem_in s) a (with_value a v d) h.posed (extends_with a v d (opened (problem_in s) a v is).none);
+      places = length-set a v (Some d) ∙ h.places;
+      marks = h.marks;
+      asked = h.asked;
+    })
 
-    by_saying : (o : Option (ℕ × Typed)) → usable_saying p a o ≡ true → is_open p a (saying_branch p a o).variable ≡ true
-    by_saying None h = absurd (true≢false (sym h))
-    by_saying (Some s) h = (and_parts (is_open p a s.0) (is_ready a s.1) h).0
+pub left_with : (p : Problem) (a : Values) (v : ℕ) (d : Datum) (c : Values) (left : ℕ) → is_open p a v ≡ true → c ≡ with_value a v d → missing a ≤ left + 1 → missing c ≤ left
+left_with p a v d c left is same few =
+    let open_one = opened p a v is in
+    let fewer = fewer_missing a v d open_one.within open_one.none in
+    subst (λ x. missing x ≤ left) (sym same) (omega (arith, fewer, few))
 
-    by_conjunct : (o : Option Conj) → find (usable_conjunct p a) (conjuncts_in p) ≡ o → Contains (conjunct_branch p a o).candidates d → is_open p a (conjunct_branch p a o).variable ≡ true
-    by_conjunct None e c = by_variable (find (usable_variable p a) (sought p)) refl c
-    by_conjunct (Some k) e c = let f = find_some (usable_conjunct p a) (conjuncts_in p) k e in by_saying (saying k) f.1
-
-    by_link : (o : Option Link) → find (usable_link p a) p.links ≡ o → Contains (branch_by p a o).candidates d → is_open p a (branch_by p a o).variable ≡ true
-    by_link None e c = by_conjunct (find (usable_conjunct p a) (conjuncts_in p)) refl c
-    by_link (Some l) e c = let f = find_some (usable_link p a) p.links l e in (and_parts (is_open p a l.variable) (is_some (value_at a l.holder)) f.1).0
-
-tested_sound : (p : Problem) (roots a b : Values) (m : Bool) → meets_side p.side (sought p) p.program p.models p.rel a ≡ m → IsPartial p roots a → Contains (if m then a ∷ [] else []) b → IsSought p roots b
-tested_sound p roots a b true h part (zero, within, is) = subst (IsSought p roots) is (record { partial = part; meets = h })
-tested_sound p roots a b true h part (suc k, within, is) = absurd (omega (arith, within))
-tested_sound p roots a b false h part (k, within, is) = absurd (omega (arith, within))
-
-stopped_sound : (p : Problem) (roots a b : Values) (x : Bool) → IsPartial p roots a → Contains (if x then [] else tested p a) b → IsSought p roots b
-stopped_sound p roots a b true part (k, within, is) = absurd (omega (arith, within))
-stopped_sound p roots a b false part c = tested_sound p roots a b (meets_side p.side (sought p) p.program p.models p.rel a) refl part c
-
-tried_among : (p : Problem) (a : Values) (d : Datum) (x : Bool) → Contains (if x then (branch p a).candidates else []) d → Contains (branch p a).candidates d
-tried_among p a d true c = c
-tried_among p a d false (k, within, is) = absurd (omega (arith, within))
-
-stepped_sound : (p : Problem) (roots : Values) (n : ℕ) (a b : Values) (x : Bool) → IsPartial p roots a
-    → ((c : Values) → IsPartial p roots c → Contains (search_from p n c) b → IsSought p roots b)
-    → Contains (if x then flat_map (λ d. search_from p n (with_value a (branch p a).variable d)) (tried p a) else tested p a) b → IsSought p roots b
-stepped_sound p roots n a b true part more c =
-    let found = from_flat_map (λ d. search_from p n (with_value a (branch p a).variable d)) (tried p a) b c in
-    let opened = open_parts p a (branch p a).variable (branch_open p a found.0 (tried_among p a found.0 (may_meet p a) found.1)) in
-    more (with_value a (branch p a).variable found.0) (partial_still p roots a (branch p a).variable found.0 part opened.0 opened.1) found.2
-stepped_sound p roots n a b false part more c = tested_sound p roots a b (meets_side p.side (sought p) p.program p.models p.rel a) refl part c
-
-pub sound : (p : Problem) (roots : Values) (n : ℕ) (a b : Values) → IsPartial p roots a → Contains (search_from p n a) b → IsSought p roots b
-unfolding search_from
-sound p roots zero a b part c = stopped_sound p roots a b (is_any_open p a) part c
-sound p roots (suc n) a b part c = stepped_sound p roots n a b (is_any_open p a) part (λ x still within. sound p roots n x b still within) c
-
--- ---- what is looked for is found
-
-module _ (p : Problem) (roots b : Values) (posed : IsPosed p roots) (whole : IsSought p roots b) where
-  -- where nothing is open, it is this one
-  all_there : (a : Values) → length a ≡ length b → Extends roots a → Extends a b → is_any_open p a ≡ false → a ≡ b
-  all_there a long from more none = same_values a b long (λ v. by v (value_at b v) refl)
+module _ (p : Problem) (a b : Values) (v : ℕ) (d : Datum) (is : is_open p a v ≡ true) where
+  sought_with : IsSought p a b → value_at b v ≡ Some d → IsSought p (with_value a v d) b
+  sought_with whole at = record {
+    partial = record {
+      places = whole.partial.places;
+      extends = extended_still a b v d (opened p a v is).within whole.partial.extends at;
+      no_others = λ w e h. by w e (whole.partial.no_others w e h);
+    };
+    meets = whole.meets;
+  }
     where
-      by : (v : ℕ) (o : Option Datum) → value_at b v ≡ o → value_at a v ≡ value_at b v
-      by v None e = nothing (value_at a v) refl
+      by : (w : ℕ) (e : Datum) → Contains (sought p) w ⊎ (value_at a w ≡ Some e) → Contains (sought p) w ⊎ (value_at (with_value a v d) w ≡ Some e)
+      by w e (inl c) = inl c
+      by w e (inr r) = inr (extends_with a v d (opened p a v is).none w e r)
+
+  sought_back : IsSought p (with_value a v d) b → IsSought p a b × (value_at b v ≡ Some d)
+  sought_back whole = (
+    record {
+      partial = record {
+        places = whole.partial.places;
+        extends = λ w e h. whole.partial.extends w e (extends_with a v d (opened p a v is).none w e h);
+        no_others = λ w e h. by w e (whole.partial.no_others w e h);
+      };
+      meets = whole.meets;
+    },
+    whole.partial.extends v d (same_place a v d (opened p a v is).within),
+  )
+    where
+      by : (w : ℕ) (e : Datum) → Contains (sought p) w ⊎ (value_at (with_value a v d) w ≡ Some e) → Contains (sought p) w ⊎ (value_at a w ≡ Some e)
+      by w e (inl c) = inl c
+      by w e (inr r) = apart (cases_eq w v)
         where
-          nothing : (q : Option Datum) → value_at a v ≡ q → value_at a v ≡ value_at b v
-          nothing None f = f ∙ sym e
-          nothing (Some d) f = absurd (not_some d (sym e ∙ more v d f))
-      by v (Some d) e = there (whole.partial.no_others v d e)
-        where
-          there : Contains (sought p) v ⊎ (value_at roots v ≡ Some d) → value_at a v ≡ value_at b v
-          there (inl c) = let found = not_open p a v none c in found.1 ∙ sym (more v found.0 found.1)
-          there (inr r) = from v d r ∙ sym e
+          apart : (w ≡ v) ⊎ (w ≢ v) → Contains (sought p) w ⊎ (value_at a w ≡ Some e)
+          apart (inl same) = inl (subst (Contains (sought p)) (sym same) (opened p a v is).sought_is)
+          apart (inr other) = inr (sym (other_place a v w d other) ∙ r)
 
-  tested_here : (a : Values) → a ≡ b → Contains (tested p a) b
-  tested_here a same =
-      subst (λ x. Contains (tested p x) b) (sym same)
-      (subst (λ m. Contains (if m then b ∷ [] else []) b) (sym whole.meets) (contains_first b []))
+-- ---- where nothing is open
 
-  -- the value that the next variable has in b, and where it stands
-  record IsNext (a : Values) : Type 0 where
-    value : Datum
-    at : value_at b (branch p a).variable ≡ Some value
-    among : Contains (branch p a).candidates value
-    none : value_at a (branch p a).variable ≡ None
+closed : (p : Problem) (a b : Values) → length a ≡ length p.rel.vars → is_any_open p a ≡ false → IsSought p a b → a ≡ b
+closed p a b places none whole = same_values a b long (λ v. by v (value_at b v) refl)
+  where
+    long : length a ≡ length b
+    long = places ∙ sym whole.partial.places
 
-  next_is : (a : Values) → length a ≡ length b → Extends roots a → Extends a b → is_any_open p a ≡ true → IsNext a
-  next_is a long from more any =
-      let told = next_is_told p roots b a posed whole long from more any in
-      let opened = open_parts p a (branch p a).variable told.open_variable in
-      let val = valued p.program p.models p.rel (sought p) b (branch p a).variable (meets_parts p.side (sought p) p.program p.models p.rel b whole.meets).have opened.0 in
-      record { value = val.value; at = val.at; among = told.named val.value val.at; none = opened.1 }
+    by : (v : ℕ) (o : Option Datum) → value_at b v ≡ o → value_at a v ≡ value_at b v
+    by v None e = nothing (value_at a v) refl
+      where
+        nothing : (q : Option Datum) → value_at a v ≡ q → value_at a v ≡ value_at b v
+        nothing None f = f ∙ sym e
+        nothing (Some d) f = absurd (not_some d (sym e ∙ whole.partial.extends v d f))
+    by v (Some d) e = there (whole.partial.no_others v d e)
+      where
+        there : Contains (sought p) v ⊎ (value_at a v ≡ Some d) → value_at a v ≡ value_at b v
+        there (inl c) =
+            let within : v < length a = subst (λ n. v < n) (sym long) (within_values b v d e) in
+            let found = not_open p a v none c within in
+            found.1 ∙ sym (whole.partial.extends v found.0 found.1)
+        there (inr r) = r ∙ sym e
 
-  stopped_complete : (a : Values) (x : Bool) → is_any_open p a ≡ x → missing a ≤ 0 → length a ≡ length b → Extends roots a → Extends a b → Contains (if x then [] else tested p a) b
-  stopped_complete a true e few long from more =
-      let next = next_is a long from more e in
-      let within : (branch p a).variable < length a = subst (λ n. (branch p a).variable < n) (sym long) (within_values b (branch p a).variable next.value next.at) in
-      let fewer = fewer_missing a (branch p a).variable next.value within next.none in
-      absurd (omega (arith, fewer, few))
-  stopped_complete a false e few long from more = tested_here a (all_there a long from more e)
+tested_sought : (p : Problem) (a b : Values) (m : Bool) → meets_side p.side (sought p) p.program p.models p.rel a ≡ m → length a ≡ length p.rel.vars → Contains (if m then a ∷ [] else []) b → IsSought p a b
+tested_sought p a b true h places (zero, within, is) =
+    subst (IsSought p a) is (record { partial = record { places = places; extends = λ v d at. at; no_others = λ v d at. inr at }; meets = h })
+tested_sought p a b true h places (suc k, within, is) = absurd (omega (arith, within))
+tested_sought p a b false h places (k, within, is) = absurd (omega (arith, within))
 
-  tried_here : (a : Values) (d : Datum) → length a ≡ length b → Extends a b → Contains (branch p a).candidates d → Contains (tried p a) d
-  tried_here a d long more c = subst (λ x. Contains (if x then (branch p a).candidates else []) d) (sym (not_dropped p a b long more whole.meets)) c
+sought_tested : (p : Problem) (a b : Values) → length a ≡ length p.rel.vars → is_any_open p a ≡ false → IsSought p a b → Contains (tested p a) b
+sought_tested p a b places none whole =
+    subst (λ x. Contains (tested p x) b) (sym (closed p a b places none whole))
+    (subst (λ m. Contains (if m then b ∷ [] else []) b) (sym whole.meets) (contains_first b []))
 
-  stepped_complete : (n : ℕ) (a : Values) (x : Bool) → is_any_open p a ≡ x → missing a ≤ suc n → length a ≡ length b → Extends roots a → Extends a b
-      → ((c : Values) → missing c ≤ n → length c ≡ length b → Extends roots c → Extends c b → Contains (search_from p n c) b)
-      → Contains (if x then flat_map (λ d. search_from p n (with_value a (branch p a).variable d)) (tried p a) else tested p a) b
-  stepped_complete n a true e few long from more rest =
-      let next = next_is a long from more e in
-      let v = (branch p a).variable in
-      let within : v < length a = subst (λ k. v < k) (sym long) (within_values b v next.value next.at) in
-      let fewer = fewer_missing a v next.value within next.none in
-      to_flat_map (λ d. search_from p n (with_value a v d)) (tried p a) next.value b (tried_here a next.value long more next.among)
-      (rest (with_value a v next.value) (omega (arith, fewer, few)) (length-set a v (Some next.value) ∙ long)
-      (kept_still roots a v next.value next.none from) (extended_still a b v next.value within more next.at))
-  stepped_complete n a false e few long from more rest = tested_here a (all_there a long from more e)
-
-  pub complete : (n : ℕ) (a : Values) → missing a ≤ n → length a ≡ length b → Extends roots a → Extends a b → Contains (search_from p n a) b
-  unfolding search_from
-  complete zero a few long from more = stopped_complete a (is_any_open p a) refl few long from more
-  complete (suc n) a few long from more = stepped_complete n a (is_any_open p a) refl few long from more (λ c fewer size start on. complete n c fewer size start on)
-
--- from the roots on exactly the bindings that are looked for are found
-pub exact : (p : Problem) (roots : Values) → IsPosed p roots → length roots ≡ length p.rel.vars → (b : Values) → Contains (search_from p (length roots) roots) b ↔ IsSought p roots b
-exact p roots posed places b = (
-  λ c. sound p roots (length roots) roots b (record { places = places; extends = λ v d h. h; no_others = λ v d h. inr h }) c,
-  λ whole. complete p roots b posed whole (length roots) roots (missing_within roots) (places ∙ sym whole.partial.places) (λ v d h. h) whole.partial.extends,
+pub tested_found : (p : Problem) (a : Values) (olds news : List Values) (x : Bool) → x ≡ is_any_open p a → x ≡ false → length a ≡ length p.rel.vars → news ≡ olds ++ tested p a → IsFound p a olds news
+tested_found p a olds news x is none places all b = (
+  λ c. by (Contains-append_cases olds (tested p a) b (subst (λ bs. Contains bs b) all c)),
+  λ c. subst (λ bs. Contains bs b) (sym all) (back c),
 )
+  where
+    by : Contains olds b ⊎ Contains (tested p a) b → Contains olds b ⊎ IsSought p a b
+    by (inl c) = inl c
+    by (inr c) = inr (tested_sought p a b (meets_side p.side (sought p) p.program p.models p.rel a) refl places c)
+
+    back : Contains olds b ⊎ IsSought p a b → Contains (olds ++ tested p a) b
+    back (inl c) = Contains-append_left olds (tested p a) b c
+    back (inr whole) = Contains-append_right olds (tested p a) b (sought_tested p a b places (sym is ∙ none) whole)
+
+-- ---- where nothing is looked for
+
+nothing_found : (p : Problem) (a : Values) (olds : List Values) → ((b : Values) → IsSought p a b → ⊥) → IsFound p a olds olds
+nothing_found p a olds none b = (λ c. inl c, by)
+  where
+    by : Contains olds b ⊎ IsSought p a b → Contains olds b
+    by (inl c) = c
+    by (inr whole) = absurd (none b whole)
+
+pub stopped_found : (p : Problem) (a : Values) (olds : List Values) (left : ℕ) (x : Bool) → x ≡ is_any_open p a → x ≡ true → missing a ≤ left → left ≡ 0 → IsFound p a olds olds
+stopped_found p a olds left x is some few no_more = nothing_found p a olds (λ b whole. none_left p a (sym is ∙ some) (subst (λ n. missing a ≤ n) no_more few))
+
+pub dropped_found : (p : Problem) (a : Values) (olds : List Values) (m : Bool) → length a ≡ length p.rel.vars → m ≡ may_meet p a → m ≡ false → IsFound p a olds olds
+dropped_found p a olds m places is against =
+    nothing_found p a olds (λ b whole. true≢false (sym (not_dropped p a b (places ∙ sym whole.partial.places) whole.partial.extends whole.meets) ∙ sym is ∙ against))
+
+pub stuck_found : (p : Problem) (a : Values) (olds : List Values) (x : Bool) → IsPosed p a → length a ≡ length p.rel.vars → x ≡ is_any_open p a → x ≡ true → IsStuck p a → IsFound p a olds olds
+stuck_found p a olds x posed places is some stuck =
+    nothing_found p a olds (λ b whole. none_stuck p a b a posed whole (places ∙ sym whole.partial.places) (λ v d h. h) whole.partial.extends stuck (sym is ∙ some))
+
+-- ---- the values of the next variable, one after another
+
+pub none_found_with : (p : Problem) (a : Values) (v : ℕ) (olds : List Values) → IsFoundWith p a v [] olds olds
+none_found_with p a v olds b = (λ c. inl c, by)
+  where
+    by : Contains olds b ⊎ (IsSought p a b × ((d : Datum) × Contains [] d × (value_at b v ≡ Some d))) → Contains olds b
+    by (inl c) = c
+    by (inr x) = let (k, within, is) = x.1.1 in absurd (omega (arith, within))
+
+-- the binding stood here, or is looked for and gives the variable one of the data
+abbrev HasValueIn : Problem → Values → Values → ℕ → List Datum → List Values → Type 0
+HasValueIn p a b v ds olds = Contains olds b ⊎ (IsSought p a b × ((e : Datum) × Contains ds e × (value_at b v ≡ Some e)))
+
+one_found_with : (p : Problem) (a : Values) (v : ℕ) (ds : List Datum) (d : Datum) (c : Values) (olds mids news : List Values) → is_open p a v ≡ true → c ≡ with_value a v d
+    → IsFoundWith p a v ds olds mids → IsFound p c mids news → IsFoundWith p a v (ds ++ d ∷ []) olds news
+one_found_with p a v ds d c olds mids news is same before found b = (λ x. first ((next b).0 x), last)
+  where
+    next : IsFound p (with_value a v d) mids news
+    next = subst (λ x. IsFound p x mids news) same found
+
+    earlier : HasValueIn p a b v ds olds → HasValueIn p a b v (ds ++ d ∷ []) olds
+    earlier (inl x) = inl x
+    earlier (inr x) = inr (x.0, (x.1.0, Contains-append_left ds (d ∷ []) x.1.0 x.1.1, x.1.2))
+
+    first : Contains mids b ⊎ IsSought p (with_value a v d) b → HasValueIn p a b v (ds ++ d ∷ []) olds
+    first (inl x) = earlier ((before b).0 x)
+    first (inr whole) =
+        let own = sought_back p a b v d is whole in
+        inr (own.0, (d, Contains-append_right ds (d ∷ []) d (contains_first d []), own.1))
+
+    by_value : IsSought p a b → (e : Datum) → value_at b v ≡ Some e → Contains ds e ⊎ (d ≡ e) → Contains news b
+    by_value whole e at (inl x) = (next b).1 (inl ((before b).1 (inr (whole, (e, x, at)))))
+    by_value whole e at (inr one) = (next b).1 (inr (sought_with p a b v d is whole (at ∙ ap (λ x. Some x) (sym one))))
+
+    last : HasValueIn p a b v (ds ++ d ∷ []) olds → Contains news b
+    last (inl x) = (next b).1 (inl ((before b).1 (inl x)))
+    last (inr x) = by_value x.0 x.1.0 x.1.2 (Contains-push_cases ds d x.1.0 x.1.1)
+
+pub next_found_with : (p : Problem) (a : Values) (v : ℕ) (xs : List Datum) (i : ℕ) (d : Datum) (c : Values) (olds mids news : List Values) → is_open p a v ≡ true → i < length xs → d ≡ get_or xs i d
+    → c ≡ with_value a v d → IsFoundWith p a v (take i xs) olds mids → IsFound p c mids news → IsFoundWith p a v (take (i + 1) xs) olds news
+next_found_with p a v xs i d c olds mids news is within item same before found =
+    subst (λ ds. IsFoundWith p a v ds olds news) (ap (λ x. take i xs ++ x ∷ []) item ∙ sym (take_more xs i d within)) (one_found_with p a v (take i xs) d c olds mids news is same before found)
+
+all_found_with : (p : Problem) (a : Values) (branch : Branch) (olds news : List Values) → IsBranch p a branch → IsFoundWith p a branch.variable branch.candidates olds news → IsFound p a olds news
+all_found_with p a branch olds news is found b = (λ c. forth ((found b).0 c), back)
+  where
+    forth : Contains olds b ⊎ (IsSought p a b × ((d : Datum) × Contains branch.candidates d × (value_at b branch.variable ≡ Some d))) → Contains olds b ⊎ IsSought p a b
+    forth (inl c) = inl c
+    forth (inr x) = inr x.0
+
+    back : Contains olds b ⊎ IsSought p a b → Contains news b
+    back (inl c) = (found b).1 (inl c)
+    back (inr whole) =
+        let own = (opened p a branch.variable is.opens).sought_is in
+        let val = valued p.program p.models p.rel (sought p) b branch.variable (meets_parts p.side (sought p) p.program p.models p.rel b whole.meets).have own in
+        (found b).1 (inr (whole, (val.value, is.named b val.value whole val.at, val.at)))
+
+pub done_found_with : (p : Problem) (a : Values) (branch : Branch) (i : ℕ) (olds news : List Values) → length branch.candidates ≤ i → IsBranch p a branch
+    → IsFoundWith p a branch.variable (take i branch.candidates) olds news → IsFound p a olds news
+done_found_with p a branch i olds news past is found =
+    all_found_with p a branch olds news is (subst (λ ds. IsFoundWith p a branch.variable ds olds news) (take_all i branch.candidates past) found)
 
 -- two that agree on the variables that are sought are one
 pub one_binding : (p : Problem) (roots a b : Values) → IsSought p roots a → IsSought p roots b → ((v : ℕ) → Contains (sought p) v → value_at a v ≡ value_at b v) → a ≡ b

@@ -1,5 +1,5 @@
 -- What a binding that meets a side has: values of its variables, templates that match and conjuncts that hold.
-use Rattle.std.specs.Prelude.{◌≡◌, ℕ, zero, suc, Bool, true, false, ◌&&◌, ◌==◌, List, [], ◌∷◌, length, Option, None, Some, is_some, slice_get, Contains}
+use Rattle.std.specs.Prelude.{◌≡◌, ℕ, zero, suc, true, false, ◌&&◌, ◌==◌, List, [], ◌∷◌, length, Option, None, Some, is_some, slice_get, Contains}
 use Rattle.std.specs.List.{list_all, range_with_len, slice_index_or}
 use Rattle.std.specs.Option.{option_map}
 use Rattle.std.proofs.Common.{refl, sym, ap, ◌∙◌, arith, ◌<◌, ◌+◌}

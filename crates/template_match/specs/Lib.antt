@@ -4,11 +4,15 @@ pub mod Ready
 pub mod Links
 pub mod Problems
 pub mod Pruning
+pub mod Asked
 pub mod Search
 pub mod Tasks
 pub mod Order
 pub mod OrderLaws
 pub mod Each
 pub mod Posed
+pub mod Prepared
+pub mod Branches
+pub mod Marks
 pub mod Plans
 pub mod Sources

@@ -1,7 +1,8 @@
 -- A search for the bindings of one side of a relation: one variable gets a value after another. The value of a variable is taken from a slot
--- of an object that has been chosen, or from a conjunct that says what it is, or from the objects of its class.
-use Rattle.std.specs.Prelude.{ℕ, zero, suc, Bool, false, ◌&&◌, not, List, [], ◌∷◌, map, Option, None, Some, is_some, slice_get, slice_set, if◌then◌else◌}
-use Rattle.std.specs.List.{flat_map, list_any, find}
+-- of an object that has been chosen, from a conjunct that says what it is, from the objects at one of whose properties a value stands, or
+-- from the objects of its class.
+use Rattle.std.specs.Prelude.{ℕ, Bool, true, false, ◌&&◌, List, [], ◌∷◌, map, Option, None, Some, is_some, slice_get, slice_set, if◌then◌else◌}
+use Rattle.std.specs.List.{list_any, sum_by}
 use Rattle.mof_metamodel.specs.declared.desc.ClassId.{ClassId}
 use Rattle.object_tables.specs.Models.{ModelData}
 use Rattle.qv_syntax.specs.declared.ty.Ty.{Ty}
@@ -18,15 +19,15 @@ use Rattle.qv_syntax.specs.declared.program.Var.{Var}
 use Rattle.qv_syntax.specs.declared.program.Conj.{Conj}
 use Rattle.qv_syntax.specs.declared.program.Conj.TheVariants as conjuncts
 use Rattle.qvtr_semantics.specs.declared.datum.Datum.{Datum}
+use Rattle.qvtr_semantics.specs.declared.datum.Datum.TheVariants.{Obj}
 use Rattle.qvtr_semantics.specs.declared.binding.Binding.{Binding}
-use Rattle.qvtr_semantics.specs.Outs.{datum_of, and_then}
-use Rattle.qvtr_semantics.specs.Objects.{Setting, is_number_among, held_at, object_datum, extent_of}
-use Rattle.qvtr_semantics.specs.Expressions.{setting, value_for}
+use Rattle.qvtr_semantics.specs.Objects.{Setting, is_number_among, held_by, object_datum, extent_of}
+use Rattle.qvtr_semantics.specs.Expressions.{setting}
 use Rattle.qvtr_semantics.specs.Templates.{Values, value_at}
 use Rattle.template_match.specs.declared.link.Link.{Link}
-use Rattle.template_match.specs.declared.branch.Branch.{Branch}
+use Rattle.template_match.specs.declared.candidates.Candidates.{Candidates}
+use Rattle.template_match.specs.declared.candidates.Candidates.TheVariants as places
 use Rattle.template_match.specs.Problems.{Problem}
-use Rattle.template_match.specs.Pruning.{may_meet}
 use Rattle.template_match.specs.Ready.{is_ready}
 use Rattle.template_match.specs.Links.{variable_alone}
 use Rattle.template_match.specs.Sides.{clause_of, meets_side}
@@ -37,16 +38,26 @@ sought p = p.variables
 abbrev pub conjuncts_in : Problem → List Conj
 conjuncts_in p = clause_of p.side p.rel
 
--- ---- which variable is next
+-- ---- which variables are open
+
+-- the place of a variable is there and has no value
+abbrev pub is_vacant : Option (Option Datum) → Bool
+is_vacant (Some None) = true
+is_vacant o = false
 
 -- a variable that is sought and has no value yet
 abbrev pub is_open : Problem → Values → ℕ → Bool
-is_open p a v = is_number_among v (sought p) && not (is_some (value_at a v))
+is_open p a v = is_number_among v (sought p) && is_vacant (slice_get a v)
+
+abbrev pub is_any_open : Problem → Values → Bool
+is_any_open p a = list_any (is_open p a) (sought p)
+
+-- ---- what gives a variable values: a link whose object has been chosen
 
 abbrev pub usable_link : Problem → Values → Link → Bool
 usable_link p a l = is_open p a l.variable && is_some (value_at a l.holder)
 
--- a conjunct `v = e`: v and e
+-- ---- a conjunct `v = e`: v and e
 abbrev pub saying_by : Operator → Option ℕ → Typed → Option (ℕ × Typed)
 saying_by operators.Equal (Some v) e = Some (v, e)
 saying_by o v e = None
@@ -88,9 +99,6 @@ usable_variable p a v = is_open p a v && is_some (extent_for (slice_get p.rel.va
 abbrev pub setting_in : Problem → Setting
 setting_in p = setting p.program p.models
 
-abbrev pub slot_at : Problem → Values → Link → Option (List Datum)
-slot_at p a l = and_then (value_at a l.holder) (λ d. held_at (setting_in p) d l.prop.0)
-
 abbrev pub some_data : Option (List Datum) → List Datum
 some_data None = []
 some_data (Some ds) = ds
@@ -107,53 +115,28 @@ abbrev pub objects_of : List ModelData → Option (ℕ × ClassId) → List Datu
 objects_of models None = []
 objects_of models (Some x) = objects_in x.0 x.1 (slice_get models x.0)
 
--- a variable that is given nothing
-abbrev pub no_branch : Branch
-no_branch = record { variable = 0; candidates = [] }
+-- where the candidates for a variable stand: nowhere, in a slot of an object, or they are the objects of a model that hold a value
+abbrev pub data_in : Setting → Candidates → List Datum
+data_in s places.Nowhere = []
+data_in s (places.Slot m o prop) = some_data (held_by s m o.0 prop.0)
+data_in s (places.Holders m holders) = map (λ h. Obj m h.object) holders.now
 
-abbrev pub saying_branch : Problem → Values → Option (ℕ × Typed) → Branch
-saying_branch p a None = no_branch
-saying_branch p a (Some s) = record { variable = s.0; candidates = one_datum (datum_of (value_for p.program p.models s.1 a)) }
-
-abbrev pub link_branch : Problem → Values → Link → Branch
-link_branch p a l = record { variable = l.variable; candidates = some_data (slot_at p a l) }
-
-abbrev pub object_branch : Problem → Option ℕ → Branch
-object_branch p None = no_branch
-object_branch p (Some v) = record { variable = v; candidates = objects_of p.models (extent_for (slice_get p.rel.vars v)) }
-
-abbrev pub conjunct_branch : Problem → Values → Option Conj → Branch
-conjunct_branch p a None = object_branch p (find (usable_variable p a) (sought p))
-conjunct_branch p a (Some c) = saying_branch p a (saying c)
-
-abbrev pub branch_by : Problem → Values → Option Link → Branch
-branch_by p a None = conjunct_branch p a (find (usable_conjunct p a) (conjuncts_in p))
-branch_by p a (Some l) = link_branch p a l
-
--- the next variable, and the values that it may have
-abbrev pub branch : Problem → Values → Branch
-branch p a = branch_by p a (find (usable_link p a) p.links)
-
--- ---- the search
+-- ---- bindings
 
 abbrev pub with_value : Values → ℕ → Datum → Values
 with_value a v d = slice_set a v (Some d)
 
+-- how many variables have no value
+abbrev pub is_missing : Option Datum → ℕ
+is_missing None = 1
+is_missing (Some d) = 0
+
+abbrev pub missing : Values → ℕ
+missing a = sum_by is_missing a
+
 -- the binding alone, if it meets the side
 abbrev pub tested : Problem → Values → List Values
 tested p a = if meets_side p.side p.variables p.program p.models p.rel a then a ∷ [] else []
-
-abbrev pub is_any_open : Problem → Values → Bool
-is_any_open p a = list_any (is_open p a) (sought p)
-
--- the values of the next variable that are tried: none, if what can be asked yet is against the binding
-abbrev pub tried : Problem → Values → List Datum
-tried p a = if may_meet p a then (branch p a).candidates else []
-
--- the bindings that are found from a binding on, where so many variables may still get values
-unfoldable pub search_from : Problem → ℕ → Values → List Values
-search_from p zero a = if is_any_open p a then [] else tested p a
-search_from p (suc n) a = if is_any_open p a then flat_map (λ d. search_from p n (with_value a (branch p a).variable d)) (tried p a) else tested p a
 
 -- the values in bindings
 abbrev pub values_of : List Binding → List Values

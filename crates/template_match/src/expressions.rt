@@ -6,8 +6,8 @@ ghost use Rattle.template_match.specs.Search.{saying_by, saying_chain, saying_no
 
 use qv_syntax::{Conj, Node, Operator, Typed, TypedInfix};
 
-/// The variable that the expression is.
-pub(crate) fn variable_alone(e: &Typed) -> Option<u32>
+/// The variable that the expression is, if it is one alone.
+pub fn variable_alone(e: &Typed) -> Option<u32>
     ensures { result ≡ variable_alone (out-Node e.now.node) }
 {
     match &e.node {

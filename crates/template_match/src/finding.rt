@@ -1,4 +1,4 @@
-ghost use Rattle.std.specs.Prelude.{◌≡◌, ◌↔◌, length, Contains, AllPairs, IfOk};
+ghost use Rattle.std.specs.Prelude.{◌≡◌, ◌↔◌, [], length, Contains, AllPairs, IfOk};
 ghost use Rattle.qv_syntax.specs.declared.program.Rel.{Rel};
 ghost use Rattle.qv_syntax.specs.Directions.{AreMeant};
 ghost use Rattle.qvtr_semantics.specs.Templates.{Values};
@@ -6,12 +6,19 @@ ghost use Rattle.qvtr_semantics.specs.Bindings.{Source, Target};
 ghost use Rattle.qvtr_semantics.specs.Satisfaction.{IsLess};
 ghost use Rattle.template_match.specs.Plans.{IsPlanOf};
 ghost use Rattle.template_match.specs.Posed.{HasPrimitives, HasUniversals, IsPosed, IsSought};
-ghost use Rattle.template_match.specs.Search.{values_of, search_from, sought};
+ghost use Rattle.template_match.specs.Asked.{asked_values, side_asked};
+ghost use Rattle.template_match.specs.Branches.{IsFound};
+ghost use Rattle.template_match.specs.Prepared.{problem_in, IsPrepared};
+ghost use Rattle.template_match.specs.Search.{values_of, sought};
 ghost use Rattle.template_match.specs.Sources.{source_variables, NamesNoTarget, SourceWithoutTarget};
 ghost use Rattle.template_match.specs.Tasks.{problem_of};
 
+use crate::asked::Asked;
+use crate::asking::side_asked;
+use crate::marks::variable_marks;
 use crate::order::each_once;
 use crate::plan::Plan;
+use crate::prepared::Prepared;
 use crate::search::search_from;
 use crate::side::Side;
 use crate::task::Task;
@@ -23,12 +30,43 @@ use qvtr_semantics::Binding;
 use std::alloc::Global;
 
 /// All that the search finds from the roots on.
-fn found_from(task: &Task<'_, '_>, roots: &Binding) -> Result<Seq<Binding>, NoMemory>
-    ensures { IfOk result (λ bs. values_of bs ≡ search_from (problem_of task.now) (length roots.now.values) roots.now.values) }
+fn found_from(prepared: &Prepared<'_, '_, '_>, roots: &Binding) -> Result<Seq<Binding>, NoMemory>
+    requires prepared { IsPrepared prepared.now roots.now.values }
+    ensures { IfOk result (λ bs. IsFound (problem_in prepared.now) roots.now.values [] (values_of bs)) }
 {
-    let mut found = Seq::new(task.alloc);
-    search_from(task, roots.values.len(), roots, &mut found)?;
+    let mut found = Seq::new(prepared.task.alloc);
+    search_from(prepared, roots.values.len(), roots, &mut found)?;
     Ok(found)
+}
+
+/// The same, where all is made ready but the marks of the variables that are sought.
+fn found_with(
+    task: &Task<'_, '_>,
+    asked: &[Asked<'_>],
+    roots: &Binding,
+) -> Result<Seq<Binding>, NoMemory>
+    requires posed { IsPosed (problem_of task.now) roots.now.values }
+    requires places { length roots.now.values ≡ length task.now.rel.now.vars }
+    requires asked { asked_values asked.now ≡ side_asked task.now.side task.now.program.now task.now.rel.now }
+    ensures { IfOk result (λ bs. IsFound (problem_of task.now) roots.now.values [] (values_of bs)) }
+{
+    let sought = variable_marks(task.alloc, task.rel.vars.len(), task.variables)?;
+    let prepared = Prepared {
+        task,
+        sought: sought.as_slice(),
+        asked,
+    };
+    found_from(&prepared, roots)
+}
+
+/// The same, where nothing is made ready.
+fn found(task: &Task<'_, '_>, roots: &Binding) -> Result<Seq<Binding>, NoMemory>
+    requires posed { IsPosed (problem_of task.now) roots.now.values }
+    requires places { length roots.now.values ≡ length task.now.rel.now.vars }
+    ensures { IfOk result (λ bs. IsFound (problem_of task.now) roots.now.values [] (values_of bs)) }
+{
+    let asked = side_asked(task.alloc, task.side, task.program, task.rel)?;
+    found_with(task, asked.as_slice(), roots)
 }
 
 /// The bindings of a side, in order, each once.
@@ -38,7 +76,7 @@ fn all_found(task: &Task<'_, '_>, roots: &Binding) -> Result<Seq<Binding>, NoMem
     ensures exact { IfOk result (λ bs. (b : Values) → Contains (values_of bs) b ↔ IsSought (problem_of task.now) roots.now.values b) }
     ensures sorted { IfOk result (λ bs. AllPairs (IsLess (sought (problem_of task.now))) (values_of bs)) }
 {
-    let found = found_from(task, roots)?;
+    let found = found(task, roots)?;
     Ok(each_once(task.variables, found))
 }
 

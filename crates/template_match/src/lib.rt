@@ -1,18 +1,29 @@
 //! Bindings of the variables of a relation (QVT 1.3, sections 7.2, 7.10.1 and 7.11.1.4): those that meet its source, and those that meet
-//! its target for a binding of the source. A search gives one variable a value after another, from a slot of an object that has been
-//! chosen, from a conjunct `v = e`, or from the objects of its class. A partial binding is dropped as soon as an item or a conjunct is
-//! against it all of whose variables have values, and each full binding is tested by all that its side asks.
-//! A search takes the time of the partial bindings that it looks at, each with its tests.
+//! its target for a binding of the source. A search gives one variable a value after another: from a conjunct `v = e`, from a slot of an
+//! object that has been chosen, from the objects at one of whose properties a value stands, or from the objects of its class. It takes
+//! what gives the fewest values. A partial binding is dropped as soon as an item or a conjunct is against it all of whose variables have
+//! values, and each full binding is tested by all that its side asks.
+//! A search takes the time of the partial bindings that it looks at. Each costs the number of variables, links, items and conjuncts of the
+//! relation, with the values of their expressions; the objects that hold a value take a logarithm, where the model has an index.
 #![tactic(auto)]
 
+mod asked;
+mod asking;
 mod branch;
+mod branching;
+mod candidates;
+mod choice;
+mod choosing;
 mod expressions;
 mod finding;
 mod link;
 mod linking;
+pub mod marks;
 mod meeting;
+mod opening;
 mod order;
 mod plan;
+mod prepared;
 mod pruning;
 mod readiness;
 mod search;
@@ -23,9 +34,10 @@ mod task;
 mod values;
 mod without_target;
 
+pub use expressions::variable_alone;
 pub use finding::{bindings, source_bindings, target_bindings};
 pub use link::Link;
-pub use order::optional_order;
+pub use order::{binding_order, each_once, optional_order};
 pub use plan::{Plan, plan_of};
 pub use side::Side;
 pub use values::{duplicate_binding, duplicate_value};

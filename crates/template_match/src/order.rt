@@ -29,7 +29,7 @@ pub fn optional_order(one: Option<&Datum>, other: Option<&Datum>) -> Ordering
 }
 
 /// How two bindings stand by the values of the variables, one after another.
-fn binding_order(variables: &[u32], one: &Binding, other: &Binding) -> Ordering
+pub fn binding_order(variables: &[u32], one: &Binding, other: &Binding) -> Ordering
     ensures { result ≡ binding_order variables.now one.now other.now }
 {
     for variable in variables {
@@ -60,8 +60,8 @@ fn without_neighbours(variables: &[u32], found: Seq<Binding>) -> Seq<Binding>
     Seq::from_vec(bindings)
 }
 
-/// The bindings in order, each once.
-pub(crate) fn each_once(variables: &[u32], found: Seq<Binding>) -> Seq<Binding>
+/// The bindings in the order of the values of the variables; of those that tie one.
+pub fn each_once(variables: &[u32], found: Seq<Binding>) -> Seq<Binding>
     ensures { IsEachOnce (binding_order variables.now) found result }
 {
     without_neighbours(variables, in_order(variables, found))

@@ -1,5 +1,5 @@
 use Rattle.std.proofs.Common.{◌≡◌, map, take}
-use Rattle.staying_objects.specs.Marks.{with_marks}
+use Rattle.template_match.specs.Marks.{with_marks}
 use Rattle.staying_objects.proofs.marks.mark_objects.Given as goal
 
 abbrev pub invariant-loop-object : goal.invariant-loop-object

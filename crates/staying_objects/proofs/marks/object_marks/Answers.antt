@@ -1,6 +1,6 @@
 use Rattle.std.proofs.Common.{◌∙◌, arith, length, drop, map}
 use Rattle.std.proofs.lemmas.List.{take_at}
-use Rattle.staying_objects.proofs.MarkLaws.{fresh_marks}
+use Rattle.template_match.proofs.MarkLaws.{fresh_marks}
 use Rattle.staying_objects.proofs.marks.object_marks.Goals as goal
 
 pub returns : goal.returns

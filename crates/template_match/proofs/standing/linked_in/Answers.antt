@@ -1,4 +1,4 @@
-use Rattle.std.proofs.Common.{◌≡◌, sym, ap, ◌∙◌}
+use Rattle.std.proofs.Common.{sym, ap, ◌∙◌}
 use Rattle.std.specs.Option.{option_copied}
 use Rattle.qvtr_semantics.specs.Expressions.{setting}
 use Rattle.template_match.proofs.StandingLaws.{told_links_stand}

@@ -1,0 +1,10 @@
+use crate::asked::Asked;
+use crate::task::Task;
+
+/// A task, for each variable whether it is sought, and what the side's items ask by expressions.
+#[derive(Clone, Copy)]
+pub(crate) struct Prepared<'s, 'a, 'm> {
+    pub(crate) task: &'s Task<'a, 'm>,
+    pub(crate) sought: &'s [bool],
+    pub(crate) asked: &'s [Asked<'a>],
+}
