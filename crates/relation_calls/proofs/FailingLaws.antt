@@ -1,15 +1,13 @@
 -- Which binding fails first: of bindings in their order, the first that is alone is the least that fails.
-use Rattle.std.specs.Prelude.{◌≡◌, ◌⊎◌, ℕ, zero, suc, true, false, List, [], ◌∷◌, Option, None, Some, MatchOption, Contains, AllPairs, IsTrue}
-use Rattle.std.specs.List.{list_any}
+use Rattle.std.specs.Prelude.{◌≡◌, ◌⊎◌, ◌↔◌, ℕ, zero, suc, true, List, [], ◌∷◌, Option, None, Some, Contains, AllPairs, IsTrue}
 use Rattle.std.specs.Option.{option_map}
 use Rattle.std.specs.Ordering.{ordering_reverse, is_lt}
 use Rattle.std.specs.declared.cmp.Ordering.{Ordering}
 use Rattle.std.specs.declared.cmp.Ordering.TheVariants.{Less, Equal, Greater}
-use Rattle.std.proofs.Common.{refl, sym, ap, subst, ◌∙◌, arith, inl, inr}
+use Rattle.std.proofs.Common.{sym, ap, subst, ◌∙◌, arith, inl, inr}
 use Rattle.std.proofs.lemmas.Bool.{true≢false}
 use Rattle.std.proofs.lemmas.Bool.Decides.{leb_tells, eqb_tells}
 use Rattle.std.proofs.lemmas.Option.{same_Some}
-use Rattle.qvtr_semantics.specs.declared.limits.TheConstants.{MAX_CALLS}
 use Rattle.object_tables.specs.Models.{ModelData}
 use Rattle.qv_syntax.specs.declared.program.Program.{Program}
 use Rattle.qv_syntax.specs.declared.program.Rel.{Rel}
@@ -17,20 +15,19 @@ use Rattle.qvtr_semantics.specs.declared.datum.Datum.{Datum}
 use Rattle.qvtr_semantics.specs.declared.binding.Binding.{Binding}
 use Rattle.qvtr_semantics.specs.Data.{is_before}
 use Rattle.qvtr_semantics.specs.Templates.{Values, value_at}
-use Rattle.qvtr_semantics.specs.Calls.{SourceMatches, TargetHolds, Match, Holds, free}
+use Rattle.qvtr_semantics.specs.Bindings.{Source}
+use Rattle.qvtr_semantics.specs.Calls.{SourceMatches, Match, free}
 use Rattle.qvtr_semantics.specs.Satisfaction.{IsTop, Failing, LeastFailing, comes_before, IsLess}
 use Rattle.ocl_eval.specs.Order.{datum_order}
 use Rattle.ocl_eval.specs.OrderLaws.{before_by_order, order_total}
-use Rattle.template_match.specs.Search.{values_of}
 use Rattle.template_match.proofs.ListLaws.{contains_later}
 use Rattle.mof_metamodel.proofs.Facts.{contains_first}
 use Rattle.template_match.proofs.PublicLaws.{one_source_or_less}
 use Rattle.relation_calls.specs.declared.outcome.Outcome.{Outcome}
 use Rattle.relation_calls.specs.declared.outcome.Outcome.TheVariants as outcomes
-use Rattle.relation_calls.specs.declared.found.Found.{Found}
-use Rattle.relation_calls.specs.Outcomes.{IsOutcome, AreOutcomes, is_alone, first_alone}
-use Rattle.relation_calls.specs.Founds.{IsFound, IsLeastOf}
-use Rattle.relation_calls.proofs.OutcomeLaws.{none_alone}
+use Rattle.relation_calls.specs.Outcomes.{IsOutcome, AreOutcomes, first_alone}
+use Rattle.relation_calls.specs.Founds.{IsLeastOf}
+use Rattle.relation_calls.specs.Seeds.{IsLeastFound}
 
 -- ---- the order is strict
 
@@ -72,13 +69,14 @@ module _ (program : Program) (models : List ModelData) (n : ℕ) (rel : Rel) whe
   IsAlone b = IsOutcome program models n rel b outcomes.Alone
 
   -- where there is none, none is alone
-  none_first : (bs : List Values) (os : List Outcome) → AreOutcomes program models n rel bs os → first_alone bs os ≡ None → list_any is_alone os ≡ false
-  none_first [] [] all e = refl
-  none_first [] (o ∷ os) all e = absurd all
-  none_first (b ∷ bs) [] all e = refl
-  none_first (b ∷ bs) (outcomes.Unmatched ∷ os) all e = none_first bs os all.1 e
-  none_first (b ∷ bs) (outcomes.Alone ∷ os) all e = absurd (cc)
-  none_first (b ∷ bs) (outcomes.Partnered ∷ os) all e = none_first bs os all.1 e
+  none_first : (bs : List Values) (os : List Outcome) → AreOutcomes program models n rel bs os → first_alone bs os ≡ None → (b : Values) → Contains bs b → IsAlone b → ⊥
+  none_first [] os all e b (k, within, is) alone = absurd (omega (arith, within))
+  none_first (x ∷ bs) [] all e b c alone = absurd all
+  none_first (x ∷ bs) (outcomes.Alone ∷ os) all e b c alone = absurd (cc)
+  none_first (x ∷ bs) (outcomes.Unmatched ∷ os) all e b (zero, within, is) alone = all.0 (subst IsAlone (sym is) alone).0
+  none_first (x ∷ bs) (outcomes.Unmatched ∷ os) all e b (suc k, within, is) alone = none_first bs os all.1 e b (k, omega (arith, within), is) alone
+  none_first (x ∷ bs) (outcomes.Partnered ∷ os) all e b (zero, within, is) alone = let own = subst IsAlone (sym is) alone in own.1 all.0.1 all.0.2
+  none_first (x ∷ bs) (outcomes.Partnered ∷ os) all e b (suc k, within, is) alone = none_first bs os all.1 e b (k, omega (arith, within), is) alone
 
   -- all others that are alone come behind it
   record IsFirst (R : Values → Values → Type 0) (bs : List Values) (b : Values) : Type 0 where
@@ -107,39 +105,33 @@ module _ (program : Program) (models : List ModelData) (n : ℕ) (rel : Rel) whe
   is_first R (x ∷ bs) (outcomes.Partnered ∷ os) b pairs all e =
       further R x bs b (λ alone. alone.1 all.0.1 all.0.2) (is_first R bs os b (pairs_later R x bs pairs) all.1 e)
 
--- ---- a top relation
+-- ---- of those with the same roots
 
-module _ (program : Program) (models : List ModelData) (number : ℕ) (rel : Rel) (top : IsTop program number rel) where
-  matches_at : (c : Values) (f : Failing program models number c) → SourceMatches (Match program models) program models rel (free rel) c
-  matches_at c f = subst (λ (r : Rel). SourceMatches (Match program models) program models r (free r) c) (same_Some f.rel rel (sym f.top.is ∙ top.is)) f.source
+module _ (program : Program) (models : List ModelData) (n : ℕ) (rel : Rel) (roots : Values) (bs : List Values) (os : List Outcome) (exact : (b : Values) → Contains bs b ↔ Source program models rel roots b)
+    (sorted : AllPairs (IsLess rel.universal) bs) (outcomes_are : AreOutcomes program models n rel bs os)
+  where
+    -- a binding that meets the source and is alone
+    abbrev AloneHere : Values → Type 0
+    AloneHere b = Source program models rel roots b × IsOutcome program models n rel b outcomes.Alone
 
-  alone_at : (c : Values) (f : Failing program models number c) → (g : Values) → ¬ TargetHolds (Holds program models) program models rel c g
-  alone_at c f = subst (λ (r : Rel). (g : Values) → ¬ TargetHolds (Holds program models) program models r c g) (same_Some f.rel rel (sym f.top.is ∙ top.is)) f.alone
-
-  module _ (found : Found) (is : IsFound program models MAX_CALLS rel (free rel) found) where
-    none_fails : first_alone (values_of found.bindings) found.outcomes ≡ None → (b : Values) → ¬ Failing program models number b
-    none_fails none b f =
-        let (g, partner) = none_alone program models MAX_CALLS rel (free rel) found is (none_first program models MAX_CALLS rel (values_of found.bindings) found.outcomes is.outcomes none) b (matches_at b f) in
-        alone_at b f g partner
-
-    least_fails : (b : Values) → first_alone (values_of found.bindings) found.outcomes ≡ Some b → IsLeastOf program models number b
-    least_fails b some =
-        let first = is_first program models MAX_CALLS rel (IsLess rel.universal) (values_of found.bindings) found.outcomes b is.sorted is.outcomes some in
+    -- the first that is alone is the least of them
+    pub first_least : (o : Option Binding) → option_map (λ (b : Binding). b.values) o ≡ first_alone bs os → IsLeastFound rel.universal AloneHere o
+    first_least None e = λ b h. none_first program models n rel bs os outcomes_are (sym e) b ((exact b).1 h.0) h.1
+    first_least (Some b) e =
+        let first = is_first program models n rel (IsLess rel.universal) bs os b.values sorted outcomes_are (sym e) in
         record {
-          failing = record { rel = rel; top = top; source = record { source = (is.exact b).0 first.among; whens = first.alone.0 }; alone = first.alone.1 };
-          least = λ c f less. elim (first.others c ((is.exact c).1 (matches_at c f).source) ((matches_at c f).whens, alone_at c f)) [
-            | inl same ↦ let twice : IsLess rel.universal b b = subst (λ x. IsLess rel.universal x b) same less in less_twice rel.universal b b twice twice
-            | inr later ↦ less_twice rel.universal c b less later
+          among = ((exact b.values).0 first.among, first.alone);
+          least = λ c h less. elim (first.others c ((exact c).1 h.0) h.1) [
+            | inl same ↦ let twice : IsLess rel.universal b.values b.values = subst (λ x. IsLess rel.universal x b.values) same less in less_twice rel.universal b.values b.values twice twice
+            | inr later ↦ less_twice rel.universal c b.values less later
           ];
         }
 
-    -- what is found first of the bindings is the least that fails
-    pub failing_value : (o : Option Binding) → option_map (λ (b : Binding). b.values) o ≡ first_alone (values_of found.bindings) found.outcomes
-        → MatchOption o ((b : Values) → ¬ Failing program models number b) (λ b. IsLeastOf program models number b.values)
-    failing_value None e = none_fails (sym e)
-    failing_value (Some b) e = least_fails b.values (sym e)
-
 -- ---- at most one is the least
+
+matches_at : (program : Program) (models : List ModelData) (number : ℕ) (rel : Rel) → IsTop program number rel → (c : Values) (f : Failing program models number c)
+    → SourceMatches (Match program models) program models rel (free rel) c
+matches_at program models number rel top c f = subst (λ (r : Rel). SourceMatches (Match program models) program models r (free r) c) (same_Some f.rel rel (sym f.top.is ∙ top.is)) f.source
 
 -- two failing bindings of a relation are one, or one of them is less
 one_failing_or_less : (program : Program) (models : List ModelData) (number : ℕ) (b c : Values) (f : Failing program models number b) → Failing program models number c

@@ -12,4 +12,10 @@ pub mod StepLaws
 pub mod MakingLaws
 pub mod MemoLaws
 pub mod HeldLaws
+pub mod TemplateLaws
+pub mod FreedLaws
+pub mod LeafLaws
+pub mod SeedLaws
+pub mod LeastLaws
+pub mod TopLaws
 pub mod Refuting

@@ -1,20 +1,24 @@
 -- Wrong answers that the definitions exclude, each on a small case: what the definition gives, and that it isn't what the wrong
 -- code would answer. A contract says that the code's result is what the definition gives, so it refuses that code.
-use Rattle.std.specs.Prelude.{◌≡◌, ℕ, zero, suc, List, [], ◌∷◌, ◌++◌, codes, length, Option, None, Some, Contains}
+use Rattle.std.specs.Prelude.{◌≡◌, ℕ, zero, suc, true, List, [], ◌∷◌, ◌++◌, codes, length, Option, None, Some, Contains}
+use Rattle.std.specs.Option.{option_map}
 use Rattle.std.proofs.Common.{refl, ap, arith}
 use Rattle.qvtr_semantics.specs.declared.limits.TheConstants.{MAX_CALLS}
 use Rattle.qvtr_semantics.specs.declared.datum.Datum.{Datum}
 use Rattle.qvtr_semantics.specs.declared.datum.Datum.TheVariants.{Obj, Val}
+use Rattle.qvtr_semantics.specs.declared.binding.Binding.{Binding}
 use Rattle.qvtr_semantics.specs.Templates.{Values, value_at}
 use Rattle.qvtr_semantics.specs.Bindings.{Source}
-use Rattle.qvtr_semantics.specs.Calls.{RelationCall, HoldsFor, Holds}
+use Rattle.qvtr_semantics.specs.Calls.{RelationCall, HoldsFor, Holds, free}
 use Rattle.qvtr_semantics.specs.Chains.{IsCyclic, IsDeep}
 use Rattle.qvtr_semantics.specs.Satisfaction.{Satisfied}
-use Rattle.qvtr_semantics.specs.SmallModels.{program, both, package_to_schema, two_schemas, one_only, b_alone, text, object, package_call, again_call}
+use Rattle.qvtr_semantics.specs.SmallModels.{program, both, package_to_schema, class_to_table, two_schemas, one_only, b_alone, text, object, package_call, again, again_call}
 use Rattle.qvtr_semantics.proofs.RowAnswers.{IsThree, three_of, IsPackage, source_is, package_b_is_the_least}
 use Rattle.qvtr_semantics.proofs.WhereAnswers.{package_call_holds}
 use Rattle.relation_calls.specs.declared.outcome.Outcome.TheVariants as outcomes
+use Rattle.relation_calls.specs.Leaves.{is_leaf}
 use Rattle.relation_calls.specs.Outcomes.{first_alone}
+use Rattle.relation_calls.specs.Seeds.{arguments_of, seeded, lesser}
 use Rattle.relation_calls.specs.Visits.{IsChain}
 
 -- ---- bindings and what comes of them
@@ -50,6 +54,30 @@ first_package_is_enough satisfied = satisfied 0 b_alone package_b_is_the_least.f
 -- a binding whose calls in the when clause don't match
 pub unmatched_binding_is_named : first_alone (a_alone ∷ []) (outcomes.Unmatched ∷ []) ≡ Some a_alone → ⊥
 unmatched_binding_is_named e = cc
+
+-- ---- seeds
+
+-- a relation that calls itself as one that calls none
+pub caller_as_leaf : is_leaf again ≡ true → ⊥
+caller_as_leaf e = cc
+
+pub arguments_at_their_roots : arguments_of package_to_schema (2 ∷ 4 ∷ []) ≡ None ∷ Some 2 ∷ Some 4 ∷ []
+arguments_at_their_roots = refl
+
+-- the seed of the package b and the schema s1
+abbrev seed_of_b : Values
+seed_of_b = seeded (free class_to_table) (arguments_of package_to_schema (2 ∷ 4 ∷ [])) (text (codes "b") ∷ object 0 1 ∷ object 1 0 ∷ [])
+
+pub package_and_schema_alone : seed_of_b ≡ None ∷ None ∷ object 0 1 ∷ None ∷ object 1 0 ∷ []
+package_and_schema_alone = refl
+
+-- another package than that of the match
+pub seed_of_another_package : seed_of_b ≡ None ∷ None ∷ object 0 0 ∷ None ∷ object 1 0 ∷ [] → ⊥
+seed_of_another_package e = let apart : 1 ≡ 0 = ap (λ b. object_number (value_at b 2)) e in absurd (omega (arith, apart))
+
+-- of two bindings the one that was found first, where the other one is less
+pub first_found_is_least : lesser (1 ∷ []) (Some (record { values = b_alone })) (Some (record { values = a_alone })) ≡ Some (record { values = b_alone }) → ⊥
+first_found_is_least e = let apart : 0 ≡ 1 = ap (λ (o : Option Binding). package_of (option_map (λ (b : Binding). b.values) o)) e in absurd (omega (arith, apart))
 
 -- ---- calls in where clauses
 

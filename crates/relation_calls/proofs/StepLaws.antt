@@ -61,7 +61,7 @@ module _ (bs : List Binding) (i : ℕ) (b : Binding) (within : i < length bs) (i
   pub value_here : Contains (values_of bs) b.values
   value_here = contains_map (λ (x : Binding). x.values) bs b (item_of bs i b within is)
 
-  next_values : (j : ℕ) → j ≡ suc i → values_of (take j bs) ≡ values_of (take i bs) ++ b.values ∷ []
+  pub next_values : (j : ℕ) → j ≡ suc i → values_of (take j bs) ≡ values_of (take i bs) ++ b.values ∷ []
   next_values j next = one_more (λ (x : Binding). x.values) bs i j b next within is
 
   pub value_fault : (D : Values → Chains) (e : CallError) → IsFault (D b.values) e → IsFault (ByValues D (values_of bs)) e

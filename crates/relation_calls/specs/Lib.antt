@@ -8,3 +8,6 @@ pub mod Visits
 pub mod CallOrder
 pub mod Memos
 pub mod Links
+pub mod Leaves
+pub mod Leads
+pub mod Seeds

@@ -357,7 +357,7 @@ fn outcome_of(visit: &Visit<'_, '_>, memo: &mut Memo, b: &Binding) -> Result<Out
 
 /// What comes of each of them.
 #[cycle(asking)]
-fn outcomes_of(
+pub(crate) fn outcomes_of(
     visit: &Visit<'_, '_>,
     memo: &mut Memo,
     bs: &[Binding],

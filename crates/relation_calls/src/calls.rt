@@ -14,16 +14,17 @@ ghost use Rattle.relation_calls.specs.Memos.{IsTold};
 use crate::asking::{explore, is_match};
 use crate::chain::longer_chain;
 use crate::error::CallError;
-use crate::making::free;
+use crate::failing::least_failing;
 use crate::memo::Memo;
 use crate::name::CallName;
-use crate::outcome::{first_alone, is_any_alone};
+use crate::outcome::is_any_alone;
+use crate::visit::Visit;
 use mof_metamodel::{NoMemory, Seq};
 use ocl_eval::Models;
 use qv_syntax::Program;
 use qvtr_semantics::Binding;
 use std::alloc::Global;
-use template_match::duplicate_binding;
+use template_match::{duplicate_binding, plan_of};
 
 /// The name of a call with these roots.
 fn name_of(alloc: Global, rel: u32, roots: &Binding) -> Result<CallName, NoMemory>
@@ -31,15 +32,6 @@ fn name_of(alloc: Global, rel: u32, roots: &Binding) -> Result<CallName, NoMemor
 {
     let roots = duplicate_binding(alloc, roots)?;
     Ok(CallName { rel, roots })
-}
-
-/// The name of a top relation with free roots.
-fn top_name(alloc: Global, program: &Program, number: u32) -> Result<CallName, NoMemory>
-    requires { (rel : Rel) × IsTop program.now number rel }
-    ensures { IfOk result (λ name. (rel : Rel) → IsTop program.now number rel → call_named name ≡ record { rel = number; roots = free rel }) }
-{
-    let roots = free(alloc, &program.rels.as_slice()[number as usize])?;
-    Ok(CallName { rel: number, roots })
 }
 
 /// Whether a call holds that no other made.
@@ -128,8 +120,15 @@ pub fn failing_binding(
     ensures fault { IfErr result (λ e. (rel : Rel) → IsTop program.now number rel → IsFault (TopChain program.now models.now (record { rel = number; roots = free rel })) e) }
     ensures told { IsTold program.now models.now memo.new }
 {
-    let name = top_name(alloc, program, number)?;
+    let plan = plan_of(alloc, program, number)?;
     let none = Seq::new(alloc);
-    let found = explore(alloc, program, models, memo, none.as_slice(), &name)?;
-    Ok(first_alone(alloc, found.bindings.as_slice(), found.outcomes.as_slice())?)
+    let visit = Visit {
+        alloc,
+        program,
+        models,
+        rel: &program.rels.as_slice()[number as usize],
+        plan: &plan,
+        upto: none.as_slice(),
+    };
+    least_failing(&visit, memo)
 }

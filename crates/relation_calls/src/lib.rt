@@ -3,6 +3,8 @@
 //! chain of calls that comes back to one of its calls, or has more than `MAX_CALLS`, is refused whatever the answer would be. Answers are
 //! kept in a `Memo`: a match is looked for once, and whether a call in a where clause holds at most once for each length of a chain that
 //! ends with it, so the time doesn't grow with the number of paths of calls.
+//! A top relation whose when clause calls only relations that call none begins with the matches of one of
+//! them: the bindings of one match are held at a time, and the values of other variables are looked for alone.
 #![tactic(auto)]
 
 mod asking;
@@ -11,13 +13,16 @@ mod calls;
 mod chain;
 mod copying;
 mod error;
+mod failing;
 mod found;
 mod laws;
+mod leading;
 mod making;
 mod memo;
 mod name;
 mod outcome;
 mod root_key;
+mod seeds;
 mod visit;
 
 pub use calls::{failing_binding, holds_call, match_call};

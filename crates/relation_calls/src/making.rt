@@ -25,7 +25,7 @@ pub(crate) fn free(alloc: Global, rel: &Rel) -> Result<Binding, NoMemory>
 }
 
 /// Gives a variable a value, if there is such a variable.
-fn put(values: &mut Vec<Option<Datum>>, variable: u32, datum: Datum)
+pub(crate) fn put(values: &mut Vec<Option<Datum>>, variable: u32, datum: Datum)
     ensures { values.new.items ≡ slice_set values.old.items variable (Some datum) }
 {
     let place = variable as usize;

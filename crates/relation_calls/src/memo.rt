@@ -1,13 +1,17 @@
-ghost use Rattle.std.specs.Prelude.{◌≡◌, ◌≤◌, ◌<◌, ℕ, List, None, Some, Bool, IfSome, OnOk, OnErr};
+ghost use Rattle.std.specs.Prelude.{◌≡◌, ◌≤◌, ◌<◌, ℕ, List, None, Some, Bool, IfSome, OnOk, OnErr, slice_get};
+ghost use Rattle.std.specs.Option.{option_copied};
+ghost use Rattle.std.specs.Ordering.{nat_cmp};
 ghost use Rattle.std.specs.BTreeMap.{get, IsUnchanged, Updates};
 ghost use Rattle.object_tables.specs.Models.{ModelData};
 ghost use Rattle.qv_syntax.specs.declared.program.Program.{Program};
 ghost use Rattle.relation_calls.specs.declared.memo.Answer.{Answer};
 ghost use Rattle.relation_calls.specs.CallOrder.{call_order};
-ghost use Rattle.relation_calls.specs.Memos.{IsMatching, IsHolding, IsTold};
+ghost use Rattle.relation_calls.specs.Leaves.{is_leaf_there};
+ghost use Rattle.relation_calls.specs.Memos.{IsMatching, IsHolding, AreListed, IsTold};
 
 use crate::call_key::CallKey;
-use mof_metamodel::NoMemory;
+use mof_metamodel::{NoMemory, Seq};
+use qvtr_semantics::Binding;
 use std::alloc::Global;
 use std::collections::BTreeMap;
 
@@ -18,12 +22,15 @@ pub(crate) struct Answer {
     pub(crate) height: usize,
 }
 
-/// Answers to calls of one program over one state of its models: whether a call that was asked for a match matches, and whether one in a
-/// where clause holds. A look-up takes the logarithm of their number.
+/// Answers to calls of one program over one state of its models: whether a call that was asked for a match
+/// matches, and whether one in a where clause holds. It also keeps whether a relation calls none, and all
+/// matches of some that do so. A look-up takes the logarithm of their number.
 #[derive(Drop)]
 pub struct Memo {
     matching: BTreeMap<CallKey, bool>,
     holding: BTreeMap<CallKey, Answer>,
+    leaves: BTreeMap<u32, bool>,
+    listed: BTreeMap<u32, Seq<Binding>>,
 }
 
 impl Memo {
@@ -34,6 +41,8 @@ impl Memo {
         Memo {
             matching: BTreeMap::new(alloc),
             holding: BTreeMap::new(alloc),
+            leaves: BTreeMap::new(alloc),
+            listed: BTreeMap::new(alloc),
         }
     }
 
@@ -79,6 +88,43 @@ impl Memo {
         ensures told { (program : Program) (models : List ModelData) → IsTold program models self.old → IsHolding program models call answer → IsTold program models self.new }
     {
         self.holding.insert(call, answer)?;
+        Ok(())
+    }
+
+    /// Whether the relation of the number calls none, if that is kept.
+    pub(crate) fn kept_leaf(&self, number: u32) -> Option<bool>
+        ensures { result ≡ get nat_cmp self.now.leaves number }
+    {
+        match self.leaves.get(&number) {
+            Some(one) => Some(*one),
+            None => None,
+        }
+    }
+
+    /// Keeps whether the relation of the number calls none.
+    pub(crate) fn keep_leaf(&mut self, number: u32, one: bool) -> Result<(), NoMemory>
+        ensures kept { OnOk result (Updates nat_cmp self.old.leaves self.new.leaves number (Some one)) }
+        ensures unchanged { OnErr result (IsUnchanged self.old.leaves self.new.leaves) }
+        ensures told { (program : Program) (models : List ModelData) → IsTold program models self.old → one ≡ is_leaf_there (slice_get program.rels number) → IsTold program models self.new }
+    {
+        self.leaves.insert(number, one)?;
+        Ok(())
+    }
+
+    /// The matches of the relation of the number, if they are kept.
+    pub(crate) fn kept_matches(&self, number: u32) -> Option<&Seq<Binding>>
+        ensures { option_copied result ≡ get nat_cmp self.now.listed number }
+    {
+        self.listed.get(&number)
+    }
+
+    /// Keeps the matches of the relation of the number.
+    pub(crate) fn keep_matches(&mut self, number: u32, gs: Seq<Binding>) -> Result<(), NoMemory>
+        ensures kept { OnOk result (Updates nat_cmp self.old.listed self.new.listed number (Some gs)) }
+        ensures unchanged { OnErr result (IsUnchanged self.old.listed self.new.listed) }
+        ensures told { (program : Program) (models : List ModelData) → IsTold program models self.old → AreListed program models number gs → IsTold program models self.new }
+    {
+        self.listed.insert(number, gs)?;
         Ok(())
     }
 }

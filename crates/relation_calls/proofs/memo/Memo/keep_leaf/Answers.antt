@@ -1,0 +1,13 @@
+use Rattle.std.proofs.Common.{refl}
+use Rattle.relation_calls.proofs.MemoLaws.{unchanged_leaves, more_leaves}
+use Rattle.relation_calls.proofs.memo.Memo.keep_leaf.Goals as goal
+
+pub returns-in_err-insert-clause-told : goal.returns-in_err-insert-clause-told
+returns-in_err-insert-clause-told c = λ program models told is.
+    let old = c.args.self.now in
+    unchanged_leaves program models old (record { matching = old.matching; holding = old.holding; leaves = c.insert.new.self; listed = old.listed }) told c.in_err-insert.ensures.err refl refl refl
+
+pub returns-clause-told : goal.returns-clause-told
+returns-clause-told c = λ program models told is.
+    let old = c.args.self.now in
+    more_leaves program models old (record { matching = old.matching; holding = old.holding; leaves = c.insert.new.self; listed = old.listed }) told c.args.number c.args.one c.in_ok-insert.ensures.updates refl refl refl is
