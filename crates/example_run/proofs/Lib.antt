@@ -1,5 +1,4 @@
 pub mod EmptyLaws
-pub mod ErrorLaws
 pub mod PremiseLaws
 pub mod RefusalLaws
 pub mod SecondLaws

@@ -1,6 +1,6 @@
 -- The example's transformation can be enforced over its models.
-use Rattle.std.proofs.Common.{◌≡◌, ◌<◌, ◌≤◌, ◌^◌, ℕ, zero, suc, List, [], ◌∷◌, length, refl, sym, ap, ◌∙◌, subst, arith}
-use Rattle.std.specs.Prelude.{codes, Some, slice_get, Contains, All}
+use Rattle.std.proofs.Common.{◌≡◌, ◌<◌, ◌^◌, ℕ, zero, suc, length, refl, sym, ap, ◌∙◌, subst, arith}
+use Rattle.std.specs.Prelude.{codes, Some, slice_get}
 use Rattle.std.proofs.lemmas.Option.{same_Some, none-some}
 use Rattle.std.proofs.lemmas.List.Elements.{All-contains}
 use Rattle.object_tables.specs.Models.{ModelData}
@@ -14,8 +14,10 @@ use Rattle.entry_finding.specs.Premises.{CanBeEnforced}
 use Rattle.example_models.specs.Source.{source_data}
 use Rattle.example_program.specs.MainProgram.{main_program_data}
 use Rattle.example_run.specs.Repaired.{IsReadable}
-use Rattle.example_run.specs.Examples.{example_metas, IsGoodProgram, empty_target, first_models}
-use Rattle.example_run.proofs.EmptyLaws.{empty_is_valid, empty_is_readable}
+use Rattle.example_laws.specs.ExampleModels.{empty_target, first_models}
+use Rattle.example_laws.proofs.EmptyLaws.{empty_is_valid}
+use Rattle.example_run.specs.Examples.{example_metas, IsGoodProgram}
+use Rattle.example_run.proofs.EmptyLaws.{empty_is_readable}
 
 module _ (classes seed : ℕ) (valid : Valid (source_data classes seed)) where
   -- a model of the metamodel of the slot

@@ -9,12 +9,15 @@ use Rattle.repair_semantics.specs.declared.report.Report.{Report}
 use Rattle.repair_semantics.specs.Candidates.{candidate}
 use Rattle.enforce_mode.specs.Made.{IsSound}
 use Rattle.entry_finding.specs.Premises.{CanBeEnforced}
+use Rattle.demand_set.specs.declared.demand_error.DemandError.{DemandError}
+use Rattle.demand_set.specs.declared.demand_error.DemandError.TheVariants as demands
+use Rattle.demand_set.specs.DemandSets.{DemandData, IsDemandSet, IsRefusal}
 use Rattle.example_models.specs.Source.{source_data}
 use Rattle.example_program.specs.MainProgram.{main_program_data}
-use Rattle.example_run.specs.declared.error.ExampleError.{ExampleError}
 use Rattle.example_run.specs.declared.outcome.Outcome.{Outcome}
-use Rattle.example_run.specs.Repaired.{IsReadable, IsRepaired, IsRefused, IsAfter}
-use Rattle.example_run.specs.Examples.{example_metas, IsGoodProgram, empty_target, first_models, IsFirst, IsOutcome}
+use Rattle.example_run.specs.Repaired.{IsReadable, IsUnrefused, IsRepaired, IsAfter}
+use Rattle.example_laws.specs.ExampleModels.{empty_target, first_models}
+use Rattle.example_run.specs.Examples.{example_metas, IsGoodProgram, IsOutcome}
 use Rattle.example_run.proofs.EmptyLaws.{made_is_readable}
 use Rattle.example_run.proofs.PremiseLaws.{can_enforce, target_readable}
 use Rattle.example_run.proofs.SecondLaws.{made_there}
@@ -58,8 +61,17 @@ module _ (classes seed : ℕ) (valid : Valid (source_data classes seed)) (good :
     pub readable_first : (target : ModelData) → slice_get models program.target ≡ Some target → IsReadable target
     readable_first target is = target_readable classes seed valid target (ap (λ (x : Program). slice_get (first_models classes seed) x.target) (sym p) ∙ ap (λ (ms : List ModelData). slice_get ms program.target) (sym m) ∙ is)
 
-    pub refused_first : (e : ExampleError) → IsRefused program models e → IsRefused main_program_data (first_models classes seed) e
-    refused_first e h = subst (λ (ms : List ModelData). IsRefused main_program_data ms e) m (subst (λ (x : Program). IsRefused x models e) p h)
+    -- nothing is refused, where the laws of the example hold
+    pub unrefused_first : ((e : DemandError) → IsRefusal main_program_data (first_models classes seed) e → e ≡ demands.NoMemory)
+        → ((d : DemandData) → CanBeEnforced example_metas main_program_data (first_models classes seed) → IsDemandSet main_program_data (first_models classes seed) d
+        → IsSound (candidate main_program_data empty_target d.list)) → IsUnrefused program models
+    unrefused_first memory sound =
+        subst (λ (x : Program). IsUnrefused x models) (sym p)
+        (subst (λ (ms : List ModelData). IsUnrefused main_program_data ms) (sym m) (record {
+          demanded = memory;
+          sound = λ target d r.
+              subst (λ (t : ModelData). IsSound (candidate main_program_data t d.list)) (same_Some empty_target target r.target_is) (sound d (can_enforce classes seed valid good) r.are);
+        }))
 
     repaired_there : (later : List ModelData) (report : Report) → IsRepaired program models later report → IsRepaired main_program_data (first_models classes seed) later report
     repaired_there later report r =

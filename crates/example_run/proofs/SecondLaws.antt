@@ -1,5 +1,5 @@
 -- After an enforcement the relations hold, and another one is neither refused nor changes anything.
-use Rattle.std.proofs.Common.{◌≡◌, ◌≤◌, ℕ, zero, suc, true, List, [], ◌∷◌, length, None, Some, refl, sym, ap, ◌∙◌, subst}
+use Rattle.std.proofs.Common.{◌≡◌, ◌≤◌, ℕ, zero, suc, true, List, [], ◌∷◌, length, Some, refl, sym, ap, ◌∙◌, subst}
 use Rattle.std.specs.Prelude.{slice_get, slice_set}
 use Rattle.std.proofs.lemmas.Option.{same_Some, none-some}
 use Rattle.mof_metamodel.specs.declared.desc.MetaDesc.{MetaDesc}
@@ -18,15 +18,13 @@ use Rattle.repair_semantics.specs.Reports.{IsReport}
 use Rattle.repair_laws.specs.Repairs.{with_target}
 use Rattle.entry_finding.specs.Premises.{CanBeEnforced}
 use Rattle.demand_set.specs.DemandSets.{DemandData, IsDemandSet}
-use Rattle.enforce_mode.specs.Made.{IsSound, IsAgainst}
+use Rattle.enforce_mode.specs.Made.{IsSound}
 use Rattle.relation_calls.specs.declared.error.CallError.{CallError}
 use Rattle.relation_calls.specs.declared.error.CallError.TheVariants as calls
 use Rattle.relation_calls.specs.Faults.{IsFault}
 use Rattle.relation_calls.specs.Names.{chain_named}
-use Rattle.example_run.specs.declared.error.ExampleError.{ExampleError}
-use Rattle.example_run.specs.declared.error.ExampleError.TheVariants as errors
-use Rattle.example_run.specs.Repaired.{IsReadable, IsRepaired, IsRefused, IsAfter}
-use Rattle.example_run.proofs.RefusalLaws.{only_memory, not_refused}
+use Rattle.example_run.specs.Repaired.{IsReadable, IsUnrefused, IsRepaired, IsAfter}
+use Rattle.example_run.proofs.RefusalLaws.{not_refused}
 
 -- ---- the laws of enforcement
 
@@ -109,18 +107,18 @@ module _ (program : Program) (models : List ModelData) (a : IsAfter program mode
   over_written : (again : DemandData) → IsDemandSet program models again → IsDemandSet program (with_target program a.before made) again
   over_written again is = subst (λ (ms : List ModelData). IsDemandSet program ms again) a.repaired.after_is is
 
-  -- nothing but memory is refused
-  pub refused_after : IsOfSources → Stays → (e : ExampleError) → IsRefused program models e → e ≡ errors.NoMemory
-  refused_after sources stays errors.NoMemory refused = refl
-  refused_after sources stays (errors.Demands e) refused = absurd (not_refused program models d (demanded_again sources) e refused.0 refused.1)
-  refused_after sources stays (errors.Made e) refused =
-      let r = refused.0 in
-      let is : made ≡ r.target = made_is r.target r.demanded.target_is in
-      let same : candidate program r.target r.demands.list ≡ made =
-      ap (λ (m : ModelData). candidate program m r.demands.list) (sym is)
-      ∙ stays a.metas program a.before target d a.can a.repaired.demanded.target_is readable.valid a.repaired.demanded.are readable.numbers a.repaired.sound made (same_as_itself made) a.repaired.sound.valid
-      r.demands (over_written r.demands r.demanded.are) in
-      absurd (only_memory made a.repaired.sound e (subst (λ (m : ModelData). IsAgainst m e) same r.against) refused.1)
+  -- nothing is refused
+  pub unrefused_after : IsOfSources → Stays → IsUnrefused program models
+  unrefused_after sources stays = record {
+    demanded = not_refused program models d (demanded_again sources);
+    sound = λ m again r.
+        (let is : made ≡ m = made_is m r.target_is in
+        let same : candidate program m again.list ≡ made =
+        ap (λ (x : ModelData). candidate program x again.list) (sym is)
+        ∙ stays a.metas program a.before target d a.can a.repaired.demanded.target_is readable.valid a.repaired.demanded.are readable.numbers a.repaired.sound made (same_as_itself made) a.repaired.sound.valid
+        again (over_written again r.are) in
+        subst IsSound (sym same) a.repaired.sound);
+  }
 
   -- and nothing changes
   pub unchanged_after : IsToldToStay → IsReadable made → (later : List ModelData) (report : Report) → IsRepaired program models later report → report.unchanged ≡ true

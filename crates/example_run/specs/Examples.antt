@@ -1,4 +1,4 @@
--- The example: a source of so many classes, and an empty target; and what is told of it.
+-- What is told of the example, whose models are a source of so many classes and an empty target.
 use Rattle.std.specs.Prelude.{◌≡◌, ◌<◌, ◌≤◌, ◌^◌, ℕ, true, List, [], ◌∷◌, length, Contains, All}
 use Rattle.mof_metamodel.specs.declared.desc.MetaDesc.{MetaDesc}
 use Rattle.qv_syntax.specs.declared.program.Program.{Program}
@@ -10,8 +10,9 @@ use Rattle.example_models.specs.ClsTable.{cls_desc}
 use Rattle.object_tables.specs.Models.{ModelData}
 use Rattle.repair_semantics.specs.declared.report.Report.{Report}
 use Rattle.example_models.specs.RdbTable.{rdb_desc}
-use Rattle.example_models.specs.Source.{source_data, attributes_before}
+use Rattle.example_models.specs.Source.{attributes_before}
 use Rattle.example_program.specs.MainProgram.{main_program_data}
+use Rattle.example_laws.specs.ExampleModels.{first_models}
 use Rattle.example_run.specs.declared.outcome.Outcome.{Outcome}
 use Rattle.example_run.specs.declared.summary.Summary.{Summary}
 use Rattle.example_run.specs.Repaired.{IsRepaired}
@@ -27,13 +28,6 @@ pub record IsGoodProgram (program : Program) : Type 0 where
   pub texts : HasStorableTexts program
   pub vars : (rel : Rel) → Contains program.rels rel → length rel.vars ≤ 2 ^ 32
   pub wheres : All (λ (rel : Rel). length rel.wheres < 2 ^ 32) program.rels
-
-abbrev pub empty_target : ModelData
-empty_target = record { meta = rdb_desc; objects = [] }
-
--- the models before the first enforcement
-abbrev pub first_models : ℕ → ℕ → List ModelData
-first_models classes seed = source_data classes seed ∷ empty_target ∷ []
 
 -- what the first enforcement makes of them, with its report
 pub record IsFirst (classes seed created : ℕ) : Type 0 where

@@ -1,3 +1,2 @@
-pub mod Refusals
 pub mod Repaired
 pub mod Examples

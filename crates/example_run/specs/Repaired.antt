@@ -1,5 +1,5 @@
--- What an enforcement makes of the target among models, or why it makes nothing (QVT 1.3, sections 7.2 and 7.10.2).
-use Rattle.std.specs.Prelude.{◌≡◌, ◌≢◌, ◌≤◌, List, length, Some, slice_get}
+-- What an enforcement makes of the target among models, and that nothing stands against it but memory (QVT 1.3, sections 7.2 and 7.10.2).
+use Rattle.std.specs.Prelude.{◌≡◌, ◌≤◌, List, length, Some, slice_get}
 use Rattle.mof_metamodel.specs.declared.desc.MetaDesc.{MetaDesc}
 use Rattle.object_tables.specs.Models.{ModelData}
 use Rattle.object_tables.specs.Validity.{Valid}
@@ -9,12 +9,10 @@ use Rattle.repair_semantics.specs.Candidates.{candidate}
 use Rattle.repair_semantics.specs.Reports.{IsReport}
 use Rattle.repair_laws.specs.Repairs.{with_target}
 use Rattle.entry_finding.specs.Premises.{CanBeEnforced}
+use Rattle.demand_set.specs.declared.demand_error.DemandError.{DemandError}
 use Rattle.demand_set.specs.declared.demand_error.DemandError.TheVariants as demands
 use Rattle.demand_set.specs.DemandSets.{DemandData, IsDemandSet, IsRefusal}
-use Rattle.enforce_mode.specs.declared.error.EnforceError.TheVariants as making
-use Rattle.enforce_mode.specs.Made.{IsSound, IsAgainst}
-use Rattle.example_run.specs.declared.error.ExampleError.{ExampleError}
-use Rattle.example_run.specs.declared.error.ExampleError.TheVariants as errors
+use Rattle.enforce_mode.specs.Made.{IsSound}
 
 -- the target is valid, and there are numbers for further objects
 pub record IsReadable (m : ModelData) : Type 0 where
@@ -26,6 +24,11 @@ pub record IsDemanded (program : Program) (models : List ModelData) (target : Mo
   pub target_is : slice_get models program.target ≡ Some target
   pub are : IsDemandSet program models d
 
+-- nothing is refused of the models: no demands but for want of memory, and what is demanded makes a sound model
+pub record IsUnrefused (program : Program) (models : List ModelData) : Type 0 where
+  pub demanded : (e : DemandError) → IsRefusal program models e → e ≡ demands.NoMemory
+  pub sound : (target : ModelData) (d : DemandData) → IsDemanded program models target d → IsSound (candidate program target d.list)
+
 -- the target became what is demanded of it, which is sound, and the report says what that changed
 pub record IsRepaired (program : Program) (before after : List ModelData) (report : Report) : Type 0 where
   pub target : ModelData
@@ -34,19 +37,6 @@ pub record IsRepaired (program : Program) (before after : List ModelData) (repor
   pub sound : IsSound (candidate program target demands.list)
   pub after_is : after ≡ with_target program before (candidate program target demands.list)
   pub report_is : IsReport program target demands.list report
-
--- something stands against the model that is made of what is demanded
-pub record IsMadeAgainst (program : Program) (models : List ModelData) (IsSo : ModelData → Type 0) : Type 0 where
-  pub target : ModelData
-  pub demands : DemandData
-  pub demanded : IsDemanded program models target demands
-  pub against : IsSo (candidate program target demands.list)
-
--- what an error says; want of memory says nothing
-abbrev pub IsRefused : Program → List ModelData → ExampleError → Type 0
-IsRefused program models (errors.Demands e) = IsRefusal program models e × (e ≢ demands.NoMemory)
-IsRefused program models (errors.Made e) = IsMadeAgainst program models (λ made. IsAgainst made e) × (e ≢ making.NoMemory)
-IsRefused program models errors.NoMemory = Unit {0}
 
 -- an enforcement made the target of these models, from one that was readable
 pub record IsAfter (program : Program) (models : List ModelData) : Type 0 where

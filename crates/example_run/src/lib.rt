@@ -4,7 +4,7 @@
 //! It takes the time and memory of the demands (`demand_set`), twice, of the model that is made and of one check.
 #![tactic(auto)]
 
-mod error;
+mod memory;
 mod models;
 mod outcome;
 mod repairing;
@@ -12,6 +12,5 @@ mod running;
 mod second_look;
 mod summary;
 
-pub use error::ExampleError;
 pub use running::run_example;
 pub use summary::Summary;

@@ -4,7 +4,7 @@ ghost use Rattle.object_tables.specs.Models.{live_count};
 ghost use Rattle.example_models.specs.declared.limits.TheConstants.{MAX_SOURCE_CLASSES};
 ghost use Rattle.example_models.specs.RdbTable.{rdb_desc};
 ghost use Rattle.example_models.specs.Source.{attributes_before, source_count};
-ghost use Rattle.example_run.specs.Examples.{empty_target};
+ghost use Rattle.example_laws.specs.ExampleModels.{empty_target};
 
 use mof_metamodel::{MetaModel, NoMemory, or_drop};
 use object_tables::Model;

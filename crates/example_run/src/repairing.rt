@@ -1,16 +1,17 @@
 //! One enforcement of a program on the target among models.
-ghost use Rattle.std.specs.Prelude.{◌≡◌, ◌<◌, List, length, Some, slice_get, IfOk, IfErr};
+ghost use Rattle.std.specs.Prelude.{◌≡◌, ◌<◌, List, length, Some, slice_get, IfOk};
 ghost use Rattle.mof_metamodel.specs.declared.desc.MetaDesc.{MetaDesc};
 ghost use Rattle.object_tables.specs.Models.{ModelData};
 ghost use Rattle.repair_laws.specs.Repairs.{with_target};
 ghost use Rattle.entry_finding.specs.Premises.{CanBeEnforced};
 ghost use Rattle.demand_set.specs.DemandSets.{IsDemandSet};
-ghost use Rattle.example_run.specs.Repaired.{IsReadable, IsRefused, IsRepaired};
+ghost use Rattle.example_run.specs.Repaired.{IsReadable, IsRepaired, IsUnrefused};
 
-use crate::error::{ExampleError, of_demands, of_making};
+use crate::memory::{demand_memory, making_memory};
 use demand_set::{DemandSet, demands};
 use enforce_mode::{Edits, prepare};
 use enforcement_laws::demand_sets_are_demands;
+use mof_metamodel::NoMemory;
 use object_tables::Model;
 use ocl_eval::Models;
 use qv_syntax::Program;
@@ -34,31 +35,27 @@ fn readied<'m>(
     program: &Program,
     models: &Models<'m>,
     found: &DemandSet,
-) -> Result<Edits<'m>, ExampleError>
+) -> Result<Edits<'m>, NoMemory>
     requires premises { (metas : List MetaDesc) × CanBeEnforced metas program.now models.now }
     requires readable { (m : ModelData) → slice_get models.now program.now.target ≡ Some m → IsReadable m }
+    requires unrefused { IsUnrefused program.now models.now }
     requires demanded { IsDemandSet program.now models.now found.now }
-    ensures ok { IfOk result (λ e. IsRepaired program.now models.now (with_target program.now models.now e.made) e.report) }
-    ensures err { IfErr result (IsRefused program.now models.now) }
+    ensures { IfOk result (λ e. IsRepaired program.now models.now (with_target program.now models.now e.made) e.report) }
 {
     demand_sets_are_demands();
     let target = target_of(program, models);
     match prepare(alloc, program, found, target) {
         Ok(edits) => Ok(edits),
-        Err(error) => Err(of_making(error)),
+        Err(error) => Err(making_memory(error)),
     }
 }
 
 /// The same, from the demands on.
-fn ready<'m>(
-    alloc: Global,
-    program: &Program,
-    models: &Models<'m>,
-) -> Result<Edits<'m>, ExampleError>
+fn ready<'m>(alloc: Global, program: &Program, models: &Models<'m>) -> Result<Edits<'m>, NoMemory>
     requires premises { (metas : List MetaDesc) × CanBeEnforced metas program.now models.now }
     requires readable { (m : ModelData) → slice_get models.now program.now.target ≡ Some m → IsReadable m }
-    ensures ok { IfOk result (λ e. IsRepaired program.now models.now (with_target program.now models.now e.made) e.report) }
-    ensures err { IfErr result (IsRefused program.now models.now) }
+    requires unrefused { IsUnrefused program.now models.now }
+    ensures { IfOk result (λ e. IsRepaired program.now models.now (with_target program.now models.now e.made) e.report) }
 {
     match demands(alloc, program, models) {
         Ok(found) => {
@@ -66,20 +63,21 @@ fn ready<'m>(
             drop(found);
             edits
         }
-        Err(error) => Err(of_demands(error)),
+        Err(error) => Err(demand_memory(error)),
     }
 }
 
-/// Makes the target among the models what is demanded of it, and says what that changes. Where that is refused the models stay as they are.
+/// Makes the target among the models what is demanded of it, and says what that changes. Where memory runs out the
+/// models stay as they are.
 pub(crate) fn repair<'m>(
     alloc: Global,
     program: &Program,
     models: &mut Models<'m>,
-) -> Result<Report, ExampleError>
+) -> Result<Report, NoMemory>
     requires premises { (metas : List MetaDesc) × CanBeEnforced metas program.now models.old }
     requires readable { (m : ModelData) → slice_get models.old program.now.target ≡ Some m → IsReadable m }
-    ensures ok { IfOk result (IsRepaired program.now models.old models.new) }
-    ensures err { IfErr result (IsRefused program.now models.old) }
+    requires unrefused { IsUnrefused program.now models.old }
+    ensures { IfOk result (IsRepaired program.now models.old models.new) }
 {
     match ready(alloc, program, &*models) {
         Ok(edits) => {
@@ -87,6 +85,6 @@ pub(crate) fn repair<'m>(
             edits.apply(models.get_mut(program.target));
             Ok(report)
         }
-        Err(error) => Err(error),
+        Err(NoMemory) => Err(NoMemory),
     }
 }

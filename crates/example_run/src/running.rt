@@ -1,4 +1,4 @@
-ghost use Rattle.std.specs.Prelude.{◌≡◌, ◌≤◌, ◌<◌, ◌^◌, true, length, Some, slice_get, IfOk, IfErr};
+ghost use Rattle.std.specs.Prelude.{◌≡◌, ◌≤◌, ◌<◌, ◌^◌, true, length, Some, slice_get, IfOk};
 ghost use Rattle.object_tables.specs.Models.{ModelData};
 ghost use Rattle.object_tables.specs.Validity.{Valid};
 ghost use Rattle.example_models.specs.declared.limits.TheConstants.{MAX_SOURCE_CLASSES, SEEDS};
@@ -6,15 +6,16 @@ ghost use Rattle.example_models.specs.ClsTable.{cls_desc};
 ghost use Rattle.example_models.specs.RdbTable.{rdb_desc};
 ghost use Rattle.example_models.specs.Source.{attributes_before, source_data};
 ghost use Rattle.example_program.specs.MainProgram.{main_program_data};
-ghost use Rattle.example_run.specs.Examples.{IsGoodProgram, IsOutcome, IsSummary, first_models};
-ghost use Rattle.example_run.specs.Repaired.{IsAfter, IsReadable, IsRefused};
+ghost use Rattle.example_laws.specs.ExampleModels.{first_models};
+ghost use Rattle.example_run.specs.Examples.{IsGoodProgram, IsOutcome, IsSummary};
+ghost use Rattle.example_run.specs.Repaired.{IsAfter, IsReadable};
 
-use crate::error::ExampleError;
 use crate::models::{Size, attribute_count, first_models};
 use crate::outcome::Outcome;
 use crate::repairing::repair;
 use crate::second_look::{holds_after, stays_after};
 use crate::summary::Summary;
+use example_laws::{demands_are_not_refused, made_targets_are_sound};
 use example_models::{cls_metamodel, gen_source, rdb_metamodel};
 use example_program::{
     main_program, main_program_is_enforceable, main_program_is_small, main_program_is_well_formed,
@@ -46,6 +47,7 @@ fn look_again(
     requires readable { (m : ModelData) → slice_get models.old program.now.target ≡ Some m → IsReadable m }
     ensures { IfOk result (λ o. o ≡ record { created = created; holds = true; unchanged = true }) }
 {
+    models.index()?;
     let holds = holds_after(alloc, program, &*models)?;
     let unchanged = stays_after(alloc, program, models)?;
     Ok(Outcome {
@@ -61,20 +63,19 @@ fn run_models(
     program: &Program,
     models: &mut Models<'_>,
     size: Size,
-) -> Result<Outcome, ExampleError>
+) -> Result<Outcome, NoMemory>
     requires program { program.now ≡ main_program_data }
     requires models { models.old ≡ first_models size.classes size.seed }
     requires valid { Valid (source_data size.classes size.seed) }
-    ensures ok { IfOk result (IsOutcome size.classes size.seed) }
-    ensures err { IfErr result (IsRefused main_program_data (first_models size.classes size.seed)) }
+    requires classes { size.classes ≤ MAX_SOURCE_CLASSES }
+    ensures { IfOk result (IsOutcome size.classes size.seed) }
 {
     program_is_good();
+    demands_are_not_refused();
+    made_targets_are_sound();
     match repair(alloc, program, models) {
-        Ok(report) => match look_again(alloc, program, models, report.created) {
-            Ok(outcome) => Ok(outcome),
-            Err(NoMemory) => Err(ExampleError::NoMemory),
-        },
-        Err(error) => Err(error),
+        Ok(report) => look_again(alloc, program, models, report.created),
+        Err(NoMemory) => Err(NoMemory),
     }
 }
 
@@ -85,13 +86,13 @@ fn run_source<'m>(
     source: Model<'m>,
     rdb: &'m MetaModel,
     size: Size,
-) -> Result<Outcome, ExampleError>
+) -> Result<Outcome, NoMemory>
     requires program { program.now ≡ main_program_data }
     requires source { source ≡ source_data size.classes size.seed }
     requires valid { Valid source }
     requires rdb { rdb.now ≡ rdb_desc }
-    ensures ok { IfOk result (IsOutcome size.classes size.seed) }
-    ensures err { IfErr result (IsRefused main_program_data (first_models size.classes size.seed)) }
+    requires classes { size.classes ≤ MAX_SOURCE_CLASSES }
+    ensures { IfOk result (IsOutcome size.classes size.seed) }
 {
     match first_models(alloc, source, rdb) {
         Ok(models) => {
@@ -100,7 +101,7 @@ fn run_source<'m>(
             drop(models);
             outcome
         }
-        Err(NoMemory) => Err(ExampleError::NoMemory),
+        Err(NoMemory) => Err(NoMemory),
     }
 }
 
@@ -126,40 +127,39 @@ fn run_size(
     cls: &MetaModel,
     rdb: &MetaModel,
     size: Size,
-) -> Result<Summary, ExampleError>
+) -> Result<Summary, NoMemory>
     requires program { program.now ≡ main_program_data }
     requires cls { cls.now ≡ cls_desc }
     requires rdb { rdb.now ≡ rdb_desc }
     requires some { 1 ≤ size.classes }
     requires classes { size.classes ≤ MAX_SOURCE_CLASSES }
     requires seed { size.seed < SEEDS }
-    ensures ok { IfOk result (IsSummary size.classes size.seed) }
-    ensures err { IfErr result (IsRefused main_program_data (first_models size.classes size.seed)) }
+    ensures { IfOk result (IsSummary size.classes size.seed) }
 {
     match gen_source(alloc, cls, size.classes, size.seed) {
         Ok(source) => {
             let attributes = attribute_count(&source, size);
             match run_source(alloc, program, source, rdb, size) {
                 Ok(outcome) => Ok(summary_of(size, attributes, outcome)),
-                Err(error) => Err(error),
+                Err(NoMemory) => Err(NoMemory),
             }
         }
-        Err(NoMemory) => Err(ExampleError::NoMemory),
+        Err(NoMemory) => Err(NoMemory),
     }
 }
 
-/// Runs the example with a source of so many classes, from 1 to `MAX_SOURCE_CLASSES`, made after a seed below `SEEDS`: enforces the transformation from
-/// classes to tables on an empty target, checks it, and enforces it again. Then the relations hold, and the second enforcement changed nothing.
+/// Runs the example with a source of so many classes, from 1 to `MAX_SOURCE_CLASSES`, made after a seed below
+/// `SEEDS`: enforces the transformation from classes to tables on an empty target, checks it, and enforces it
+/// again. Then the relations hold, and the second enforcement changed nothing.
 ///
 /// # Errors
 ///
-/// Why the first enforcement is refused, and `NoMemory` where memory runs out. What comes after it isn't refused.
-pub fn run_example(alloc: Global, n: u32, seed: u32) -> Result<Summary, ExampleError>
+/// `NoMemory` where memory runs out. Neither enforcement is refused, nor is the check.
+pub fn run_example(alloc: Global, n: u32, seed: u32) -> Result<Summary, NoMemory>
     requires some { 1 ≤ n }
     requires classes { n ≤ MAX_SOURCE_CLASSES }
     requires seed { seed < SEEDS }
-    ensures ok { IfOk result (IsSummary n seed) }
-    ensures err { IfErr result (IsRefused main_program_data (first_models n seed)) }
+    ensures { IfOk result (IsSummary n seed) }
 {
     let cls = cls_metamodel(alloc)?;
     let rdb = or_drop!(rdb_metamodel(alloc); cls);

@@ -1,12 +1,11 @@
-//! What is found over models in which an enforcement made the target: the relations hold, and another one changes nothing.
+//! What is found over models in which an enforcement made the target: the relations hold, and another one changes
+//! nothing.
 ghost use Rattle.std.specs.Prelude.{◌≡◌, ◌↔◌, ◌<◌, ◌^◌, true, length, Some, slice_get, IfOk, IfErr, IsTrue};
 ghost use Rattle.object_tables.specs.Models.{ModelData};
 ghost use Rattle.check_mode.specs.declared.verdict.Verdict.TheVariants as verdicts;
 ghost use Rattle.relation_calls.specs.declared.error.CallError.TheVariants as call_errors;
-ghost use Rattle.example_run.specs.declared.error.ExampleError.TheVariants as errors;
 ghost use Rattle.example_run.specs.Repaired.{IsAfter, IsReadable};
 
-use crate::error::ExampleError;
 use crate::repairing::repair;
 use check_mode::{Verdict, check, verdicts_are_one};
 use enforcement_laws::{
@@ -36,17 +35,6 @@ fn call_memory(error: CallError) -> NoMemory
         CallError::NoMemory => NoMemory,
         CallError::Cycle(_) => unreachable!(),
         CallError::Deep(_) => unreachable!(),
-    }
-}
-
-/// The want of memory that an enforcement is refused for.
-fn example_memory(error: ExampleError) -> NoMemory
-    requires { error ≡ errors.NoMemory }
-{
-    match error {
-        ExampleError::NoMemory => NoMemory,
-        ExampleError::Demands(_) => unreachable!(),
-        ExampleError::Made(_) => unreachable!(),
     }
 }
 
@@ -87,6 +75,6 @@ pub(crate) fn stays_after(
     made_models_stay();
     match repair(alloc, program, models) {
         Ok(report) => Ok(report.unchanged),
-        Err(error) => Err(example_memory(error)),
+        Err(NoMemory) => Err(NoMemory),
     }
 }

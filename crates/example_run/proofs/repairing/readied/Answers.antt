@@ -1,9 +1,9 @@
-use Rattle.std.proofs.Common.{sym, ap, subst}
+use Rattle.std.proofs.Common.{ap, subst}
 use Rattle.object_tables.specs.Models.{ModelData}
 use Rattle.repair_laws.specs.Repairs.{with_target}
 use Rattle.enforce_mode.specs.Made.{IsSound}
-use Rattle.example_run.specs.Repaired.{IsRefused}
-use Rattle.example_run.proofs.ErrorLaws.{told_making}
+use Rattle.repair_semantics.specs.Candidates.{candidate}
+use Rattle.example_run.proofs.RefusalLaws.{only_memory}
 use Rattle.example_run.proofs.repairing.readied.Goals as goal
 
 pub target_of-target-requires : goal.target_of-target-requires
@@ -20,8 +20,13 @@ prepare-requires-clause-demands c =
     c.demand_sets_are_demands.ensures c.requires.premises.0 c.args.program.now c.args.models.now c.target_of-target.result.now c.args.found.now c.requires.premises.1 c.target_of-target.ensures
     c.requires.demanded
 
-pub returns-in-Ok-clause-ok : goal.returns-in-Ok-clause-ok
-returns-in-Ok-clause-ok c = record {
+pub making_memory-requires : goal.making_memory-requires
+making_memory-requires c =
+    only_memory (candidate c.args.program.now c.target_of-target.result.now c.args.found.now.list)
+    (c.requires.unrefused.sound c.target_of-target.result.now c.args.found.now (record { target_is = c.target_of-target.ensures; are = c.requires.demanded })) c.in-Err.error c.in-Err.ensures.against
+
+pub returns-in-Ok : goal.returns-in-Ok
+returns-in-Ok c = record {
   target = c.target_of-target.result.now;
   demands = c.args.found.now;
   demanded = record { target_is = c.target_of-target.ensures; are = c.requires.demanded };
@@ -29,13 +34,3 @@ returns-in-Ok-clause-ok c = record {
   after_is = ap (λ (m : ModelData). with_target c.args.program.now c.args.models.now m) c.in-Ok.ensures.made;
   report_is = c.in-Ok.ensures.report;
 }
-
-pub returns-in-Err-clause-err : goal.returns-in-Err-clause-err
-returns-in-Err-clause-err c =
-    subst (IsRefused c.args.program.now c.args.models.now) (sym c.of_making.ensures)
-    (told_making c.args.program.now c.args.models.now c.in-Err.error (record {
-      target = c.target_of-target.result.now;
-      demands = c.args.found.now;
-      demanded = record { target_is = c.target_of-target.ensures; are = c.requires.demanded };
-      against = c.in-Err.ensures.against;
-    }))

@@ -1,0 +1,3 @@
+pub mod ExampleModels
+pub mod ExampleEntries
+pub mod ExampleDemands
