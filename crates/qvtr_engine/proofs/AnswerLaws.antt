@@ -12,7 +12,7 @@ use Rattle.qvtr_engine.specs.CheckedRelations.{ChainsStop, cyclic, deep}
 use Rattle.qvtr_engine.specs.CheckedScript.{ScriptRefused, fault}
 use Rattle.qvtr_engine.specs.CheckWords.{CheckWords}
 use Rattle.qvtr_engine.specs.ConvertWords.{ConvertWords, IsConvert}
-use Rattle.qvtr_engine.specs.Command.{Command, executes, converts, IsCommand}
+use Rattle.qvtr_engine.specs.Command.{Command, executes, converts, generates, IsCommand}
 use Rattle.qvtr_engine.specs.ExecutionAnswer.{are_alike_last}
 use Rattle.qvtr_engine.specs.Reply.{Reply, misused, status_of}
 use Rattle.qvtr_engine.specs.Run.{AreExchanged}
@@ -23,6 +23,7 @@ use Rattle.qvtr_engine.proofs.ConvertAnswerLaws.{convert_answer_single}
 use Rattle.qvtr_engine.proofs.ConvertAnsweredLaws.{Replied, answered_by, convert_replied}
 use Rattle.qvtr_engine.proofs.CommandLaws.{one_command}
 use Rattle.qvtr_engine.proofs.EnforceAlikeLaws.{refusal_statuses}
+use Rattle.qvtr_engine.proofs.GenLaws.{one_generation}
 use Rattle.qvtr_engine.proofs.OneExecutionLaws.{one_execution}
 
 one_answer : (words : List (List ℕ)) (files : Files) (reply other : Reply) → reply ≡ other → AreAlikeAnswers words files reply other
@@ -33,6 +34,7 @@ replies_alike : (words : List (List ℕ)) (files : Files) (command : Command) �
     → IsReply files command other → AreAlikeAnswers words files reply other
 replies_alike words files (executes mode w) is reply other a b = executed mode w is reply other (one_execution mode files w reply other a b)
 replies_alike words files (converts c) is reply other a b = one_answer words files reply other (convert_answer_single files c reply other a b)
+replies_alike words files (generates g) is reply other a b = one_answer words files reply other (one_generation g reply other a b)
 
 pub answers_alike : (words : List (List ℕ)) (files : Files) (reply other : Reply) → Answer words files reply → Answer words files other → AreAlikeAnswers words files reply other
 answers_alike words files misused misused (usage u) (usage v) = same misused

@@ -1,6 +1,5 @@
 -- A conversion has at most one reply.
-use Rattle.std.proofs.Common.{◌≡◌, ℕ, ◌<◌, ◌≤◌, Bool, true, false, List, length, refl, sym, ◌∙◌, ap, subst, arith, Option, Some, None}
-use Rattle.std.specs.FinMap.{get}
+use Rattle.std.proofs.Common.{◌≡◌, ℕ, ◌<◌, ◌≤◌, List, length, refl, sym, ◌∙◌, ap, subst, arith, Some, None}
 use Rattle.vault_io.specs.Files.{Files}
 use Rattle.mof_metamodel.specs.declared.desc.MetaDesc.{MetaDesc}
 use Rattle.qvtr_engine.specs.declared.limits.TheConstants.{MAX_FILE}
@@ -13,7 +12,7 @@ use Rattle.model_files.specs.Files.{FileSpells, IsFileError, IsTold, MetaSpells,
 use Rattle.qvtr_engine.specs.ConvertAnswer.{ConvertAnswer, IsConverted, IsMetamodelAt, IsModelAt, text_in, metamodel_stops, model_stops, output_long, put}
 use Rattle.qvtr_engine.specs.ConvertWords.{ConvertWords}
 use Rattle.qvtr_engine.specs.FileStops.{HasFile, HasShortFile, Unloaded, missing, long, Stops, unloaded, misread}
-use Rattle.qvtr_engine.specs.Reply.{Reply, faulty, too_long, converted}
+use Rattle.qvtr_engine.specs.Reply.{Reply, faulty, converted}
 use Rattle.qvtr_engine.proofs.FileLaws.{one_model, one_meta, no_error, no_error_of_meta, one_told, one_told_of_meta, described_well}
 
 -- ---- a path has one file

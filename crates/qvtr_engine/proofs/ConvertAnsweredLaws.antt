@@ -8,15 +8,12 @@ use Rattle.qvtr_engine.specs.declared.limits.TheConstants.{MAX_FILE}
 use Rattle.mof_metamodel.specs.WellMeta.{WellMeta}
 use Rattle.object_tables.specs.Models.{ModelData}
 use Rattle.xmi_profile.specs.declared.fault.Externs.TheVariants as externs
-use Rattle.model_files.specs.declared.fault.FileError.{FileError}
-use Rattle.model_files.specs.Emof.{emof}
 use Rattle.model_files.specs.FileForm.{form_of}
-use Rattle.model_files.specs.Files.{IsFileError, IsMetaFileError}
 use Rattle.model_files.proofs.AnsweredLaws as models
 use Rattle.model_files.proofs.DescribedLaws as metamodels
-use Rattle.qvtr_engine.specs.ConvertAnswer.{ConvertAnswer, IsConverted, IsMetamodelAt, IsModelAt, text_in, metamodel_stops, model_stops, output_long, put}
+use Rattle.qvtr_engine.specs.ConvertAnswer.{ConvertAnswer, IsConverted, IsMetamodelAt, text_in, metamodel_stops, model_stops, output_long, put}
 use Rattle.qvtr_engine.specs.ConvertWords.{ConvertWords}
-use Rattle.qvtr_engine.specs.FileStops.{HasShortFile, Unloaded, missing, long, Stops, unloaded, misread}
+use Rattle.qvtr_engine.specs.FileStops.{HasShortFile, Unloaded, missing, long, unloaded, misread}
 use Rattle.qvtr_engine.specs.Reply.{Reply, unread, too_long}
 
 -- a path has a file that may be read, or the work stops there

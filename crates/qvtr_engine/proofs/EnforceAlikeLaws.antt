@@ -1,5 +1,5 @@
 -- The last replies to an enforcement and to a trace are one, or tell two refusals of which either may be told.
-use Rattle.std.proofs.Common.{◌≡◌, ◌⊎◌, inl, inr, ℕ, Bool, true, false, List, refl, sym, ◌∙◌, ap, subst, arith, true≢false, Some}
+use Rattle.std.proofs.Common.{◌≡◌, ◌⊎◌, inl, inr, ℕ, Bool, List, refl, sym, ◌∙◌, ap, subst, arith, true≢false, Some}
 use Rattle.std.proofs.lemmas.Option.{same_Some}
 use Rattle.vault_io.specs.Files.{Files}
 use Rattle.object_tables.specs.declared.breach.Breach.{Breach}
@@ -23,7 +23,7 @@ use Rattle.answer_texts.specs.Question.{Question}
 use Rattle.trace_log.specs.TraceData.{text_of_trace}
 use Rattle.demand_trace.specs.Traces.{trace_of}
 use Rattle.enforce_steps.specs.declared.cause.Cause.TheVariants as causes
-use Rattle.enforce_steps.specs.Endings.{Ended, refused, unchanged, traced, OutputData}
+use Rattle.enforce_steps.specs.Endings.{Ended, refused, traced, OutputData}
 use Rattle.enforce_steps.specs.EnforceAnswer.{DemandsStop, not_enforceable, cyclic, deep, unmet, conflict, DemandsEnd, TraceAnswer, stops, told, IsMade, IsMadeSo, MadeStops, many, invalid, deep_objects, long, IsFit, MadeEnds, same, mended, EnforceAnswer, stopped, against, done}
 use Rattle.enforce_steps.specs.StepTexts.{invalid_text, text_in}
 use Rattle.qvtr_engine.specs.CheckWords.{CheckWords}
@@ -66,7 +66,7 @@ one_made q m n x y =
 report_of : ℕ → ℕ → ℕ → Bool → Report
 report_of created updated deleted same_target = record { created = created; updated = updated; deleted = deleted; unchanged = same_target }
 
-one_report : (program : Program) (m : ModelData) (ds : List Demand) (r s : Report) → IsReport program m ds r → IsReport program m ds s → r ≡ s
+pub one_report : (program : Program) (m : ModelData) (ds : List Demand) (r s : Report) → IsReport program m ds r → IsReport program m ds s → r ≡ s
 unfolding report_of
 one_report program m ds r s x y =
     let created : r.created ≡ s.created = x.created ∙ sym y.created in

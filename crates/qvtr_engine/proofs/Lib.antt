@@ -1,9 +1,12 @@
 pub mod ReadingLaws
 pub mod CheckLaws
-pub mod ArgumentsLaws
+pub mod TextSetLaws
+pub mod PathLaws
 pub mod ConvertLaws
+pub mod GenWordLaws
+pub mod GenLaws
+pub mod GenRunLaws
 pub mod CommandLaws
-pub mod RefLaws
 pub mod StopLaws
 pub mod FileLaws
 pub mod ConvertingLaws

@@ -43,7 +43,7 @@ use Rattle.qvtr_engine.specs.CheckWords.{Bound, CheckWords, check_paths}
 use Rattle.qvtr_engine.specs.CheckedMetamodels.{AreMetamodels, is_metamodel, metamodel_files, numbered_metas}
 use Rattle.qvtr_engine.specs.CheckedModels.{AreModels, IsModel, meta_for, model_files, no_model, numbered_models}
 use Rattle.qvtr_engine.specs.CheckedNames.{target_of}
-use Rattle.qvtr_engine.specs.CheckedRelations.{yes, no}
+use Rattle.qvtr_engine.specs.CheckedRelations.{yes}
 use Rattle.qvtr_engine.specs.CheckedScript.{IsResolved}
 use Rattle.qvtr_engine.specs.ConvertAnswer.{IsModelAt}
 use Rattle.qvtr_engine.specs.ExecutionAnswer.{EnforcementAnswer, ExecutionAnswer, ends, output_at}

@@ -1,5 +1,5 @@
 -- What an enforcement is answered, and what the files are then.
-use Rattle.std.proofs.Common.{◌≡◌, ℕ, true, false, List, refl, sym, ◌∙◌, subst, true≢false, inl}
+use Rattle.std.proofs.Common.{◌≡◌, ℕ, true, List, refl, sym, ◌∙◌, subst, true≢false, inl}
 use Rattle.vault_io.specs.Files.{Files}
 use Rattle.object_tables.specs.Models.{ModelData}
 use Rattle.xmi_profile.specs.Held.{IsHeldModel}

@@ -1,6 +1,7 @@
 -- The files of `check` one after the other.
 use Rattle.std.proofs.Common.{◌≡◌, ℕ, suc, zero, ◌+◌, ◌-◌, ◌<◌, Bool, List, [], ◌∷◌, ◌++◌, length, take, drop, map, refl, sym, ◌∙◌, ap, arith, get_or, Some}
 use Rattle.std.specs.Prelude.{slice_get}
+use Rattle.std.specs.Borrow.{Bor}
 use Rattle.std.specs.Option.{option_map}
 use Rattle.std.proofs.lemmas.List.{drop_more, take_more, length-map, length-drop, map-append}
 use Rattle.std.proofs.lemmas.Option.{slice_get-map, slice_get_within, slice_get-get_or, get_or_from_slice_get}
@@ -31,6 +32,16 @@ one_on test xs i x whole at same h = sym (ap test (drop_at xs i x at) ∙ same) 
 pub decided : {A : Type 0} (test : List A → Bool) (xs : List A) (i : ℕ) (x : A) (answer whole : Bool) → slice_get xs i ≡ Some x
     → test (x ∷ drop (i + 1) xs) ≡ answer → test (drop i xs) ≡ whole → answer ≡ whole
 decided test xs i x answer whole at is h = sym (ap test (drop_at xs i x at) ∙ is) ∙ h
+
+-- texts that are borrowed
+abbrev pub texts_in : List (Bor (List ℕ)) → List (List ℕ)
+texts_in = map (λ t. t.now)
+
+-- the argument at a place
+pub nth_argument : {A : Type 0} (f : A → List ℕ) (xs : List A) (i : ℕ) (d : A) → i < length xs → f (get_or xs i d) ≡ nth (map f xs) i
+nth_argument f [] i d l = absurd (omega (arith, l))
+nth_argument f (x ∷ xs) zero d l = refl
+nth_argument f (x ∷ xs) (suc i) d l = let less : i < length xs = omega (arith, l) in nth_argument f xs i d less
 
 -- how many files there are
 pub file_count : (words : List (List ℕ)) → length (map parts (drop 2 words)) ≡ length words - 2

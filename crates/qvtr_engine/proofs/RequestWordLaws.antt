@@ -1,20 +1,21 @@
 -- What is spelled is read, and what is read is spelled: the words of a command over a script and models, with a file for each of any number of
 -- names.
-use Rattle.std.proofs.Common.{◌≡◌, ◌≢◌, ℕ, true, false, cond, List, [], ◌∷◌, length, map, refl, sym, ◌∙◌, ap, subst, arith, true≢false, Some, None}
-use Rattle.std.specs.Prelude.{nat_lt}
+use Rattle.std.proofs.Common.{◌≡◌, ◌≢◌, ◌≤◌, ℕ, true, false, cond, List, [], ◌∷◌, length, map, refl, sym, ◌∙◌, ap, subst, arith, true≢false, Option, Some, None}
+use Rattle.std.specs.Prelude.{nat_lt, nat_le}
 use Rattle.std.specs.List.{list_all}
 use Rattle.std.proofs.lemmas.Bool.Decides.{nat_tests}
-use Rattle.mof_metamodel.specs.Metamodels.{same_name}
-use Rattle.qvtr_engine.specs.Arguments.{AreArguments, arguments_of}
+use Rattle.std.proofs.lemmas.List.{length-map}
+use Rattle.command_words.specs.Arguments.{AreArguments, arguments_of}
+use Rattle.command_words.specs.Synopses.{HasArguments, has_count}
+use Rattle.command_words.specs.declared.synopsis.Synopsis.TheVariants.{Models}
 use Rattle.qvtr_engine.specs.CheckWords.{Bound, CheckWords, bound_word, is_bound}
 use Rattle.qvtr_engine.specs.Paths.{is_filled}
 use Rattle.qvtr_engine.specs.Reading.{◌>>=◌, when_true, parts, bound_of}
 use Rattle.qvtr_engine.specs.RequestWords.{IsRequest, check_arguments, has_parts, is_good, check_in, check_from, request_of}
-use Rattle.qvtr_engine.proofs.ArgumentsLaws.{arguments_found, arguments_again}
+use Rattle.command_words.proofs.ArgumentsLaws.{arguments_found, arguments_again}
 use Rattle.qvtr_engine.proofs.CheckLaws.{bound_found, bound_again}
-use Rattle.qvtr_engine.proofs.ReadingLaws.{bind_some, when_some, when_holds, same_is, same_holds}
-use Rattle.std.proofs.lemmas.Bool.{and_from}
-use Rattle.std.proofs.lemmas.Bool.{and_parts}
+use Rattle.qvtr_engine.proofs.ReadingLaws.{bind_some, when_some, when_holds}
+use Rattle.std.proofs.lemmas.Bool.{and_from, and_parts}
 
 -- ---- words that bind names to paths
 
@@ -87,18 +88,12 @@ from_found arguments w e =
       | false ↦ λ is f. let p = when_some _ _ w f in (is, p.0, p.1)
     ] refl e
 
-pub request_found : (command : List ℕ) (words : List (List ℕ)) (w : CheckWords) → request_of command words ≡ Some w → IsRequest command words w
+pub request_found : (command : List ℕ) (further : List (List ℕ)) (w : CheckWords) → request_of further ≡ Some w → IsRequest command (command ∷ further) w
 unfolding request_of
-request_found command [] w e = let gone : None ≡ Some w = e in cc
-request_found command (word ∷ words) w e =
-    elim (same_name word command) as (λ b. same_name word command ≡ b → cond b (arguments_of words >>= check_from) None ≡ Some w → IsRequest command (word ∷ words) w) [
-      | true ↦ λ is f.
-          let p = bind_some (arguments_of words) _ w f in
-          let q = from_found p.0 w p.2 in
-          let found = found_in command words p.0 (arguments_found words p.0 p.1) q.0 q.1 in
-          subst (λ x. IsRequest command (x ∷ words) w) (sym (same_is word command is)) (subst (IsRequest command (command ∷ words)) q.2 found)
-      | false ↦ λ is f. let gone : None ≡ Some w = f in cc
-    ] refl e
+request_found command further w e =
+    let p = bind_some (arguments_of further) check_from w e in
+    let q = from_found p.0 w p.2 in
+    subst (IsRequest command (command ∷ further)) q.2 (found_in command further p.0 (arguments_found further p.0 p.1) q.0 q.1)
 
 -- ---- what is spelled is read
 
@@ -119,13 +114,47 @@ from_again command words w h =
     ap (λ b. cond b None (when_true (is_good (check_in (check_arguments w))) (check_in (check_arguments w)))) (three w.script w.target w.files h.some)
     ∙ ap (λ x. when_true (is_good x) x) (read_again w h.bound) ∙ when_holds (is_good w) w (all_good command words w h)
 
-named_again : (command : List ℕ) (words : List (List ℕ)) (w : CheckWords) → arguments_of words ≡ Some (check_arguments w) → check_from (check_arguments w) ≡ Some w
-    → request_of command (command ∷ words) ≡ Some w
+pub request_again : (command : List ℕ) (words : List (List ℕ)) (w : CheckWords) → (h : IsRequest command words w) → request_of h.further ≡ Some w
 unfolding request_of
-named_again command words w e f =
-    ap (λ b. cond b (arguments_of words >>= check_from) None) (same_holds command command refl)
-    ∙ ap (λ o. o >>= check_from) e ∙ f
-
-pub request_again : (command : List ℕ) (words : List (List ℕ)) (w : CheckWords) → IsRequest command words w → request_of command words ≡ Some w
 request_again command words w h =
-    ap (request_of command) h.named ∙ named_again command h.further w (arguments_again h.further (check_arguments w) h.arguments) (from_again command words w h)
+    ap (λ o. o >>= check_from) (arguments_again h.further (check_arguments w) h.arguments) ∙ from_again command words w h
+
+-- ---- what is read of words that have three arguments or more, and of words that haven't
+
+good_read : (arguments : List (List ℕ)) → nat_le 3 (length arguments) ≡ true → check_from arguments ≡ when_true (is_good (check_in arguments)) (check_in arguments)
+unfolding check_from
+good_read arguments l =
+    let long : nat_lt (length arguments) 3 ≡ false = grind (arith, nat_tests, l) in
+    ap (λ b. cond b None (when_true (is_good (check_in arguments)) (check_in arguments))) long
+
+pub request_read : (further arguments : List (List ℕ)) → HasArguments Models further arguments
+    → request_of further ≡ when_true (is_good (check_in arguments)) (check_in arguments)
+unfolding request_of
+request_read further arguments h = ap (λ o. o >>= check_from) (arguments_again further arguments h.0) ∙ good_read arguments h.1
+
+pub request_unread : (further : List (List ℕ)) → ((arguments : List (List ℕ)) → HasArguments Models further arguments → ⊥) → request_of further ≡ None
+unfolding request_of
+request_unread further none = by (request_of further) refl
+  where
+    by : (o : Option CheckWords) → request_of further ≡ o → o ≡ None
+    by None e = refl
+    by (Some w) e =
+        let p = bind_some (arguments_of further) check_from w e in
+        let q = from_found p.0 w p.2 in
+        let long : nat_le 3 (length p.0) ≡ true = grind (arith, nat_tests, q.0) in
+        absurd (none p.0 (arguments_found further p.0 p.1, long))
+
+-- where they are good, and where they aren't
+pub request_good : (further arguments : List (List ℕ)) (w : CheckWords) → HasArguments Models further arguments → w ≡ check_in arguments → is_good w ≡ true
+    → request_of further ≡ Some w
+request_good further arguments w h same good =
+    request_read further arguments h ∙ ap (λ x. when_true (is_good x) x) (sym same) ∙ when_holds (is_good w) w good
+
+pub request_bad : (further arguments : List (List ℕ)) (w : CheckWords) → HasArguments Models further arguments → w ≡ check_in arguments → is_good w ≡ false
+    → request_of further ≡ None
+request_bad further arguments w h same bad =
+    request_read further arguments h ∙ ap (λ x. when_true (is_good x) x) (sym same) ∙ ap (λ b. when_true b w) bad
+
+-- there are so many
+pub three_or_more : {A : Type 0} (f : A → List ℕ) (xs : List A) → has_count Models (length (map f xs)) ≡ true → 2 ≤ length xs
+three_or_more f xs h = let count = length-map xs f in grind (arith, nat_tests, h, count)

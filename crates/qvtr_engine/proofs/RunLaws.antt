@@ -15,10 +15,12 @@ use Rattle.repair_semantics.specs.declared.report.Report.{Report}
 use Rattle.enforce_steps.specs.Endings.{Ended, OutputData}
 use Rattle.enforce_steps.specs.EnforceAnswer.{DemandsStop, not_enforceable, cyclic, deep, unmet, conflict, MadeStops, many, invalid, deep_objects, MadeEnds, against}
 use Rattle.enforce_steps.specs.EnforceAnswer as steps
+use Rattle.command_words.specs.declared.reading.WordsError.{WordsError}
+use Rattle.command_words.specs.declared.reading.WordsError.TheVariants as errors
 use Rattle.qvtr_engine.specs.declared.limits.TheConstants.{MAX_FILE}
 use Rattle.qvtr_engine.specs.declared.mode.Mode.TheVariants.{Check, Enforce}
 use Rattle.qvtr_engine.specs.declared.status.Status.{Status}
-use Rattle.qvtr_engine.specs.declared.status.Status.TheVariants.{Done, No, Usage, Fault, Refused, Limit, NoMemory}
+use Rattle.qvtr_engine.specs.declared.status.Status.TheVariants.{Done, No, Usage, Fault, Limit, NoMemory}
 use Rattle.qvtr_engine.specs.declared.outcome.Outcome.{Outcome}
 use Rattle.qvtr_engine.specs.declared.outcome.Outcome.TheVariants as outcome
 use Rattle.qvtr_engine.specs.declared.outcome.Stop.{Stop}
@@ -26,16 +28,17 @@ use Rattle.qvtr_engine.specs.declared.outcome.Stop.TheVariants as stop
 use Rattle.qvtr_engine.specs.Answer.{Answer, usage, replied, IsReply, files_after, files_with, put_of}
 use Rattle.qvtr_engine.specs.CheckWords.{CheckWords}
 use Rattle.qvtr_engine.specs.CheckedRelations.{IsVerdict, yes, no}
-use Rattle.qvtr_engine.specs.Command.{Command, executes, converts, IsCommand, IsExecution, command_of, paths_of}
-use Rattle.qvtr_engine.specs.CommandEnds.{CommandEnds, stopped, concluded, starved_of, put_done, put_failed, IsPutBy}
+use Rattle.qvtr_engine.specs.Command.{Command, executes, converts, IsCommand, IsExecution, IsUsage, command_of, paths_of}
+use Rattle.qvtr_engine.specs.CommandNames.{NamesCommand}
+use Rattle.qvtr_engine.specs.CommandEnds.{CommandEnds, stopped, concluded, summarized, starved_of, put_done, put_failed, IsPutBy}
 use Rattle.qvtr_engine.specs.ConvertAnswer.{ConvertAnswer, IsConverted, text_in, metamodel_stops, model_stops, output_long, put}
 use Rattle.qvtr_engine.specs.ConvertWords.{ConvertWords, IsConvert}
 use Rattle.qvtr_engine.specs.Enforced.{EnforcesTo, HasEnforced, stays}
 use Rattle.qvtr_engine.specs.Enforced as enforced
 use Rattle.qvtr_engine.specs.ExecutionAnswer.{EnforcementAnswer, ExecutionAnswer, ends, last_over, reply_of_end}
 use Rattle.qvtr_engine.specs.FileStops.{Stops, unloaded, missing, long, misread}
-use Rattle.qvtr_engine.specs.Outcome.{reply_of, reply_of_stop, Finishes, Reports}
-use Rattle.qvtr_engine.specs.Reply.{Reply, misused, unread, faulty, too_long, holds, fails, refused_for, kept, mended, traced, converted, status_of, status_of_cause, status_of_fault, text_of, usage_text, fault_text, no_memory_text}
+use Rattle.qvtr_engine.specs.Outcome.{reply_of, reply_of_stop, Finishes, RefusesWords, Reports}
+use Rattle.qvtr_engine.specs.Reply.{Reply, misused, unread, faulty, too_long, holds, fails, refused_for, kept, mended, traced, converted, generated, status_of, status_of_cause, status_of_fault, text_of, usage_text, fault_text, no_memory_text}
 use Rattle.qvtr_engine.specs.Run.{Due, answered, starved, faulted_at, faulted_after, Ends, printed, cut_off, KeepsFiles, HasCause, IsOwed, AreExchanged, IsOwedOrOther, HasConverted}
 use Rattle.qvtr_engine.specs.StepsAnswer.{Inputs, ResolvesTo, question_of}
 use Rattle.qvtr_engine.specs.Stops.{StoppedBy}
@@ -104,6 +107,8 @@ command_ends (Some files) words command vf sf before after told_after result is 
     reported_ends words files vf sf before after told_after (reply_of_stop s) result (stop_due words files command vf s is st) left r
 command_ends (Some files) words command vf sf before after told_after result is (concluded o due none r left) =
     reported_ends words files vf sf before after told_after (Some (reply_of o)) result (reply_due words files command vf (reply_of o) is due none) left r
+command_ends (Some files) words command vf sf before after told_after result is (summarized s due r left) =
+    reported_ends words files vf sf before after told_after (Some (generated s)) result (reply_due words files command vf (generated s) is due refl) left r
 command_ends (Some files) words command vf sf before after told_after result is (starved_of left r) =
     reported_ends words files vf sf before after told_after None result tt left r
 command_ends (Some files) words command vf sf before after told_after result is (put_done reply path bytes due by same f) =
@@ -114,12 +119,15 @@ command_ends (Some files) words command vf sf before after told_after result is 
     due_ends words files (insert files path bytes) vf sf before after told_after Fault (fault_text path) result
     (faulted_after faulted reply (replied command is reply due) (record { path = path; bytes = bytes }) by.puts) same f
 
--- words that are no command
-pub usage_ends : (told : Option Files) (words : List (List ℕ)) (vault_faulted sink_faulted : Type 0) (before after : Option (List ℕ)) (result : Status) → command_of words ≡ None
-    → Finishes Usage usage_text before after sink_faulted result → IfSome told (λ files. Ends words files vault_faulted sink_faulted before after told result)
-usage_ends None words vf sf before after result e f = tt
-usage_ends (Some files) words vf sf before after result e f =
-    due_ends words files files vf sf before after (Some files) Usage usage_text result (answered misused (usage (no_command_usage words e))) refl f
+-- words in which no command was read
+pub words_ends : (told : Option Files) (words : List (List ℕ)) (vault_faulted sink_faulted : Type 0) (before after : Option (List ℕ)) (error : WordsError) (result : Status)
+    → (error ≡ errors.Usage → command_of words ≡ None) → RefusesWords error before after sink_faulted result
+    → IfSome told (λ files. Ends words files vault_faulted sink_faulted before after told result)
+words_ends None words vf sf before after error result none f = tt
+words_ends (Some files) words vf sf before after errors.Usage result none f =
+    due_ends words files files vf sf before after (Some files) Usage usage_text result (answered misused (usage (no_command_usage words (none refl)))) refl f
+words_ends (Some files) words vf sf before after errors.NoMemory result none f =
+    due_ends words files files vf sf before after (Some files) NoMemory no_memory_text result starved refl f
 
 -- ---- causes
 
@@ -141,6 +149,7 @@ answer_cause words files faulted kept a = (kept, a, refl)
 answer_cause words files faulted (mended path bytes report) a = (mended path bytes report, a, refl)
 answer_cause words files faulted (traced text) a = (traced text, a, refl)
 answer_cause words files faulted (converted path bytes) a = (converted path bytes, a, refl)
+answer_cause words files faulted (generated summary) a = (generated summary, a, refl)
 
 due_cause : (words : List (List ℕ)) (files : Files) (vault_faulted sink_faulted : Type 0) (status : Status) (text : List ℕ) (then : Files)
     → Due words files vault_faulted status text then → HasCause words files (vault_faulted ⊎ sink_faulted) status
@@ -430,16 +439,28 @@ command_not_usage told command vf sf before after told_after result (stopped s s
     reports_not_usage (reply_of_stop s) before after sf result (stop_not_usage s) r
 command_not_usage told command vf sf before after told_after result (concluded o due none r left) =
     reports_not_usage (Some (reply_of o)) before after sf result (outcome_not_usage o) r
+command_not_usage told command vf sf before after told_after result (summarized s due r left) =
+    reports_not_usage (Some (generated s)) before after sf result done_not_usage r
 command_not_usage told command vf sf before after told_after result (starved_of left r) = reports_not_usage None before after sf result tt r
 command_not_usage told command vf sf before after told_after result (put_done reply path bytes due by same f) =
     finishes_other Done (text_of reply) before after sf result Usage done_not_usage fault_not_usage f
 command_not_usage told command vf sf before after told_after result (put_failed reply path bytes due by faulted same f) =
     finishes_other Fault (fault_text path) before after sf result Usage fault_not_usage fault_not_usage f
 
-pub usage_finished : (before after : Option (List ℕ)) (faulted : Type 0) (text : List ℕ) (result : Status)
-    → Finishes Usage text before after faulted result → (result ≡ Usage) ⊎ ((result ≡ Fault) × faulted)
-usage_finished before after faulted text result (inl p) = inl p.0
-usage_finished before after faulted text result (inr p) = inr (p.0, p.1)
+-- and words are faulty where no command was read for another cause than want of memory
+pub words_usage : (words : List (List ℕ)) (before after : Option (List ℕ)) (faulted : Type 0) (error : WordsError) (result : Status)
+    → (error ≡ errors.Usage → command_of words ≡ None) → RefusesWords error before after faulted result → result ≡ Usage → IsUsage words
+words_usage words before after faulted errors.Usage result none f e = no_command_usage words (none refl)
+words_usage words before after faulted errors.NoMemory result none f e =
+    absurd (finishes_other NoMemory no_memory_text before after faulted result Usage no_memory_not_usage fault_not_usage f e)
+
+pub words_finished : (words : List (List ℕ)) (before after : Option (List ℕ)) (faulted : Type 0) (error : WordsError) (result : Status)
+    → (error ≡ errors.NoMemory → NamesCommand words) → RefusesWords error before after faulted result
+    → (result ≡ Usage) ⊎ ((result ≡ Fault) × faulted) ⊎ ((result ≡ NoMemory) × NamesCommand words)
+words_finished words before after faulted errors.Usage result named (inl p) = inl p.0
+words_finished words before after faulted errors.Usage result named (inr p) = inr (inl (p.0, p.1))
+words_finished words before after faulted errors.NoMemory result named (inl p) = inr (inr (p.0, named refl))
+words_finished words before after faulted errors.NoMemory result named (inr p) = inr (inl (p.0, p.1))
 
 -- ---- faults, whether the files are told or not
 
@@ -466,6 +487,16 @@ cause_not_fault causes.Limit e = cc
 
 no_memory_not_fault : NoMemory ≡ Fault → ⊥
 no_memory_not_fault e = cc
+
+usage_not_fault : Usage ≡ Fault → ⊥
+usage_not_fault e = cc
+
+pub words_fault : (before after : Option (List ℕ)) (faulted : Type 0) (error : WordsError) (result : Status) → RefusesWords error before after faulted result
+    → result ≡ Fault → faulted
+words_fault before after faulted errors.Usage result (inl p) e = absurd (usage_not_fault (sym p.0 ∙ e))
+words_fault before after faulted errors.Usage result (inr p) e = p.1
+words_fault before after faulted errors.NoMemory result (inl p) e = absurd (no_memory_not_fault (sym p.0 ∙ e))
+words_fault before after faulted errors.NoMemory result (inr p) e = p.1
 
 -- an answer that is a file that couldn't be read
 abbrev IsUnreadable : Option Files → List (List ℕ) → Type 0
@@ -517,6 +548,8 @@ command_fault told words command vf sf before after told_after result c (stopped
     sorted vf sf (IsUnreadable told words) (reports_fault (reply_of_stop s) before after _ sf result (stop_fault told words command vf s c st) r e)
 command_fault told words command vf sf before after told_after result c (concluded o due none r left) e =
     sorted vf sf (IsUnreadable told words) (reports_fault (Some (reply_of o)) before after _ sf result (λ x. absurd (outcome_not_fault o x)) r e)
+command_fault told words command vf sf before after told_after result c (summarized s due r left) e =
+    sorted vf sf (IsUnreadable told words) (reports_fault (Some (generated s)) before after _ sf result (λ x. absurd (done_not_fault x)) r e)
 command_fault told words command vf sf before after told_after result c (starved_of left r) e =
     sorted vf sf (IsUnreadable told words) (reports_fault None before after _ sf result tt r e)
 command_fault told words command vf sf before after told_after result c (put_done reply path bytes due by same f) e = inr (inl (done_fault (text_of reply) before after sf result f e))
@@ -536,6 +569,7 @@ pub command_files : (told : Option Files) (words : List (List ℕ)) (command : C
     → IsCommand words command → CommandEnds told command vault_faulted sink_faulted before after told_after result → KeepsFiles words told told_after result
 command_files told words command vf sf before after told_after result is (stopped s st left r) = inl left
 command_files told words command vf sf before after told_after result is (concluded o due none r left) = inl left
+command_files told words command vf sf before after told_after result is (summarized s due r left) = inl left
 command_files told words command vf sf before after told_after result is (starved_of left r) = inl left
 command_files told words command vf sf before after told_after result is (put_done reply path bytes due by same f) =
     inr (record { command = command; words_are = is; path = path; at = by.at; bytes = bytes; after_is = same; ended = done_or_fault (text_of reply) before after sf result f })

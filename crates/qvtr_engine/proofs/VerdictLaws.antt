@@ -1,5 +1,5 @@
 -- A question has one verdict, where a relation has one least failing binding.
-use Rattle.std.proofs.Common.{◌≡◌, ℕ, inl, inr, Some, refl, sym, ◌∙◌, ap, subst, arith}
+use Rattle.std.proofs.Common.{◌≡◌, ℕ, inl, inr, refl, sym, ◌∙◌, ap, subst, arith}
 use Rattle.std.specs.Prelude.{slice_get}
 use Rattle.std.proofs.lemmas.Bool.{cases_lt}
 use Rattle.qvtr_semantics.specs.Satisfaction.{LeastFailing}

@@ -5,10 +5,11 @@ use Rattle.std.specs.FinMap.{insert}
 use Rattle.vault_io.specs.Files.{Files}
 use Rattle.qvtr_engine.specs.declared.mode.Mode.{Mode}
 use Rattle.qvtr_engine.specs.CheckWords.{CheckWords}
-use Rattle.qvtr_engine.specs.Command.{Command, executes, converts, IsCommand, IsExecution, IsUsage}
+use Rattle.qvtr_engine.specs.Command.{Command, executes, converts, generates, IsCommand, IsExecution, IsUsage}
 use Rattle.qvtr_engine.specs.ConvertAnswer.{ConvertAnswer}
 use Rattle.qvtr_engine.specs.ExecutionAnswer.{ExecutionAnswer, are_alike_last}
-use Rattle.qvtr_engine.specs.Reply.{Reply, misused, unread, faulty, too_long, holds, fails, refused_for, kept, mended, traced, converted}
+use Rattle.qvtr_engine.specs.GenAnswer.{GenAnswer}
+use Rattle.qvtr_engine.specs.Reply.{Reply, misused, unread, faulty, too_long, holds, fails, refused_for, kept, mended, traced, converted, generated}
 use Rattle.qvtr_engine.specs.StepsAnswer.{AreAlike}
 use Rattle.qvtr_engine.specs.Target.{target_path}
 
@@ -16,6 +17,7 @@ use Rattle.qvtr_engine.specs.Target.{target_path}
 abbrev pub IsReply : Files → Command → Reply → Type 0
 IsReply files (executes mode w) reply = ExecutionAnswer mode files w reply
 IsReply files (converts c) reply = ConvertAnswer files c reply
+IsReply files (generates g) reply = GenAnswer g reply
 
 pub data Answer (words : List (List ℕ)) (files : Files) : Reply → Type 0 where
   usage : IsUsage words → Answer words files misused
@@ -38,6 +40,7 @@ put_of (refused_for cause text) = None
 put_of kept = None
 put_of (mended path bytes report) = Some (record { path = path; bytes = bytes })
 put_of (traced text) = None
+put_of (generated summary) = None
 put_of (converted path bytes) = Some (record { path = path; bytes = bytes })
 
 abbrev pub files_with : Option PutData → Files → Files

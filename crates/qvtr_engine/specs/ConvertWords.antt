@@ -1,10 +1,10 @@
 -- The words of `convert`.
-use Rattle.std.specs.Prelude.{◌≡◌, ℕ, Bool, true, false, ◌==◌, List, [], ◌∷◌, length, codes, Option, Some, None, ◌&&◌, if◌then◌else◌}
+use Rattle.std.specs.Prelude.{◌≡◌, ℕ, Bool, true, ◌==◌, List, [], ◌∷◌, length, codes, Option, Some, None, option_map, ◌&&◌, if◌then◌else◌}
 use Rattle.std.specs.List.{list_all}
 use Rattle.mof_metamodel.specs.Metamodels.{same_name}
 use Rattle.model_files.specs.declared.file_form.Form.{Form}
 use Rattle.model_files.specs.declared.file_form.Form.TheVariants.{Xmi, Json}
-use Rattle.qvtr_engine.specs.Arguments.{AreArguments, arguments_of}
+use Rattle.command_words.specs.Arguments.{AreArguments, arguments_of}
 use Rattle.qvtr_engine.specs.Paths.{is_filled, are_all_apart}
 use Rattle.qvtr_engine.specs.Reading.{◌>>=◌, when_true, nth}
 
@@ -42,14 +42,16 @@ form_named word = if same_name word (codes "xmi") then Some Xmi else if same_nam
 abbrev pub has_good_paths : ConvertWords → Bool
 has_good_paths c = list_all is_filled (convert_paths c) && are_all_apart (convert_paths c)
 
-abbrev pub convert_with : List (List ℕ) → Form → Option ConvertWords
-convert_with arguments form =
-    let c : ConvertWords = record { form = form; metamodel = nth arguments 1; model = nth arguments 2; output = nth arguments 3 } in
-    when_true (has_good_paths c) c
+abbrev pub convert_with : List (List ℕ) → Form → ConvertWords
+convert_with arguments form = record { form = form; metamodel = nth arguments 1; model = nth arguments 2; output = nth arguments 3 }
+
+-- four arguments, of which the first one is a form
+abbrev pub convert_in : List (List ℕ) → Option ConvertWords
+convert_in arguments = option_map (convert_with arguments) (form_named (nth arguments 0))
 
 unfoldable pub convert_from : List (List ℕ) → Option ConvertWords
-convert_from arguments = if length arguments == 4 then form_named (nth arguments 0) >>= convert_with arguments else None
+convert_from arguments = if length arguments == 4 then convert_in arguments >>= (λ c. when_true (has_good_paths c) c) else None
 
+-- the words behind the command's name
 unfoldable pub convert_of : List (List ℕ) → Option ConvertWords
-convert_of [] = None
-convert_of (word ∷ words) = if same_name word (codes "convert") then arguments_of words >>= convert_from else None
+convert_of further = arguments_of further >>= convert_from

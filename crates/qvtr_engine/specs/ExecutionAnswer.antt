@@ -1,6 +1,6 @@
 -- What `check`, `enforce` and `trace` are answered over the files of a vault: what they come to once all is read is told by their mode (QVT 1.3,
 -- sections 7.2 and 7.10.2).
-use Rattle.std.specs.Prelude.{ℕ, List, [], ◌⊎◌}
+use Rattle.std.specs.Prelude.{ℕ, List}
 use Rattle.vault_io.specs.Files.{Files}
 use Rattle.model_files.specs.declared.file_form.Form.{Form}
 use Rattle.answer_texts.specs.Question.{Question}

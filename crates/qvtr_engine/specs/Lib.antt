@@ -5,8 +5,11 @@ pub mod Reply
 pub mod CheckReply
 pub mod Answer
 pub mod Reading
-pub mod Arguments
-pub mod ArgumentsView
+pub mod TextSets
+pub mod CommandNames
+pub mod GenWords
+pub mod GenAnswer
+pub mod Summaries
 pub mod ConvertWords
 pub mod ConvertView
 pub mod Modes

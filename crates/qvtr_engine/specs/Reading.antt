@@ -1,6 +1,5 @@
 -- The reading of words, as functions on lists. The laws that tie it to what is spelled stand in proofs/.
-use Rattle.std.specs.Prelude.{ℕ, suc, zero, Bool, true, false, not, ◌&&◌, ◌==◌, nat_eq, List, [], ◌∷◌, length, drop, Option, Some, None, if◌then◌else◌}
-use Rattle.std.specs.List.{starts_with}
+use Rattle.std.specs.Prelude.{ℕ, suc, zero, Bool, true, false, not, ◌&&◌, ◌==◌, List, [], ◌∷◌, length, Option, Some, None, if◌then◌else◌}
 use Rattle.qvtr_engine.specs.CheckWords.{Bound, is_equals_sign}
 
 infixl 10 ◌>>=◌
@@ -33,7 +32,3 @@ abbrev pub nth : List (List ℕ) → ℕ → List ℕ
 nth [] k = []
 nth (x ∷ xs) zero = x
 nth (x ∷ xs) (suc k) = nth xs k
-
--- what stands behind a text
-unfoldable pub behind : List ℕ → List ℕ → Option (List ℕ)
-behind text bytes = when_true (starts_with nat_eq bytes text) (drop (length text) bytes)

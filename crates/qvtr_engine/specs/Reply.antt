@@ -8,11 +8,13 @@ use Rattle.repair_semantics.specs.declared.report.Report.{Report}
 use Rattle.enforce_steps.specs.declared.cause.Cause.{Cause}
 use Rattle.enforce_steps.specs.declared.cause.Cause.TheVariants as causes
 use Rattle.enforce_steps.specs.StepTexts.{report_text}
+use Rattle.example_run.specs.declared.summary.Summary.{Summary}
+use Rattle.qvtr_engine.specs.Summaries.{summary_text}
 
 -- The words are no command; the file at a path couldn't be read; a fault of a file is told by this line, for a limit that
 -- is passed or not; the file at a path is too long; the relations hold; they fail, as this text tells; the execution is refused for a cause, of
 -- which this text tells; the target stays as it is; the target's file, at a path, is put with these bytes, of which this is the report; this text is
--- the trace; the file at a path is put with these bytes.
+-- the trace; the file at a path is put with these bytes; an example was run, of which this is the summary.
 pub data Reply : Type 0 where
   misused : Reply
   unread : List ℕ → Reply
@@ -25,6 +27,7 @@ pub data Reply : Type 0 where
   mended : List ℕ → List ℕ → Report → Reply
   traced : List ℕ → Reply
   converted : List ℕ → List ℕ → Reply
+  generated : Summary → Reply
 
 -- the status of a fault of a file
 abbrev pub status_of_fault : Bool → Status
@@ -51,6 +54,7 @@ status_of kept = Done
 status_of (mended path bytes report) = Done
 status_of (traced text) = Done
 status_of (converted path bytes) = Done
+status_of (generated summary) = Done
 
 abbrev pub usage_text : List ℕ
 usage_text = codes "usage\n"
@@ -82,6 +86,7 @@ text_of kept = unchanged_text
 text_of (mended path bytes report) = report_text report
 text_of (traced text) = text
 text_of (converted path bytes) = done_text
+text_of (generated summary) = summary_text summary
 
 abbrev pub no_memory_text : List ℕ
 no_memory_text = codes "no memory\n"

@@ -2,8 +2,7 @@
 -- another form are no command.
 use Rattle.std.specs.Prelude.{◌≡◌, ◌≢◌, ℕ, Bool, true, ◌&&◌, ◌==◌, not, nat_lt, List, [], ◌∷◌, length, map, drop, Option, None, if◌then◌else◌}
 use Rattle.std.specs.List.{list_all}
-use Rattle.mof_metamodel.specs.Metamodels.{same_name}
-use Rattle.qvtr_engine.specs.Arguments.{AreArguments, arguments_of}
+use Rattle.command_words.specs.Arguments.{AreArguments, arguments_of}
 use Rattle.qvtr_engine.specs.CheckWords.{Bound, CheckWords, bound_word, is_bound, check_paths}
 use Rattle.qvtr_engine.specs.Names.{are_distinct}
 use Rattle.qvtr_engine.specs.Paths.{is_filled, are_all_apart}
@@ -37,12 +36,15 @@ abbrev pub is_good : CheckWords → Bool
 is_good w = list_all has_parts w.files && are_distinct (file_names w) && is_filled w.script && are_all_apart (check_paths w)
 
 -- the words behind the first two bind names to paths
+abbrev pub files_in : List (List ℕ) → List Bound
+files_in arguments = map parts (drop 2 arguments)
+
 abbrev pub check_in : List (List ℕ) → CheckWords
-check_in arguments = record { script = nth arguments 0; target = nth arguments 1; files = map parts (drop 2 arguments) }
+check_in arguments = record { script = nth arguments 0; target = nth arguments 1; files = files_in arguments }
 
 unfoldable pub check_from : List (List ℕ) → Option CheckWords
 check_from arguments = if nat_lt (length arguments) 3 then None else when_true (is_good (check_in arguments)) (check_in arguments)
 
-unfoldable pub request_of : List ℕ → List (List ℕ) → Option CheckWords
-request_of command [] = None
-request_of command (word ∷ words) = if same_name word command then arguments_of words >>= check_from else None
+-- the words behind the command's name
+unfoldable pub request_of : List (List ℕ) → Option CheckWords
+request_of further = arguments_of further >>= check_from

@@ -1,14 +1,16 @@
 //! The top call of the engine.
 #![tactic(auto)]
 
-mod arguments;
 mod check_request;
 mod check_words;
 mod command;
+mod command_name;
 mod concluding;
 mod convert_words;
 mod converting;
 mod executing;
+mod gen_words;
+mod generating;
 mod input_names;
 mod judging;
 mod last_steps;
@@ -25,6 +27,7 @@ mod rendering;
 mod reporting;
 mod script_input;
 mod status;
+mod text_set;
 mod top;
 
 pub use limits::MAX_FILE;

@@ -1,6 +1,6 @@
 //! How a script is executed.
 ghost use Rattle.std.specs.Prelude.{◌≡◌};
-ghost use Rattle.qvtr_engine.specs.Modes.{mode_name, mode_named};
+ghost use Rattle.qvtr_engine.specs.Modes.{mode_named};
 
 /// How the relations of a script are executed in the direction towards a target (QVT 1.3, section 7.2).
 #[derive(Clone, Copy)]
@@ -23,17 +23,6 @@ impl Mode {
             "enforce" => Some(Mode::Enforce),
             "trace" => Some(Mode::Trace),
             _ => None,
-        }
-    }
-
-    /// The name of its command.
-    pub(crate) fn name(self) -> &'static str
-        ensures { result.now ≡ mode_name self }
-    {
-        match self {
-            Mode::Check => "check",
-            Mode::Enforce => "enforce",
-            Mode::Trace => "trace",
         }
     }
 }

@@ -6,7 +6,7 @@ ghost use Rattle.script_scopes.specs.ScriptNames.{model_names};
 ghost use Rattle.qvtr_engine.specs.CheckedModels.{no_model};
 ghost use Rattle.qvtr_engine.specs.FoundFiles.{item_named, items_named, StandsAt};
 
-use mof_metamodel::{MetaModel, NoMemory, Text};
+use mof_metamodel::{MetaModel, NoMemory, Text, or_drop};
 use object_tables::Model;
 use ocl_environments::Metas;
 use ocl_eval::Models;
@@ -64,8 +64,8 @@ pub(crate) fn number_metas(
     Ok(metas)
 }
 
-/// The models of a script by their numbers: in the order of the script.
-pub(crate) fn number_models<'m>(
+/// The models of a script in its order.
+fn models_in_order<'m>(
     alloc: Global,
     models: &[ModelTree],
     mut found: Vec<Found<'_, Model<'m>>>,
@@ -81,5 +81,21 @@ pub(crate) fn number_models<'m>(
             None => unreachable!(),
         }
     }
+    Ok(numbered)
+}
+
+/// The models of a script by their numbers: in the order of the script. Each has an index of the values that its
+/// objects hold.
+pub(crate) fn number_models<'m>(
+    alloc: Global,
+    models: &[ModelTree],
+    found: Vec<Found<'_, Model<'m>>>,
+) -> Result<Models<'m>, NoMemory>
+    requires distinct { (name : List ℕ) → ¬ IsRepeated (model_names models.now) name }
+    requires each { All (λ name. is_some (item_named found.items name) ≡ true) (model_names models.now) }
+    ensures { IfOk result (λ numbered. numbered ≡ items_named no_model found.entry.items (model_names models.now)) }
+{
+    let mut numbered = models_in_order(alloc, models, found)?;
+    or_drop!(numbered.index(); numbered);
     Ok(numbered)
 }

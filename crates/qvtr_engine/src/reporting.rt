@@ -1,11 +1,12 @@
 //! What a run prints, and the status with which it ends.
 ghost use Rattle.std.specs.Prelude.{◌≡◌, ◌≤◌, Some};
 ghost use Rattle.vault_io.specs.Counts.{Rose};
-ghost use Rattle.qvtr_engine.specs.Outcome.{Finishes, Reports, reply_of, reply_of_stop};
+ghost use Rattle.qvtr_engine.specs.Outcome.{Finishes, RefusesWords, Reports, reply_of, reply_of_stop};
 
 use crate::outcome::{Outcome, Stop};
-use crate::rendering::{NO_MEMORY, render_outcome, render_stop};
+use crate::rendering::{NO_MEMORY, USAGE, render_outcome, render_stop};
 use crate::status::Status;
+use command_words::WordsError;
 use mof_metamodel::NoMemory;
 use std::alloc::Global;
 use vault_io::{Failed, Sink, print_all};
@@ -18,6 +19,17 @@ pub(crate) fn finish<K: Sink>(out: &mut K, status: Status, text: &[u8]) -> Statu
     match print_all(out, text) {
         Ok(()) => status,
         Err(Failed) => Status::Fault,
+    }
+}
+
+/// Prints that the words are no command, or that memory to read them could not be had.
+pub(crate) fn report_words<K: Sink>(out: &mut K, error: WordsError) -> Status
+    ensures ends { RefusesWords error (K.told out.old) (K.told out.new) (Rose (K.faults out.old) (K.faults out.new)) result }
+    ensures faults { K.faults out.old ≤ K.faults out.new }
+{
+    match error {
+        WordsError::Usage => finish(out, Status::Usage, USAGE),
+        WordsError::NoMemory => finish(out, Status::NoMemory, NO_MEMORY),
     }
 }
 

@@ -8,13 +8,17 @@ ghost use Rattle.repair_semantics.specs.declared.report.Report.{Report};
 ghost use Rattle.enforce_steps.specs.EnforceAnswer.{IsFit, IsMadeSo};
 ghost use Rattle.qvtr_engine.specs.Answer.{Answer, AreAlikeAnswers, HasOneAnswer};
 ghost use Rattle.qvtr_engine.specs.CheckWords.{CheckWords};
-ghost use Rattle.qvtr_engine.specs.Command.{IsExecution, IsUsage};
+ghost use Rattle.qvtr_engine.specs.Command.{IsExecution, IsInBounds, IsUsage, generates};
 ghost use Rattle.qvtr_engine.specs.CommandEnds.{CommandEnds};
+ghost use Rattle.qvtr_engine.specs.CommandNames.{NamesCommand};
 ghost use Rattle.qvtr_engine.specs.CommandView.{command_view};
 ghost use Rattle.qvtr_engine.specs.ConvertAnswer.{IsConverted, text_in};
 ghost use Rattle.qvtr_engine.specs.ConvertWords.{ConvertWords, IsConvert};
 ghost use Rattle.qvtr_engine.specs.Enforced.{HasEnforced};
 ghost use Rattle.qvtr_engine.specs.ExecutionAnswer.{ExecutionAnswer, output_at};
+ghost use Rattle.qvtr_engine.specs.declared.gen_words.GenRequest.{GenRequest};
+ghost use Rattle.qvtr_engine.specs.GenAnswer.{GenerationEnds};
+ghost use Rattle.qvtr_engine.specs.GenWords.{IsGeneration};
 ghost use Rattle.qvtr_engine.specs.Mended.{IsAllNeeded, IsMended};
 ghost use Rattle.qvtr_engine.specs.Reply.{Reply, holds, misused, status_of, unread};
 ghost use Rattle.qvtr_engine.specs.Run.{Ends, HasCause, HasConverted, IsOwed, IsOwedOrOther, KeepsFiles};
@@ -25,9 +29,9 @@ ghost use Rattle.qvtr_engine.specs.Verdicts.{HasVerdict, IsJudged};
 use crate::command::Command;
 use crate::concluding::carry_out;
 use crate::converting::convert;
+use crate::generating::generate;
 use crate::mended::{enforced_files_are_mended, satisfied_files_are_kept};
-use crate::rendering::USAGE;
-use crate::reporting::finish;
+use crate::reporting::report_words;
 use crate::status::Status;
 use std::alloc::Global;
 use vault_io::{Sink, Vault};
@@ -54,14 +58,18 @@ fn obey<F: Vault, K: Sink>(
     out: &mut K,
     command: &Command<'_>,
 ) -> Status
+    requires { IsInBounds (command_view command.now) }
     ensures ends { CommandEnds (F.files vault.old) (command_view command.now) (Rose (F.faults vault.old) (F.faults vault.new))
         (Rose (K.faults out.old) (K.faults out.new)) (K.told out.old) (K.told out.new) (F.files vault.new) result }
+    ensures generates { (g : GenRequest) → command_view command.now ≡ generates g →
+        GenerationEnds g (K.told out.old) (K.told out.new) (Rose (K.faults out.old) (K.faults out.new)) result }
     ensures vault_faults { F.faults vault.old ≤ F.faults vault.new }
     ensures sink_faults { K.faults out.old ≤ K.faults out.new }
 {
     match command {
         Command::Execute { mode, request } => carry_out(alloc, vault, out, *mode, request),
         Command::Convert(request) => convert(alloc, vault, out, request),
+        Command::Generate(request) => generate(alloc, out, *request),
     }
 }
 
@@ -80,6 +88,9 @@ fn obey<F: Vault, K: Sink>(
 /// `convert FORM META IN OUT` reads the model in the file IN by the metamodel in the file META, each in the form that it has, puts it as OUT
 /// in the form `xmi` (XMI 2.5.1) or `json` (RFC 8259), and prints `done`. Only OUT changes, and only where the status is `Done`,
 /// or `Fault` since the put or the print failed.
+///
+/// `gen N SEED` makes the example of classes and tables in memory, with N classes after SEED, enforces its transformation on an empty target,
+/// checks it, and enforces it again. It prints what came of that, and reads and changes no file.
 ///
 /// The other statuses say what stands in the way; each has its text.
 pub fn run<F: Vault, K: Sink>(alloc: Global, words: &[String], vault: &mut F, out: &mut K) -> Status
@@ -119,9 +130,14 @@ pub fn run<F: Vault, K: Sink>(alloc: Global, words: &[String], vault: &mut F, ou
         IsFit (output_at (target_form files w) (target_path w)) made →
         IsOwed Status.Done (Rose (F.faults vault.old) (F.faults vault.new) ⊎ Rose (K.faults out.old) (K.faults out.new)) result) }
 
-    // These hold of files that aren't told, too.
+    // An example that is run is told by its summary, and nothing but want of memory and the print stands against it.
+    ensures generates { (g : GenRequest) → IsGeneration (map string_bytes words.now) g →
+        GenerationEnds g (K.told out.old) (K.told out.new) (Rose (K.faults out.old) (K.faults out.new)) result }
+
+    // These hold of files that aren't told, too. Words that are no command may be answered by want of memory only where the first one names a command.
     ensures usage { (result ≡ Status.Usage → IsUsage (map string_bytes words.now))
-        × (IsUsage (map string_bytes words.now) → (result ≡ Status.Usage) ⊎ ((result ≡ Status.Fault) × Rose (K.faults out.old) (K.faults out.new))) }
+        × (IsUsage (map string_bytes words.now) → (result ≡ Status.Usage) ⊎ ((result ≡ Status.Fault) × Rose (K.faults out.old) (K.faults out.new))
+        ⊎ ((result ≡ Status.NoMemory) × NamesCommand (map string_bytes words.now))) }
     ensures fault { result ≡ Status.Fault → Rose (F.faults vault.old) (F.faults vault.new) ⊎ Rose (K.faults out.old) (K.faults out.new)
         ⊎ IsSomeAnd (F.files vault.old) (λ files. (path : List ℕ) × Answer (map string_bytes words.now) files (unread path)) }
     ensures files { KeepsFiles (map string_bytes words.now) (F.files vault.old) (F.files vault.new) result }
@@ -130,8 +146,8 @@ pub fn run<F: Vault, K: Sink>(alloc: Global, words: &[String], vault: &mut F, ou
 {
     enforced_files_are_mended();
     satisfied_files_are_kept();
-    match Command::read(words) {
-        None => finish(out, Status::Usage, USAGE),
-        Some(command) => obey(alloc, vault, out, &command),
+    match Command::read(alloc, words) {
+        Ok(command) => obey(alloc, vault, out, &command),
+        Err(error) => report_words(out, error),
     }
 }

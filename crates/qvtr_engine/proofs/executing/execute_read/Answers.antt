@@ -1,15 +1,14 @@
-use Rattle.std.proofs.Common.{◌≡◌, ◌∙◌, sym, subst, map}
-use Rattle.std.specs.Prelude.{IfOk, chars}
+use Rattle.std.proofs.Common.{◌≡◌, ◌∙◌, subst}
+use Rattle.std.specs.Prelude.{chars}
 use Rattle.std.proofs.lemmas.Result.{err_from_is_err_and, IfOk-weaker, IfErr-weaker}
-use Rattle.qvtr_engine.specs.CheckedModels.{numbered_models, no_model}
+use Rattle.qvtr_engine.specs.CheckedModels.{numbered_models}
 use Rattle.qvtr_engine.specs.ExecutionAnswer.{last_answer}
-use Rattle.qvtr_engine.specs.FoundFiles.{items_of, items_named}
+use Rattle.qvtr_engine.specs.FoundFiles.{items_of}
 use Rattle.qvtr_engine.specs.LastSteps.{AnswerRead}
 use Rattle.qvtr_engine.specs.Outcome.{reply_of}
 use Rattle.qvtr_engine.specs.RequestView.{request_view}
 use Rattle.qvtr_engine.specs.Stops.{OnStop}
 use Rattle.qvtr_engine.specs.Target.{target_path}
-use Rattle.script_scopes.specs.ScriptNames.{model_names}
 use Rattle.qvtr_types.specs.ResolvedScripts.{setting_of}
 use Rattle.qvtr_engine.proofs.ExecutingLaws.{script_refused, script_resolved}
 use Rattle.qvtr_engine.proofs.LastStepLaws.{mended_for}

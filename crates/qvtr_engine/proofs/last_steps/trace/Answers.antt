@@ -1,4 +1,3 @@
-use Rattle.std.proofs.Common.{refl}
 use Rattle.answer_texts.specs.AskedView.{asked_view}
 use Rattle.enforce_steps.specs.Endings.{traced}
 use Rattle.enforce_steps.specs.EnforceAnswer.{TraceAnswer}

@@ -18,7 +18,7 @@ use Rattle.qvtr_engine.proofs.ReadingInputLaws.{names_more, items_more, first_st
 use Rattle.mof_metamodel.specs.declared.desc.MetaDesc.{MetaDesc}
 use Rattle.qvtr_engine.specs.ReadModels.{IsReadBy}
 use Rattle.qvtr_engine.proofs.ReadModelLaws.{read_more}
-use Rattle.qvtr_engine.proofs.TargetLaws.{form_more, no_form}
+use Rattle.qvtr_engine.proofs.TargetLaws.{form_more}
 use Rattle.qvtr_engine.specs.Target.{form_at}
 use Rattle.qvtr_engine.proofs.reading_inputs.models_at.Goals as goal
 

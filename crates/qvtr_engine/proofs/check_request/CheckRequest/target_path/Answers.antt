@@ -1,10 +1,9 @@
-use Rattle.std.proofs.Common.{◌≡◌, ◌+◌, true, false, cond, List, ℕ, drop, ap, sym, ◌∙◌}
+use Rattle.std.proofs.Common.{◌≡◌, true, false}
 use Rattle.mof_metamodel.specs.Characters.{same_name}
 use Rattle.qvtr_engine.specs.CheckView.{bound_view}
-use Rattle.qvtr_engine.specs.CheckWords.{Bound}
 use Rattle.qvtr_engine.specs.CheckedNames.{name_of, target_of}
 use Rattle.qvtr_engine.specs.RequestView.{request_view}
-use Rattle.qvtr_engine.specs.Target.{path_named, target_path}
+use Rattle.qvtr_engine.specs.Target.{target_path}
 use Rattle.qvtr_engine.proofs.TargetLaws.{path_here, path_on}
 use Rattle.qvtr_engine.proofs.check_request.CheckRequest.target_path.Goals as goal
 
