@@ -19,6 +19,8 @@ pub enum Asked {
     Names,
     /// Whether it can be enforced.
     Rules,
+    /// The program of the example, as code makes it.
+    Example,
 }
 
 impl Asked {
@@ -56,6 +58,7 @@ fn asked_by(word: &str) -> Option<Asked> {
         "clauses" => Some(Asked::Clauses),
         "names" => Some(Asked::Names),
         "enforceable" => Some(Asked::Rules),
+        "example" => Some(Asked::Example),
         _ => None,
     }
 }

@@ -10,6 +10,7 @@
 //! | `domains TARGET TEXT` | its domains, with their templates |
 //! | `clauses TARGET TEXT` | the conjuncts of its clauses |
 //! | `enforceable TARGET TEXT` | `ok` where the program can be enforced, and else the rule that is broken and the relation that breaks it |
+//! | `example TARGET TEXT` | the program of the example, as code makes it, over the metamodels of the text |
 //! | `names TARGET NAMES: TEXT` | whether these names, of files say, are those of the text |
 //!
 //! Where the text has no program the answer is the line that is printed of its fault. In a TEXT `%` and two hexadecimal digits are a byte,

@@ -6,6 +6,7 @@ use crate::asked::{Asked, Case};
 use crate::lines::put_line;
 use crate::programs::put_program;
 use case_texts::Pen;
+use example_program::main_program;
 use expression_settings::metamodels_named;
 use mof_metamodel::NoMemory;
 use ocl_environments::{Metas, TypeError};
@@ -47,6 +48,10 @@ fn put_over(
         pen.put(" no metamodel");
         return Ok(());
     }
+    if case.asked == Asked::Example {
+        put_example(alloc, pen, metas);
+        return Ok(());
+    }
     match resolve(alloc, script, metas, case.target) {
         Ok(program) => {
             put_asked(alloc, pen, metas, case.asked, &program);
@@ -58,6 +63,17 @@ fn put_over(
         }
     }
     Ok(())
+}
+
+/// The program of the example, as code makes it, over the metamodels of a script.
+fn put_example(alloc: Global, pen: &mut Pen, metas: &Metas) {
+    match main_program(alloc) {
+        Ok(program) => {
+            put_program(alloc, pen, metas, Asked::Program, &program);
+            drop(program);
+        }
+        Err(_) => pen.put(" no memory"),
+    }
 }
 
 fn put_asked(alloc: Global, pen: &mut Pen, metas: &Metas, asked: Asked, program: &Program)
