@@ -73,6 +73,8 @@ CASES = [
     ('300 classes, the last without its table', lambda: source(300), lambda: target(300, 'other')),
     ('1,000 classes', lambda: source(1000), lambda: target(1000)),
     ('3,000 classes', lambda: source(3000), lambda: target(3000)),
+    ('10,000 classes', lambda: source(10000), lambda: target(10000)),
+    ('20,000 classes', lambda: source(20000), lambda: target(20000)),
     ('a chain of 128 calls', lambda: heirs(64), one_table),
     ('a chain of more', lambda: heirs(65), one_table),
 ]
