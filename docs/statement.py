@@ -263,7 +263,7 @@ def files_of(crate, folder, ending):
 
 
 def wrapped(first, text, indent='  '):
-    return textwrap.wrap(text, width=106, initial_indent=first, subsequent_indent=indent, break_long_words=False,
+    return textwrap.wrap(text, width=100, initial_indent=first, subsequent_indent=indent, break_long_words=False,
                          break_on_hyphens=False)
 
 
