@@ -1,5 +1,5 @@
 -- The entries of an index as they are gathered are those of the model.
-use Rattle.std.proofs.Common.{◌≡◌, ◌⊎◌, ◌<◌, ◌≤◌, ◌+◌, ℕ, zero, suc, Bool, true, false, List, [], ◌∷◌, ◌++◌, length, get_or, append-nil, map, take, refl, sym, ap, subst, ◌∙◌, arith, inl, inr, Option, None, Some}
+use Rattle.std.proofs.Common.{◌≡◌, ◌<◌, ◌≤◌, ◌+◌, ℕ, zero, suc, List, [], ◌∷◌, ◌++◌, length, get_or, append-nil, map, take, sym, ap, subst, ◌∙◌, arith, inl, inr, Option, None, Some}
 use Rattle.std.specs.Prelude.{Contains, option_map}
 use Rattle.std.specs.List.{flat_map, range_with_len}
 use Rattle.std.proofs.lemmas.Bool.{cases_lt}
@@ -8,42 +8,20 @@ use Rattle.std.proofs.lemmas.List.Concat.{flat_map-append}
 use Rattle.std.proofs.lemmas.List.Elements.{Contains-append_left, Contains-append_right, Contains-append_cases}
 use Rattle.std.proofs.lemmas.List.FromFn.{length-range_with_len, get_or-range_with_len}
 use Rattle.mof_metamodel.specs.declared.desc.PropId.{PropId}
-use Rattle.mof_metamodel.specs.Metamodels.{props_of, type_of}
+use Rattle.mof_metamodel.specs.Metamodels.{props_of}
 use Rattle.mof_metamodel.specs.Tables.{prop_numbers}
 use Rattle.mof_metamodel.proofs.Facts.{contains_first, contains_map, nothing_in}
 use Rattle.object_tables.specs.declared.value.Value.{Value}
 use Rattle.object_tables.specs.Objects.{Object}
 use Rattle.object_tables.specs.Kept.{Kept}
-use Rattle.object_tables.specs.Models.{ModelData, object_at, class_at, values_at, slot_in, slot_number, index_of, no_slot, is_class_type, IsAttributeOf, IsReferenceOf}
+use Rattle.object_tables.specs.Models.{ModelData, class_at, values_at, IsAttributeOf}
 use Rattle.object_tables.proofs.ListLemmas.{Contains-cons, Contains-from_map}
-use Rattle.object_tables.proofs.ModelLemmas.{index-found}
+use Rattle.object_tables.proofs.ValueLaws.{values_somewhere}
 use Rattle.key_index.specs.declared.holder.Holder.{Holder}
 use Rattle.key_index.specs.Entries.{entry, entries_at, props_in, entries_of, entries}
 use Rattle.key_index.specs.Holders.{Holds, IsIndexOf}
 
 -- ---- values stand at attributes alone
-
-values_somewhere : (m : ModelData) → Kept m → (o p : ℕ) → (values_at m o p ≡ []) ⊎ IsAttributeOf m o p
-values_somewhere m kept o p = by (object_at m o) refl
-  where
-    at_class : (ob : Object) → object_at m o ≡ Some ob → class_at m o ≡ Some ob.class
-    at_class ob e = ap (λ (x : Option Object). option_map (λ (ob : Object). ob.class) x) e
-
-    at_type : (ob : Object) → object_at m o ≡ Some ob → Contains (props_of m.meta ob.class) p → (b : Bool) → is_class_type (type_of m.meta p) ≡ b
-        → ((slot_in m.meta p (Some ob)).values ≡ []) ⊎ IsAttributeOf m o p
-    at_type ob e c true t =
-        let r : IsReferenceOf m o p = record { class = ob.class; class_is = at_class ob e; has = c; reference = t } in
-        inl (ap (λ (x : Option Object). (slot_in m.meta p x).values) (sym e) ∙ (kept.references o p r).values)
-    at_type ob e c false t = inr (record { class = ob.class; class_is = at_class ob e; has = c; attribute = t })
-
-    by : (x : Option Object) → object_at m o ≡ x → ((slot_in m.meta p x).values ≡ []) ⊎ IsAttributeOf m o p
-    by None e = inl refl
-    by (Some ob) e =
-        let props : List ℕ = props_of m.meta ob.class in
-        elim (cases_lt (index_of props p) (length props)) [
-          | inl l ↦ at_type ob e (index_of props p, l, index-found props p p l) (is_class_type (type_of m.meta p)) refl
-          | inr le ↦ inl (let slots = (kept.objects o ob e).slots in ap (λ s. s.values) (get_or_past ob.slots (slot_number m.meta ob.class p) no_slot (omega (arith, le, slots))))
-        ]
 
 pub no_entries : (m : ModelData) → Kept m → (o p : ℕ) → (IsAttributeOf m o p → ⊥) → entries_at m o p ≡ []
 no_entries m kept o p none = elim (values_somewhere m kept o p) [

@@ -31,3 +31,4 @@ pub mod PlaceLemmas
 pub mod ConditionLemmas
 pub mod Refuting
 pub mod IncomingLemmas
+pub mod ValueLaws

@@ -1,4 +1,4 @@
-ghost use Rattle.std.specs.Prelude.{◌≡◌, ◌<◌, ◌≤◌, ◌^◌, suc, length, Some, IfSome};
+ghost use Rattle.std.specs.Prelude.{◌≡◌, ◌<◌, ◌≤◌, ◌^◌, suc, length, Some};
 ghost use Rattle.mof_metamodel.specs.Metamodels.{class_count, prop_count, props_of};
 ghost use Rattle.object_tables.specs.Models.{index_of};
 ghost use Rattle.object_tables.specs.Tied.{near, far, nameless, far_among};
@@ -60,15 +60,11 @@ fn far_among(meta: &MetaModel, class: ClassId, q: PropId, otherwise: u32) -> u32
     }
 }
 
-/// How many places an object of the class has: the two nameless ones and one for each property. Nothing where they are too
-/// many to be numbered.
-pub(crate) fn place_count(meta: &MetaModel, class: ClassId) -> Option<u32>
-    requires { class.0 < class_count meta.now }
-    ensures { IfSome result (λ n. n ≡ suc (suc (length (props_of meta.now class.0)))) }
+/// How many places an object of the class has: the two nameless ones and one for each property.
+pub(crate) fn place_count(meta: &MetaModel, class: ClassId) -> u32
+    requires class { class.0 < class_count meta.now }
+    requires small { suc (suc (length (props_of meta.now class.0))) < 2 ^ 32 }
+    ensures { result ≡ suc (suc (length (props_of meta.now class.0))) }
 {
-    let count = meta.props(class).len();
-    if count >= u32::MAX as usize - 2 {
-        return None;
-    }
-    Some(count as u32 + 2)
+    meta.props(class).len() as u32 + 2
 }

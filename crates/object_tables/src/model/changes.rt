@@ -31,10 +31,7 @@ impl<'m> Model<'m> {
         if self.names.contains_key(id.as_str()) {
             return Err(AddFault::DuplicateId);
         }
-        let count = match place_count(self.meta, class) {
-            Some(count) => count,
-            None => return Err(AddFault::NoMemory),
-        };
+        let count = place_count(self.meta, class);
         self.enter(class, id, count)
     }
 

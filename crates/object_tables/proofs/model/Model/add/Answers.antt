@@ -2,6 +2,7 @@ use Rattle.std.proofs.Common.{length, suc, arith, sym, ◌∙◌, ap, inl, inr}
 use Rattle.std.specs.Prelude.{is_some}
 use Rattle.std.specs.HashMap.{get_by_text}
 use Rattle.mof_metamodel.specs.Metamodels.{class_at as meta_class, props_of}
+use Rattle.mof_metamodel.proofs.PlaceLemmas.{props_few}
 use Rattle.object_tables.specs.Models.{ModelData}
 use Rattle.object_tables.proofs.AddLemmas.{full_from, room_from, is_found, is_absent, if_ok_any, memory_cause}
 use Rattle.object_tables.proofs.model.Model.add.Goals as goal
@@ -29,14 +30,6 @@ returns-then-contains_key-clause-causes c = (
       (ap (λ b. is_some (get_by_text c.self.inside.names b)) (sym c.as_str.ensures.bytes) ∙ sym c.contains_key.ensures ∙ c.if-contains_key.true),
 )
 
-pub returns-in-None-clause-causes : goal.returns-in-None-clause-causes
-returns-in-None-clause-causes c = record {
-  room = room_from _ _ _ _ _ c.self.invariant.tied c.self.view_is c.if-self-ge-MAX_OBJECTS.false (let e = c.len.ensures in let l = c.if-len-ge-MAX_ADDED.false in omega arith);
-  concrete = ap (λ m. (meta_class m.meta c.args.class.0).is_abstract) (sym c.self.view_is) ∙ sym c.is_abstract.ensures ∙ c.if-is_abstract.false;
-  new = is_absent _ _ _ _ _ c.args.id c.self.invariant.tied c.self.view_is
-      (ap (λ b. is_some (get_by_text c.self.inside.names b)) (sym c.as_str.ensures.bytes) ∙ sym c.contains_key.ensures ∙ c.if-contains_key.false);
-}
-
 pub enter-requires-clause-addable : goal.enter-requires-clause-addable
 enter-requires-clause-addable c = record {
   room = room_from _ _ _ _ _ c.self.invariant.tied c.self.view_is c.if-self-ge-MAX_OBJECTS.false (let e = c.len.ensures in let l = c.if-len-ge-MAX_ADDED.false in omega arith);
@@ -62,4 +55,7 @@ returns-clause-causes c = memory_cause c.enter.result c.args.self.now c.args.cla
 })
 
 pub enter-requires-clause-count : goal.enter-requires-clause-count
-enter-requires-clause-count c = c.in-Some.ensures ∙ ap (λ (v : ModelData). suc (suc (length (props_of v.meta c.args.class.0)))) c.self.view_is
+enter-requires-clause-count c = c.place_count-count.ensures ∙ ap (λ (v : ModelData). suc (suc (length (props_of v.meta c.args.class.0)))) c.self.view_is
+
+pub place_count-count-requires-clause-small : goal.place_count-count-requires-clause-small
+place_count-count-requires-clause-small c = omega (arith, props_few c.self.inside.meta.now c.args.class.0, c.self.invariant.tied.well.limits.props)
