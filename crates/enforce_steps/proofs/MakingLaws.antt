@@ -11,7 +11,7 @@ use Rattle.repair_semantics.specs.Reports.{IsReport}
 use Rattle.demand_set.specs.DemandSets.{DemandData}
 use Rattle.enforce_mode.specs.Made.{IsSound}
 use Rattle.enforce_mode.specs.Reports.{EditData}
-use Rattle.xmi_profile.specs.Held.{IsHeldModel}
+use Rattle.model_assembly.specs.Held.{IsHeldModel}
 use Rattle.answer_texts.specs.Question.{Question}
 use Rattle.enforce_steps.specs.declared.cause.Cause.TheVariants as causes
 use Rattle.enforce_steps.specs.declared.cause.StepError.{StepError}

@@ -19,7 +19,7 @@ use Rattle.repair_semantics.specs.Reports.{IsReport}
 use Rattle.entry_finding.specs.Found.{IsUnmetAt}
 use Rattle.demand_set.specs.DemandSets.{DemandData, IsConflict, IsDemandSet}
 use Rattle.enforce_mode.specs.Made.{HasFewObjects, IsSound, IsTooDeep}
-use Rattle.xmi_profile.specs.Held.{IsHeldModel}
+use Rattle.model_assembly.specs.Held.{IsHeldModel}
 use Rattle.trace_log.specs.TraceData.{text_of_trace}
 use Rattle.demand_trace.specs.Traces.{trace_of}
 use Rattle.answer_texts.specs.Question.{Question}

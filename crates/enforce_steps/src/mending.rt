@@ -17,11 +17,11 @@ use answer_texts::Asked;
 use demand_set::DemandSet;
 use enforce_mode::{Edits, prepare};
 use enforcement_laws::demand_sets_are_demands;
+use model_assembly::models_are_held;
 use mof_metamodel::{NoMemory, Seq};
 use object_tables::Model;
 use repair_semantics::Report;
 use std::alloc::Global;
-use xmi_profile::models_are_held;
 
 /// The target among the models.
 fn target_of<'a, 'm>(asked: &Asked<'a, 'm>) -> &'a Model<'m>

@@ -5,14 +5,14 @@ use Rattle.mof_metamodel.specs.declared.desc.ClassId.{ClassId}
 use Rattle.mof_metamodel.specs.declared.desc.MetaDesc.{MetaDesc}
 use Rattle.mof_metamodel.specs.WellMeta.{WellMeta}
 use Rattle.object_tables.specs.Models.{ModelData}
-use Rattle.xmi_profile.specs.declared.fault.Externs.{Externs}
-use Rattle.xmi_profile.specs.declared.fault.ModelFault.{ModelFault}
-use Rattle.xmi_profile.specs.declared.filed.Filed.{Filed}
-use Rattle.xmi_profile.specs.Assembled.{IsWhole}
-use Rattle.xmi_profile.specs.Elements.{concrete_class}
-use Rattle.xmi_profile.specs.Filed.{IsFiled}
-use Rattle.xmi_profile.proofs.assembling.AnsweredLaws as xmi
-use Rattle.xmi_profile.proofs.assembling.FoundLaws.{Found, model, told, found}
+use Rattle.model_assembly.specs.declared.fault.Externs.{Externs}
+use Rattle.model_assembly.specs.declared.fault.ModelFault.{ModelFault}
+use Rattle.model_assembly.specs.declared.filed.Filed.{Filed}
+use Rattle.model_assembly.specs.Assembled.{IsWhole}
+use Rattle.model_assembly.specs.Elements.{concrete_class}
+use Rattle.model_assembly.specs.Filed.{IsFiled}
+use Rattle.xmi_profile.proofs.AnsweredLaws as xmi
+use Rattle.model_assembly.proofs.assembling.FoundLaws.{Found, model, told, found}
 use Rattle.model_files.specs.declared.fault.FileError.{FileError}
 use Rattle.model_files.specs.declared.fault.FileError.TheVariants as errors
 use Rattle.model_files.specs.declared.fault.JsonFault.TheVariants as faults

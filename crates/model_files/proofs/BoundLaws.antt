@@ -5,7 +5,7 @@ use Rattle.std.specs.List.{fold, list_all}
 use Rattle.std.proofs.lemmas.Bool.{lt-leb, lt-ltb, leb-false}
 use Rattle.std.proofs.lemmas.Bool.Decides.{nat_tests}
 use Rattle.mof_metamodel.specs.WellMeta.{is_digit}
-use Rattle.xmi_profile.specs.Values.{number_from, spelled_number, at_most}
+use Rattle.model_assembly.specs.Values.{number_from, spelled_number, at_most}
 use Rattle.model_files.specs.declared.bounds.TheConstants.{MAX_BOUND}
 use Rattle.model_files.specs.Bounds.{spelled_on}
 

@@ -13,8 +13,8 @@ use Rattle.mof_metamodel.proofs.LineageLemmas.{Has-from_Contains, supers_within}
 use Rattle.mof_metamodel.proofs.ReachLemmas.{steps_sound, steps_complete}
 use Rattle.mof_metamodel.proofs.WellLemmas.{well_from_searched}
 use Rattle.object_tables.specs.Models.{ModelData}
-use Rattle.xmi_profile.specs.declared.fault.Externs.TheVariants as externs
-use Rattle.xmi_profile.proofs.WritingParts.{one_of}
+use Rattle.model_assembly.specs.declared.fault.Externs.TheVariants as externs
+use Rattle.model_assembly.proofs.WritingParts.{one_of}
 use Rattle.model_files.specs.declared.fault.FileError.{FileError}
 use Rattle.model_files.specs.declared.fault.FileError.TheVariants as errors
 use Rattle.model_files.specs.Described.{description_of, top_packages}

@@ -10,11 +10,11 @@ use Rattle.object_tables.specs.declared.limit.LimitKind.{LimitKind}
 use Rattle.object_tables.specs.declared.limit.LimitKind.TheVariants as limits
 use Rattle.object_tables.specs.Models.{ModelData}
 use Rattle.object_tables.specs.Validity.{Valid, IsFirst, IsFirstBreach}
-use Rattle.xmi_profile.specs.declared.fault.ModelFault.{ModelFault}
-use Rattle.xmi_profile.specs.declared.fault.ModelFault.TheVariants as faults
-use Rattle.xmi_profile.specs.Content.{Content}
-use Rattle.xmi_profile.specs.FirstFault.{IsFirstAt, IsFirstBy, IsInvalid, IsLimit, IsFirstFault, IsModel}
-use Rattle.xmi_profile.specs.Source.{Source, object_count}
+use Rattle.model_assembly.specs.declared.fault.ModelFault.{ModelFault}
+use Rattle.model_assembly.specs.declared.fault.ModelFault.TheVariants as faults
+use Rattle.model_assembly.specs.Content.{Content}
+use Rattle.model_assembly.specs.FirstFault.{IsFirstAt, IsFirstBy, IsInvalid, IsLimit, IsFirstFault, IsModel}
+use Rattle.model_assembly.specs.Source.{Source, object_count}
 use Rattle.model_files.specs.FaultTexts.{is_model_limit}
 use Rattle.model_files.proofs.OneModelLaws.{same_content}
 

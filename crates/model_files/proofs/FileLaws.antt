@@ -16,10 +16,10 @@ use Rattle.xmi_text.specs.Trees.{Tree}
 use Rattle.xmi_text.proofs.faults.FirstFault.{first_told, outside_documents}
 use Rattle.xmi_text.proofs.forward.Spelled.{markup_spelled}
 use Rattle.xmi_text.proofs.reading.Staying.{one_spelled}
-use Rattle.xmi_profile.specs.declared.fault.Externs.{Externs}
-use Rattle.xmi_profile.specs.declared.fault.ModelFault.{ModelFault}
-use Rattle.xmi_profile.specs.declared.fault.ModelFault.TheVariants as faults
-use Rattle.xmi_profile.specs.FirstFault.{IsFirstFault, IsModel}
+use Rattle.model_assembly.specs.declared.fault.Externs.{Externs}
+use Rattle.model_assembly.specs.declared.fault.ModelFault.{ModelFault}
+use Rattle.model_assembly.specs.declared.fault.ModelFault.TheVariants as faults
+use Rattle.model_assembly.specs.FirstFault.{IsFirstFault, IsModel}
 use Rattle.xmi_profile.specs.Reads.{Spells, IsRefused}
 use Rattle.xmi_profile.specs.Reads as reads
 use Rattle.model_files.specs.declared.fault.FileError.{FileError}

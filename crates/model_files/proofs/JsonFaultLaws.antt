@@ -15,9 +15,9 @@ use Rattle.mof_metamodel.specs.declared.desc.PropType.TheVariants as types
 use Rattle.mof_metamodel.specs.Characters.{same_name, is_storable_text}
 use Rattle.mof_metamodel.specs.Metamodels.{literal_number}
 use Rattle.mof_metamodel.specs.NameTables.{NamesWith, value_of as found_value}
-use Rattle.xmi_profile.specs.declared.fault.ModelFault.{ModelFault}
-use Rattle.xmi_profile.specs.declared.fault.ModelFault.TheVariants as faults
-use Rattle.xmi_profile.specs.Elements.{concrete_class}
+use Rattle.model_assembly.specs.declared.fault.ModelFault.{ModelFault}
+use Rattle.model_assembly.specs.declared.fault.ModelFault.TheVariants as faults
+use Rattle.model_assembly.specs.Elements.{concrete_class}
 use Rattle.model_files.specs.JsonContent.{written_of, text_of, slots_of, value_of, unless, wrong_id, wrong_object}
 use Rattle.model_files.specs.JsonSteps.{is_text_with, met_ids, wrong_data}
 

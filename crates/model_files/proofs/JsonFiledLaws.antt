@@ -12,21 +12,21 @@ use Rattle.mof_metamodel.specs.Metamodels.{prop_number, type_of}
 use Rattle.mof_metamodel.specs.WellMeta.{is_name_character}
 use Rattle.object_tables.specs.declared.value.Value.{Value}
 use Rattle.object_tables.specs.Models.{is_class_type}
-use Rattle.xmi_profile.specs.declared.filed.Filed.{Filed}
-use Rattle.xmi_profile.specs.declared.filed.WrittenValue.{WrittenValue}
-use Rattle.xmi_profile.specs.declared.filed.WrittenReference.{WrittenReference}
-use Rattle.xmi_profile.specs.declared.filed.Mention.{Mention}
-use Rattle.xmi_profile.specs.Attributes.{Attrs}
-use Rattle.xmi_profile.specs.Content.{values_of, written_values}
-use Rattle.xmi_profile.specs.Elements.{Item, concrete_class, object_items}
-use Rattle.xmi_profile.specs.Filed.{IsAttributeIn, IsReferenceIn, value_at, filed_values, reference_at, filed_references, reference_of, IsSaid, by_target, by_mention, IsFiled}
-use Rattle.xmi_profile.specs.Links.{is_some_target, speaks}
-use Rattle.xmi_profile.specs.Profile.{xmi_id, xmi_type, props_or_none}
-use Rattle.xmi_profile.specs.References.{words, attribute_targets}
-use Rattle.xmi_profile.specs.Source.{Source, all_items, all_ids, object_count, class_of, item_class, file_ids, is_number, attr_in, attr_of, attr_text, listed, element_text, targets_of, element_target_at, element_targets, targets_at, item_at}
-use Rattle.xmi_profile.specs.Values as texts
-use Rattle.xmi_profile.specs.Values.{without_repeats}
-use Rattle.xmi_profile.proofs.SeenLaws.{in_tail}
+use Rattle.model_assembly.specs.declared.filed.Filed.{Filed}
+use Rattle.model_assembly.specs.declared.filed.WrittenValue.{WrittenValue}
+use Rattle.model_assembly.specs.declared.filed.WrittenReference.{WrittenReference}
+use Rattle.model_assembly.specs.declared.filed.Mention.{Mention}
+use Rattle.model_assembly.specs.Attributes.{Attrs}
+use Rattle.model_assembly.specs.Content.{values_of, written_values}
+use Rattle.model_assembly.specs.Elements.{Item, concrete_class, object_items}
+use Rattle.model_assembly.specs.Filed.{IsAttributeIn, IsReferenceIn, value_at, filed_values, reference_at, filed_references, reference_of, IsSaid, by_target, by_mention, IsFiled}
+use Rattle.model_assembly.specs.Links.{is_some_target, speaks}
+use Rattle.model_assembly.specs.Profile.{xmi_id, xmi_type, props_or_none}
+use Rattle.model_assembly.specs.References.{words, attribute_targets}
+use Rattle.model_assembly.specs.Source.{Source, all_items, all_ids, object_count, class_of, item_class, file_ids, is_number, attr_in, attr_of, attr_text, listed, element_text, targets_of, element_target_at, element_targets, targets_at, item_at}
+use Rattle.model_assembly.specs.Values as texts
+use Rattle.model_assembly.specs.Values.{without_repeats}
+use Rattle.model_assembly.proofs.assembling.ListLaws.{in_tail}
 use Rattle.mof_metamodel.proofs.Facts.{contains_first}
 use Rattle.model_files.specs.declared.json_filed.Slot.{Slot}
 use Rattle.model_files.specs.JsonContent.{Written, objects_of, class_in, may_stand, is_reference, type_in, value_of, item_text, with_blanks, reference_attrs, source_of}

@@ -10,12 +10,12 @@ use Rattle.mof_metamodel.specs.declared.desc.MetaDesc.{MetaDesc}
 use Rattle.mof_metamodel.specs.declared.desc.PropType.{PropType}
 use Rattle.mof_metamodel.specs.Metamodels.{prop_number, type_of}
 use Rattle.object_tables.specs.Models.{is_class_type}
-use Rattle.xmi_profile.specs.declared.filed.Filed.{Filed}
-use Rattle.xmi_profile.specs.declared.filed.WrittenReference.{WrittenReference}
-use Rattle.xmi_profile.specs.declared.filed.Mention.{Mention}
-use Rattle.xmi_profile.specs.Attributes.{Attrs, first_attr, later, value_where}
-use Rattle.xmi_profile.specs.Filed.{reference_at}
-use Rattle.xmi_profile.specs.Source.{is_at, is_number}
+use Rattle.model_assembly.specs.declared.filed.Filed.{Filed}
+use Rattle.model_assembly.specs.declared.filed.WrittenReference.{WrittenReference}
+use Rattle.model_assembly.specs.declared.filed.Mention.{Mention}
+use Rattle.model_assembly.specs.Attributes.{Attrs, first_attr, later, value_where}
+use Rattle.model_assembly.specs.Filed.{reference_at}
+use Rattle.model_assembly.specs.Source.{is_at, is_number}
 use Rattle.model_files.specs.declared.json_filed.Slot.{Slot}
 use Rattle.model_files.specs.JsonContent.{Written, class_in, type_in, item_text, with_blanks, reference_attrs}
 use Rattle.model_files.specs.JsonFiled.{number_in, reference_to, with_references, with_values, with_named, with_items, with_found, with_slots, with_object, with_objects, AreApart}

@@ -10,13 +10,13 @@ use Rattle.mof_metamodel.specs.declared.desc.PropType.{PropType}
 use Rattle.mof_metamodel.specs.Metamodels.{prop_number, type_of}
 use Rattle.object_tables.specs.declared.value.Value.{Value}
 use Rattle.object_tables.specs.Models.{is_class_type}
-use Rattle.xmi_profile.specs.declared.filed.Filed.{Filed}
-use Rattle.xmi_profile.specs.declared.filed.WrittenValue.{WrittenValue}
+use Rattle.model_assembly.specs.declared.filed.Filed.{Filed}
+use Rattle.model_assembly.specs.declared.filed.WrittenValue.{WrittenValue}
 use Rattle.xmi_text.specs.Trees.{Ends, Run}
-use Rattle.xmi_profile.specs.Elements.{Item, behind_place}
-use Rattle.xmi_profile.specs.Filed.{value_at}
-use Rattle.xmi_profile.specs.Source.{is_at, element_text, all_items}
-use Rattle.xmi_profile.specs.Values as texts
+use Rattle.model_assembly.specs.Elements.{Item, behind_place}
+use Rattle.model_assembly.specs.Filed.{value_at}
+use Rattle.model_assembly.specs.Source.{is_at, element_text, all_items}
+use Rattle.model_assembly.specs.Values as texts
 use Rattle.model_files.specs.declared.json_filed.Slot.{Slot}
 use Rattle.model_files.specs.JsonContent.{Written, objects_of, class_in, may_stand, type_in, value_of, value_text, source_of}
 use Rattle.model_files.specs.JsonFiled.{with_value, with_values, with_named, with_items, with_found, with_slots, with_object, with_objects}

@@ -6,7 +6,7 @@ use Rattle.std.specs.Ordering.{match_ordering}
 use Rattle.serde_json.specs.Data.{Data, array, Members, no_members, member, put}
 use Rattle.serde_json.specs.View.{items_of}
 use Rattle.object_tables.specs.Models.{ModelData}
-use Rattle.xmi_profile.specs.Profile.{prop_name, object_props, live_numbers}
+use Rattle.model_assembly.specs.Profile.{prop_name, object_props, live_numbers}
 use Rattle.model_files.specs.CanonJson.{slot_data, with_slot, with_slots, slots_data, object_data, model_data}
 use Rattle.model_files.specs.Shape.{Path, at_member, at_item, is_list, unless, amiss_slots_in, amiss_object, object_members, amiss_objects_in, first_amiss}
 use Rattle.std.specs.Prelude.{codes}

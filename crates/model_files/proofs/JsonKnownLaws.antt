@@ -14,10 +14,10 @@ use Rattle.mof_metamodel.specs.WellMeta.{WellMeta, is_name, is_name_character}
 use Rattle.mof_metamodel.proofs.MetaLaws.{prop_named}
 use Rattle.mof_metamodel.proofs.PropLemmas.{prop_known}
 use Rattle.mof_metamodel.proofs.SearchLemmas.{true_same, position_named}
-use Rattle.xmi_profile.specs.declared.fault.ModelFault.{ModelFault}
-use Rattle.xmi_profile.specs.declared.fault.ModelFault.TheVariants as faults
-use Rattle.xmi_profile.specs.Elements.{concrete, concrete_class}
-use Rattle.xmi_profile.specs.Source.{proper}
+use Rattle.model_assembly.specs.declared.fault.ModelFault.{ModelFault}
+use Rattle.model_assembly.specs.declared.fault.ModelFault.TheVariants as faults
+use Rattle.model_assembly.specs.Elements.{concrete, concrete_class}
+use Rattle.model_assembly.specs.Source.{proper}
 use Rattle.model_files.specs.JsonContent.{Written, class_in, may_stand, unless, wrong_in, wrong_at, wrong_slots, wrong_object, wrong_from, first_wrong}
 use Rattle.model_files.specs.JsonFiled.{AreClassed, AreNew}
 use Rattle.model_files.proofs.JsonTree.{IsPlain, prop_in, IsKnownSlot, IsKnownObject}

@@ -31,10 +31,10 @@ use Rattle.object_tables.specs.Ids.{object_ids}
 use Rattle.object_tables.specs.Objects.{Object}
 use Rattle.object_tables.specs.Models.{ModelData, IsLive, IsAttributeOf, IsReferenceOf, object_at, class_at, values_at, partners_at, is_class_type, is_value_of}
 use Rattle.object_tables.specs.Validity.{IsPropertyOf}
-use Rattle.xmi_profile.specs.declared.form.Form.{Form}
-use Rattle.xmi_profile.specs.declared.form.Form.TheVariants.{Attribute, Elements, Identifiers, Parts, Nesting}
-use Rattle.xmi_profile.specs.Forms.{form_of, reference_form, attribute_form, is_composite, is_one}
-use Rattle.xmi_profile.specs.Profile.{prop_name, object_props, props_or_none, live_numbers}
+use Rattle.model_assembly.specs.declared.form.Form.{Form}
+use Rattle.model_assembly.specs.declared.form.Form.TheVariants.{Attribute, Elements, Identifiers, Parts, Nesting}
+use Rattle.model_assembly.specs.Forms.{form_of, reference_form, attribute_form, is_composite, is_one}
+use Rattle.model_assembly.specs.Profile.{prop_name, object_props, props_or_none, live_numbers}
 use Rattle.model_files.specs.CanonJson.{value_data, partner_data, data_by, slot_data, with_slot, with_slots, slots_data, object_data, live_data, model_data}
 use Rattle.model_files.specs.Literals.{names_literal}
 

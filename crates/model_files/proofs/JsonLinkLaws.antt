@@ -13,14 +13,14 @@ use Rattle.mof_metamodel.specs.WellMeta.{WellMeta}
 use Rattle.object_tables.specs.declared.limit.LimitKind.{LimitKind}
 use Rattle.object_tables.specs.declared.limit.LimitKind.TheVariants as limits
 use Rattle.object_tables.specs.Models.{ModelData}
-use Rattle.xmi_profile.specs.declared.fault.ModelFault.{ModelFault}
-use Rattle.xmi_profile.specs.declared.fault.ModelFault.TheVariants as faults
-use Rattle.xmi_profile.specs.declared.filed.Filed.{Filed}
-use Rattle.xmi_profile.specs.Elements.{concrete_class}
-use Rattle.xmi_profile.specs.Faults.{StandsAt}
-use Rattle.xmi_profile.specs.Filed.{IsFiled}
-use Rattle.xmi_profile.specs.FirstFault.{IsFirstAt, IsLimit, IsFirstFault, IsModel}
-use Rattle.xmi_profile.specs.Source.{object_count}
+use Rattle.model_assembly.specs.declared.fault.ModelFault.{ModelFault}
+use Rattle.model_assembly.specs.declared.fault.ModelFault.TheVariants as faults
+use Rattle.model_assembly.specs.declared.filed.Filed.{Filed}
+use Rattle.model_assembly.specs.Elements.{concrete_class}
+use Rattle.model_assembly.specs.Faults.{StandsAt}
+use Rattle.model_assembly.specs.Filed.{IsFiled}
+use Rattle.model_assembly.specs.FirstFault.{IsFirstAt, IsLimit, IsFirstFault, IsModel}
+use Rattle.model_assembly.specs.Source.{object_count}
 use Rattle.model_files.specs.JsonContent as content
 use Rattle.model_files.specs.JsonContent.{Written, written_of, text_of, objects_of, source_of, first_wrong, SpellsModel, IsFirstOfOthers, IsFirstContentFault}
 use Rattle.model_files.specs.JsonFaults.{HasObjects}

@@ -16,10 +16,10 @@ use Rattle.object_tables.specs.declared.limit.TheConstants.{MAX_OBJECTS}
 use Rattle.mof_metamodel.specs.Characters.{same_name, is_identifier_text}
 use Rattle.mof_metamodel.specs.Metamodels.{prop_number, type_of}
 use Rattle.object_tables.specs.declared.limit.LimitKind.TheVariants as limits
-use Rattle.xmi_profile.specs.declared.fault.ModelFault.{ModelFault}
-use Rattle.xmi_profile.specs.declared.fault.ModelFault.TheVariants as faults
-use Rattle.xmi_profile.specs.Elements.{concrete_class}
-use Rattle.xmi_profile.specs.Source.{proper}
+use Rattle.model_assembly.specs.declared.fault.ModelFault.{ModelFault}
+use Rattle.model_assembly.specs.declared.fault.ModelFault.TheVariants as faults
+use Rattle.model_assembly.specs.Elements.{concrete_class}
+use Rattle.model_assembly.specs.Source.{proper}
 use Rattle.model_files.specs.JsonContent.{Written, written_of, items_list, list_at, objects_of, may_stand, unless, wrong_in, wrong_at, wrong_slots, wrong_id, wrong_object, wrong_from, first_wrong, HasTooMany, IsFirstOfPlaces, IsFirstContentFault}
 use Rattle.model_files.specs.JsonFaults.{first_fault, IsUnshaped, IsJsonError}
 use Rattle.model_files.specs.declared.fault.FileError.{FileError}

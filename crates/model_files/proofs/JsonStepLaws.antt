@@ -15,9 +15,9 @@ use Rattle.serde_json.specs.View.{view, items_view, members_view}
 use Rattle.serde_json.specs.declared.value.Value.{Value}
 use Rattle.mof_metamodel.specs.declared.desc.MetaDesc.{MetaDesc}
 use Rattle.mof_metamodel.specs.Characters.{same_name}
-use Rattle.xmi_profile.specs.declared.filed.Filed.{Filed}
-use Rattle.xmi_profile.specs.declared.filed.WrittenReference.{WrittenReference}
-use Rattle.xmi_profile.specs.Elements.{concrete_class}
+use Rattle.model_assembly.specs.declared.filed.Filed.{Filed}
+use Rattle.model_assembly.specs.declared.filed.WrittenReference.{WrittenReference}
+use Rattle.model_assembly.specs.Elements.{concrete_class}
 use Rattle.model_files.specs.declared.json_filed.Slot.{Slot}
 use Rattle.model_files.specs.JsonContent.{Written, written_of, text_of, slots_of, items_list, slots_list}
 use Rattle.model_files.specs.JsonFiled.{with_references, with_named, with_object, with_objects, AreApart, HasApart, AreClassed, AreNew}

@@ -16,11 +16,11 @@ use Rattle.mof_metamodel.proofs.SearchLemmas.{same_true}
 use Rattle.object_tables.specs.Models.{is_class_type}
 use Rattle.xmi_text.specs.Markup.{begins}
 use Rattle.xmi_text.specs.Trees.{Nodes, Ends, Run, Element}
-use Rattle.xmi_profile.specs.declared.fault.Externs.TheVariants as externs
-use Rattle.xmi_profile.specs.Attributes.{Attrs, behind, local_part, has_prefix, is_skipped_name, is_document_name, is_alien_name}
-use Rattle.xmi_profile.specs.Elements.{Item, concrete_class, object_role, role_at, role_of_root, role_in, items_in, item_with, is_object, object_items, number_in, number_behind, inner_place, behind_place}
-use Rattle.xmi_profile.specs.Profile.{xmi_document, xmi_id, xmi_type}
-use Rattle.xmi_profile.specs.Source.{all_items}
+use Rattle.model_assembly.specs.declared.fault.Externs.TheVariants as externs
+use Rattle.model_assembly.specs.Attributes.{Attrs, behind, local_part, has_prefix, is_skipped_name, is_document_name, is_alien_name}
+use Rattle.model_assembly.specs.Elements.{Item, concrete_class, object_role, role_at, role_of_root, role_in, items_in, item_with, is_object, object_items, number_in, number_behind, inner_place, behind_place}
+use Rattle.model_assembly.specs.Profile.{xmi_document, xmi_id, xmi_type}
+use Rattle.model_assembly.specs.Source.{all_items}
 use Rattle.model_files.specs.JsonContent.{Written, objects_of, value_of, may_stand, value_text, type_in, class_in, reference_attrs, value_elements, slot_elements, object_elements, source_of}
 
 -- ---- names without a colon

@@ -15,16 +15,16 @@ use Rattle.mof_metamodel.specs.WellMeta.{is_name_character}
 use Rattle.object_tables.specs.declared.value.Value.{Value}
 use Rattle.object_tables.specs.Models.{is_class_type}
 use Rattle.xmi_text.specs.Trees.{Nodes}
-use Rattle.xmi_profile.specs.declared.fault.ModelFault.{ModelFault}
-use Rattle.xmi_profile.specs.declared.fault.ModelFault.TheVariants as faults
-use Rattle.xmi_profile.specs.Attributes.{is_id_name, is_type_name, is_kept_name, is_passed_name}
-use Rattle.xmi_profile.specs.Elements.{Item, concrete_class, object_items}
-use Rattle.xmi_profile.specs.Faults.{StandsAt, IsDuplicate}
-use Rattle.xmi_profile.specs.Judged.{runs_in, runs, IsUnknownClass, is_unknown_of_object, IsUnknownProperty, IsTextAt, IsWrongValue}
-use Rattle.xmi_profile.specs.Profile.{xmi_id, xmi_type}
-use Rattle.xmi_profile.specs.Source.{Source, all_items, ids_from, item_class, file_ids, uses, is_added, added_names, all_ids, all_classes, object_count, primitive_class}
-use Rattle.xmi_profile.specs.Values as texts
-use Rattle.xmi_profile.proofs.SeenLaws.{in_cons}
+use Rattle.model_assembly.specs.declared.fault.ModelFault.{ModelFault}
+use Rattle.model_assembly.specs.declared.fault.ModelFault.TheVariants as faults
+use Rattle.model_assembly.specs.Attributes.{is_id_name, is_type_name, is_kept_name, is_passed_name}
+use Rattle.model_assembly.specs.Elements.{Item, concrete_class, object_items}
+use Rattle.model_assembly.specs.Faults.{StandsAt, IsDuplicate}
+use Rattle.model_assembly.specs.Judged.{runs_in, runs, IsUnknownClass, is_unknown_of_object, IsUnknownProperty, IsTextAt, IsWrongValue}
+use Rattle.model_assembly.specs.Profile.{xmi_id, xmi_type}
+use Rattle.model_assembly.specs.Source.{Source, all_items, ids_from, item_class, file_ids, uses, is_added, added_names, all_ids, all_classes, object_count, primitive_class}
+use Rattle.model_assembly.specs.Values as texts
+use Rattle.model_assembly.proofs.assembling.ListLaws.{in_cons}
 use Rattle.mof_metamodel.proofs.Facts.{nothing_in}
 use Rattle.model_files.specs.JsonContent.{Written, objects_of, value_of, value_text, type_in, class_in, reference_attrs, value_elements, slot_elements, object_elements, source_of, may_stand, is_reference, with_blanks, item_text}
 use Rattle.model_files.proofs.JsonTree.{IsPlain, other_name, prop_in, IsKnownSlot, IsKnownObject, type_known, value_items, slot_items, object_attrs, object_item, own_items, objects_items, root_item, value_item, next_object, all_listed}

@@ -21,12 +21,12 @@ use Rattle.mof_metamodel.proofs.SearchLemmas.{position_named}
 use Rattle.object_tables.specs.declared.value.Value.{Value}
 use Rattle.object_tables.specs.declared.value.Value.TheVariants as values
 use Rattle.object_tables.specs.Models.{is_class_type, is_value_of}
-use Rattle.xmi_profile.specs.declared.filed.Filed.{Filed}
-use Rattle.xmi_profile.specs.declared.filed.WrittenValue.{WrittenValue}
-use Rattle.xmi_profile.specs.Elements.{concrete, concrete_class}
-use Rattle.xmi_profile.specs.Filed.{IsFiled}
-use Rattle.xmi_profile.specs.SoundFiled.{IsTyped, IsSoundFiled}
-use Rattle.xmi_profile.specs.Source.{all_ids, all_classes}
+use Rattle.model_assembly.specs.declared.filed.Filed.{Filed}
+use Rattle.model_assembly.specs.declared.filed.WrittenValue.{WrittenValue}
+use Rattle.model_assembly.specs.Elements.{concrete, concrete_class}
+use Rattle.model_assembly.specs.Filed.{IsFiled}
+use Rattle.model_assembly.specs.SoundFiled.{IsTyped, IsSoundFiled}
+use Rattle.model_assembly.specs.Source.{all_ids, all_classes}
 use Rattle.model_files.specs.declared.json_filed.Slot.{Slot}
 use Rattle.model_files.specs.JsonContent.{Written, objects_of, class_in, text_value, value_of, source_of}
 use Rattle.model_files.specs.JsonFiled.{with_value, with_values, with_named, with_found, with_slots, with_object, with_objects}

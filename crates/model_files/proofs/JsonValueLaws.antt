@@ -19,9 +19,9 @@ use Rattle.mof_metamodel.specs.WellMeta.{is_digit}
 use Rattle.mof_metamodel.proofs.MetaLaws.{literal_named}
 use Rattle.object_tables.specs.declared.value.Value.{Value}
 use Rattle.object_tables.specs.declared.value.Value.TheVariants as values
-use Rattle.xmi_profile.specs.References.{with_word, words_behind, words}
-use Rattle.xmi_profile.specs.Values as texts
-use Rattle.xmi_profile.specs.Values.{is_all_blank, without_front_blanks, without_end_blanks, trimmed, number_from, spelled_number, at_most, not_negative, integer_of, boolean_of}
+use Rattle.model_assembly.specs.References.{with_word, words_behind, words}
+use Rattle.model_assembly.specs.Values as texts
+use Rattle.model_assembly.specs.Values.{is_all_blank, without_front_blanks, without_end_blanks, trimmed, number_from, spelled_number, at_most, not_negative, integer_of, boolean_of}
 use Rattle.model_files.specs.JsonContent.{text_value, value_of, item_text, value_text, is_reference, with_blanks}
 use Rattle.model_files.proofs.JsonNumberLaws.{Fits}
 

@@ -16,12 +16,12 @@ use Rattle.object_tables.specs.declared.breach.BreachKind.{BreachKind}
 use Rattle.object_tables.specs.declared.breach.BreachKind.TheVariants as kinds
 use Rattle.object_tables.specs.Models.{ModelData}
 use Rattle.object_tables.specs.Validity.{IsFirst, IsPropertyOf}
-use Rattle.xmi_profile.specs.declared.fault.Externs.{Externs}
-use Rattle.xmi_profile.specs.declared.fault.Externs.TheVariants as externs
-use Rattle.xmi_profile.specs.declared.fault.ModelFault.{ModelFault}
-use Rattle.xmi_profile.specs.declared.fault.ModelFault.TheVariants as faults
-use Rattle.xmi_profile.specs.FirstFault as first
-use Rattle.xmi_profile.specs.Source.{Source}
+use Rattle.model_assembly.specs.declared.fault.Externs.{Externs}
+use Rattle.model_assembly.specs.declared.fault.Externs.TheVariants as externs
+use Rattle.model_assembly.specs.declared.fault.ModelFault.{ModelFault}
+use Rattle.model_assembly.specs.declared.fault.ModelFault.TheVariants as faults
+use Rattle.model_assembly.specs.FirstFault as first
+use Rattle.model_assembly.specs.Source.{Source}
 use Rattle.xmi_profile.specs.Reads as reads
 use Rattle.model_files.specs.declared.fault.FileError.{FileError}
 use Rattle.model_files.specs.declared.fault.FileError.TheVariants as errors

@@ -15,14 +15,14 @@ use Rattle.xmi_text.specs.declared.error.TextFault.{TextFault}
 use Rattle.xmi_text.specs.Faults as markup
 use Rattle.xmi_text.specs.Trees.{Tree}
 use Rattle.xmi_text.proofs.faults.FirstFault.{first_told}
-use Rattle.xmi_profile.specs.declared.fault.Externs.{Externs}
-use Rattle.xmi_profile.specs.declared.fault.Externs.TheVariants as externs
-use Rattle.xmi_profile.specs.declared.fault.ModelFault.{ModelFault}
-use Rattle.xmi_profile.specs.declared.fault.ModelFault.TheVariants as faults
-use Rattle.xmi_profile.specs.FirstFault.{IsFirstAt, IsFirstBy, IsInvalid, IsTooDeep, IsLimit, IsFirstFault}
+use Rattle.model_assembly.specs.declared.fault.Externs.{Externs}
+use Rattle.model_assembly.specs.declared.fault.Externs.TheVariants as externs
+use Rattle.model_assembly.specs.declared.fault.ModelFault.{ModelFault}
+use Rattle.model_assembly.specs.declared.fault.ModelFault.TheVariants as faults
+use Rattle.model_assembly.specs.FirstFault.{IsFirstAt, IsFirstBy, IsInvalid, IsTooDeep, IsLimit, IsFirstFault}
 use Rattle.xmi_profile.specs.Reads.{IsRefused}
 use Rattle.xmi_profile.specs.Reads as reads
-use Rattle.xmi_profile.specs.Source.{Source, object_count}
+use Rattle.model_assembly.specs.Source.{Source, object_count}
 use Rattle.xmi_profile.proofs.PlaceFaults.{one_first_at}
 use Rattle.xmi_profile.proofs.SpotFaults.{one_first_by}
 use Rattle.model_files.specs.declared.fault.FileError.{FileError}

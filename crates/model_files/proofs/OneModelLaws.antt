@@ -10,9 +10,9 @@ use Rattle.object_tables.specs.Sameness.{IsSame, HasSameParts}
 use Rattle.object_tables.proofs.ContainmentLemmas.{live-below}
 use Rattle.object_tables.proofs.EqualLaws.{models_equal}
 use Rattle.object_tables.proofs.ModelLemmas.{live_from_class}
-use Rattle.xmi_profile.specs.Content.{Content}
-use Rattle.xmi_profile.specs.Source.{Source, object_count}
-use Rattle.xmi_profile.proofs.WritingCalls.{contains_tail}
+use Rattle.model_assembly.specs.Content.{Content}
+use Rattle.model_assembly.specs.Source.{Source, object_count}
+use Rattle.model_assembly.proofs.assembling.ListLaws.{contains_tail}
 use Rattle.xmi_profile.proofs.written.OneModel.{one_content}
 use Rattle.mof_metamodel.proofs.Facts.{contains_first}
 

@@ -7,15 +7,15 @@ use Rattle.mof_metamodel.specs.declared.fault.MetaFault.{MetaFault}
 use Rattle.object_tables.specs.declared.limit.TheConstants.{MAX_OBJECTS}
 use Rattle.mof_metamodel.specs.WellMeta.{WellMeta}
 use Rattle.object_tables.specs.Models.{ModelData}
-use Rattle.xmi_profile.specs.declared.fault.Externs.{Externs}
-use Rattle.xmi_profile.specs.declared.fault.Externs.TheVariants as externs
+use Rattle.model_assembly.specs.declared.fault.Externs.{Externs}
+use Rattle.model_assembly.specs.declared.fault.Externs.TheVariants as externs
 use Rattle.xmi_profile.specs.declared.fault.XmiError.{XmiError}
 use Rattle.xmi_profile.specs.declared.fault.XmiError.TheVariants as xmi
-use Rattle.xmi_profile.specs.declared.filed.Filed.{Filed}
-use Rattle.xmi_profile.specs.AssemblyReferences.{IsSourceOf}
-use Rattle.xmi_profile.specs.Filed.{IsFiled}
+use Rattle.model_assembly.specs.declared.filed.Filed.{Filed}
+use Rattle.model_assembly.specs.AssemblyReferences.{IsSourceOf}
+use Rattle.model_assembly.specs.Filed.{IsFiled}
 use Rattle.xmi_profile.specs.Reads.{Reads}
-use Rattle.xmi_profile.specs.SoundFiled.{IsSoundFiled}
+use Rattle.model_assembly.specs.SoundFiled.{IsSoundFiled}
 use Rattle.model_files.specs.declared.fault.FileError.{FileError}
 use Rattle.model_files.specs.declared.fault.FileError.TheVariants as errors
 use Rattle.model_files.specs.declared.fault.JsonFault.TheVariants as json_faults
@@ -28,7 +28,7 @@ use Rattle.model_files.specs.FileForm.{form_of}
 use Rattle.model_files.specs.Files.{SpellsIn, IsErrorIn, EmofSpells, IsFileError, MetaSpells, IsMetaFileError}
 use Rattle.model_files.specs.JsonContent.{source_of}
 use Rattle.model_files.specs.JsonFaults.{HasObjects, IsJsonError}
-use Rattle.xmi_profile.specs.Assembled.{IsWhole, IsAssembled}
+use Rattle.model_assembly.specs.Assembled.{IsWhole, IsAssembled}
 use Rattle.model_files.proofs.JsonLinkLaws.{few_objects, nothing_told, model_spelled, fault_told}
 
 -- ---- JSON

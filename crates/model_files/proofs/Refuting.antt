@@ -9,9 +9,9 @@ use Rattle.object_tables.specs.declared.limit.LimitKind.TheVariants as limits
 use Rattle.object_tables.specs.declared.value.Value.TheVariants as values
 use Rattle.object_tables.specs.Objects.{Slot}
 use Rattle.object_tables.specs.Models.{ModelData}
-use Rattle.xmi_profile.specs.declared.fault.ModelFault.{ModelFault}
-use Rattle.xmi_profile.specs.declared.fault.ModelFault.TheVariants as content
-use Rattle.xmi_profile.specs.declared.form.Form.TheVariants.{Nesting}
+use Rattle.model_assembly.specs.declared.fault.ModelFault.{ModelFault}
+use Rattle.model_assembly.specs.declared.fault.ModelFault.TheVariants as content
+use Rattle.model_assembly.specs.declared.form.Form.TheVariants.{Nesting}
 use Rattle.model_files.specs.Bounds.{lower_of}
 use Rattle.model_files.specs.CanonJson.{data_by}
 use Rattle.model_files.specs.Described.{is_owned}

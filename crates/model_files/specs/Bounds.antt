@@ -6,7 +6,7 @@ use Rattle.mof_metamodel.specs.Metamodels.{same_name}
 use Rattle.mof_metamodel.specs.WellMeta.{is_digit}
 use Rattle.object_tables.specs.declared.value.Value.{Value}
 use Rattle.object_tables.specs.declared.value.Value.TheVariants as values
-use Rattle.xmi_profile.specs.Values.{spelled_number, at_most}
+use Rattle.model_assembly.specs.Values.{spelled_number, at_most}
 use Rattle.model_files.specs.declared.bounds.Bounds.{Bounds}
 use Rattle.model_files.specs.declared.bounds.TheConstants.{MAX_BOUND}
 

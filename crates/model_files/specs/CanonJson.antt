@@ -11,10 +11,10 @@ use Rattle.mof_metamodel.specs.Metamodels.{literal_at}
 use Rattle.object_tables.specs.declared.value.Value.{Value}
 use Rattle.object_tables.specs.declared.value.Value.TheVariants as values
 use Rattle.object_tables.specs.Models.{ModelData, object_at, values_at, partners_at}
-use Rattle.xmi_profile.specs.declared.form.Form.{Form}
-use Rattle.xmi_profile.specs.declared.form.Form.TheVariants.{Attribute, Elements, Identifiers, Parts, Nesting}
-use Rattle.xmi_profile.specs.Forms.{form_of}
-use Rattle.xmi_profile.specs.Profile.{prop_name, id_text, class_text, object_props, live_numbers}
+use Rattle.model_assembly.specs.declared.form.Form.{Form}
+use Rattle.model_assembly.specs.declared.form.Form.TheVariants.{Attribute, Elements, Identifiers, Parts, Nesting}
+use Rattle.model_assembly.specs.Forms.{form_of}
+use Rattle.model_assembly.specs.Profile.{prop_name, id_text, class_text, object_props, live_numbers}
 
 -- a text, as its bytes in UTF-8
 abbrev pub text_data : List ℕ → Data

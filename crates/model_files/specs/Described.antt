@@ -15,7 +15,7 @@ use Rattle.mof_metamodel.specs.WellMeta.{WellMeta}
 use Rattle.object_tables.specs.declared.value.Value.{Value}
 use Rattle.object_tables.specs.declared.value.Value.TheVariants as values
 use Rattle.object_tables.specs.Models.{ModelData}
-use Rattle.xmi_profile.specs.Profile.{is_part}
+use Rattle.model_assembly.specs.Profile.{is_part}
 use Rattle.model_files.specs.declared.bounds.Bounds.{Bounds}
 use Rattle.model_files.specs.declared.fault.FileError.{FileError}
 use Rattle.model_files.specs.declared.fault.FileError.TheVariants as errors

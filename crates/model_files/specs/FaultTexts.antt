@@ -16,9 +16,9 @@ use Rattle.object_tables.specs.Words.{breach_word}
 use Rattle.xmi_text.specs.declared.error.TextKind.{TextKind}
 use Rattle.xmi_text.specs.declared.error.TextKind.TheVariants as text_kinds
 use Rattle.xmi_text.specs.Words.{kind_word}
-use Rattle.xmi_profile.specs.declared.fault.ModelFault.{ModelFault}
-use Rattle.xmi_profile.specs.declared.fault.ModelFault.TheVariants as faults
-use Rattle.xmi_profile.specs.Profile.{prop_name}
+use Rattle.model_assembly.specs.declared.fault.ModelFault.{ModelFault}
+use Rattle.model_assembly.specs.declared.fault.ModelFault.TheVariants as faults
+use Rattle.model_assembly.specs.Profile.{prop_name}
 use Rattle.model_files.specs.declared.fault.FileError.{FileError}
 use Rattle.model_files.specs.declared.fault.FileError.TheVariants as errors
 use Rattle.model_files.specs.declared.fault.JsonFault.{JsonFault}

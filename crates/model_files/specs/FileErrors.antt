@@ -2,8 +2,8 @@
 use Rattle.mof_metamodel.specs.declared.desc.MetaDesc.{MetaDesc}
 use Rattle.xmi_profile.specs.declared.fault.XmiError.{XmiError}
 use Rattle.xmi_profile.specs.declared.fault.XmiError.TheVariants as xmi
-use Rattle.xmi_profile.specs.declared.filed.Filed.{Filed}
-use Rattle.xmi_profile.specs.AssemblyReferences.{IsTold}
+use Rattle.model_assembly.specs.declared.filed.Filed.{Filed}
+use Rattle.model_assembly.specs.AssemblyReferences.{IsTold}
 use Rattle.model_files.specs.declared.fault.FileError.{FileError}
 use Rattle.model_files.specs.declared.fault.FileError.TheVariants as errors
 use Rattle.model_files.specs.declared.fault.JsonFault.TheVariants as faults

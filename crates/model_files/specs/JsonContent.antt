@@ -19,13 +19,13 @@ use Rattle.object_tables.specs.declared.value.Value.{Value}
 use Rattle.object_tables.specs.declared.value.Value.TheVariants as values
 use Rattle.object_tables.specs.Models.{ModelData, is_class_type}
 use Rattle.xmi_text.specs.Trees.{Nodes, Ends, Run, Element}
-use Rattle.xmi_profile.specs.declared.fault.Externs.TheVariants as externs
-use Rattle.xmi_profile.specs.declared.fault.ModelFault.{ModelFault}
-use Rattle.xmi_profile.specs.declared.fault.ModelFault.TheVariants as faults
-use Rattle.xmi_profile.specs.Elements.{concrete_class}
-use Rattle.xmi_profile.specs.FirstFault.{IsFirstFault, IsModel}
-use Rattle.xmi_profile.specs.Profile.{xmi_document, xmi_id, xmi_type}
-use Rattle.xmi_profile.specs.Source.{Source, proper}
+use Rattle.model_assembly.specs.declared.fault.Externs.TheVariants as externs
+use Rattle.model_assembly.specs.declared.fault.ModelFault.{ModelFault}
+use Rattle.model_assembly.specs.declared.fault.ModelFault.TheVariants as faults
+use Rattle.model_assembly.specs.Elements.{concrete_class}
+use Rattle.model_assembly.specs.FirstFault.{IsFirstFault, IsModel}
+use Rattle.model_assembly.specs.Profile.{xmi_document, xmi_id, xmi_type}
+use Rattle.model_assembly.specs.Source.{Source, proper}
 use Rattle.model_files.specs.Shape.{first_amiss}
 
 -- Objects as they are written

@@ -13,10 +13,10 @@ use Rattle.mof_metamodel.specs.Metamodels.{prop_number, type_of, literal_number}
 use Rattle.object_tables.specs.declared.value.Value.{Value}
 use Rattle.object_tables.specs.declared.value.Value.TheVariants as values
 use Rattle.object_tables.specs.Models.{is_class_type}
-use Rattle.xmi_profile.specs.declared.filed.Filed.{Filed}
-use Rattle.xmi_profile.specs.declared.filed.WrittenValue.{WrittenValue}
-use Rattle.xmi_profile.specs.declared.filed.WrittenReference.{WrittenReference}
-use Rattle.xmi_profile.specs.Elements.{concrete_class}
+use Rattle.model_assembly.specs.declared.filed.Filed.{Filed}
+use Rattle.model_assembly.specs.declared.filed.WrittenValue.{WrittenValue}
+use Rattle.model_assembly.specs.declared.filed.WrittenReference.{WrittenReference}
+use Rattle.model_assembly.specs.Elements.{concrete_class}
 use Rattle.model_files.specs.declared.json_filed.Slot.{Slot}
 use Rattle.model_files.specs.JsonContent.{Written, text_value, value_of, item_text}
 

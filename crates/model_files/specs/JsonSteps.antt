@@ -4,9 +4,9 @@ use Rattle.std.specs.Option.{option_or}
 use Rattle.serde_json.specs.Data.{Data, string}
 use Rattle.mof_metamodel.specs.declared.desc.MetaDesc.{MetaDesc}
 use Rattle.mof_metamodel.specs.NameTables.{NamesWith}
-use Rattle.xmi_profile.specs.declared.fault.ModelFault.{ModelFault}
-use Rattle.xmi_profile.specs.Elements.{concrete_class}
-use Rattle.xmi_profile.specs.Source.{proper}
+use Rattle.model_assembly.specs.declared.fault.ModelFault.{ModelFault}
+use Rattle.model_assembly.specs.Elements.{concrete_class}
+use Rattle.model_assembly.specs.Source.{proper}
 use Rattle.model_files.specs.declared.json_faults.Speaker.{Speaker}
 use Rattle.model_files.specs.JsonContent.{written_of, wrong_id, wrong_slots, wrong_object}
 

@@ -7,10 +7,10 @@ use Rattle.mof_metamodel.specs.declared.desc.MetaDesc.{MetaDesc}
 use Rattle.object_tables.specs.declared.limit.TheConstants.{MAX_OBJECTS}
 use Rattle.mof_metamodel.specs.WellMeta.{WellMeta}
 use Rattle.object_tables.specs.Models.{ModelData}
-use Rattle.xmi_profile.specs.declared.fault.ModelFault.{ModelFault}
-use Rattle.xmi_profile.specs.Faults.{StandsAt}
-use Rattle.xmi_profile.specs.FirstFault.{IsFirstFault, IsModel}
-use Rattle.xmi_profile.specs.Source.{object_count}
+use Rattle.model_assembly.specs.declared.fault.ModelFault.{ModelFault}
+use Rattle.model_assembly.specs.Faults.{StandsAt}
+use Rattle.model_assembly.specs.FirstFault.{IsFirstFault, IsModel}
+use Rattle.model_assembly.specs.Source.{object_count}
 use Rattle.model_files.specs.JsonContent.{source_of, SpellsModel, IsFirstContentFault}
 use Rattle.model_files.specs.JsonFaults.{HasObjects}
 

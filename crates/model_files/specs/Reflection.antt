@@ -5,7 +5,7 @@ use Rattle.std.specs.Option.{option_and_then}
 use Rattle.mof_metamodel.specs.Metamodels.{prop_number, type_of, same_name}
 use Rattle.object_tables.specs.declared.value.Value.{Value}
 use Rattle.object_tables.specs.Models.{ModelData, class_at, values_at, partners_at, is_class_type}
-use Rattle.xmi_profile.specs.Profile.{class_text}
+use Rattle.model_assembly.specs.Profile.{class_text}
 
 -- the object is of the class of this name, and not only of one that conforms to it
 abbrev pub is_of_class : ModelData → List ℕ → ℕ → Bool

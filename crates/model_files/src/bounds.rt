@@ -1,7 +1,7 @@
 //! The bounds of a property, as a model of EMOF has them.
 ghost use Rattle.std.specs.Prelude.{◌≡◌, ◌==◌, not, length, chars, Some};
 ghost use Rattle.std.specs.List.{fold};
-ghost use Rattle.xmi_profile.specs.Values.{at_most, spelled_number};
+ghost use Rattle.model_assembly.specs.Values.{at_most, spelled_number};
 ghost use Rattle.model_files.specs.Bounds.{bound_of, lower_of, digit_of, further, spelled_on, upper_in, upper_of, bounds_from};
 
 use crate::names::is_named;

@@ -1,7 +1,8 @@
 ghost use Rattle.std.specs.Prelude.{◌≡◌};
 
+use model_assembly::ModelFault;
 use mof_metamodel::{MetaFault, NoMemory, Text};
-use xmi_profile::{ModelFault, XmiError};
+use xmi_profile::XmiError;
 use xmi_text::TextFault;
 
 /// Why a file of JSON is no model.

@@ -7,16 +7,16 @@ ghost use Rattle.object_tables.specs.Containment.{IsDepth};
 ghost use Rattle.object_tables.specs.Models.{ModelData, IsLive, live_count};
 ghost use Rattle.object_tables.specs.Sameness.{IsSame};
 ghost use Rattle.object_tables.specs.Validity.{Valid};
-ghost use Rattle.xmi_profile.specs.declared.fault.Externs.{Externs};
-ghost use Rattle.xmi_profile.specs.declared.fault.Externs.TheVariants as externs;
-ghost use Rattle.xmi_profile.specs.Held.{MayBeWritten};
+ghost use Rattle.model_assembly.specs.declared.fault.Externs.{Externs};
+ghost use Rattle.model_assembly.specs.declared.fault.Externs.TheVariants as externs;
+ghost use Rattle.model_assembly.specs.Held.{MayBeWritten};
 ghost use Rattle.model_files.specs.declared.fault.FileError.{FileError};
 ghost use Rattle.model_files.specs.CanonJson.{canon_json};
 ghost use Rattle.model_files.specs.FaultTexts.{is_limit};
 ghost use Rattle.model_files.specs.Files.{FileSpells, IsFileError, IsTold, MetaSpells, IsMetaFileError};
 
+use model_assembly::models_are_held;
 use object_tables::Model;
-use xmi_profile::models_are_held;
 
 /// A file is one model, with its numbers, and describes one metamodel.
 pub fn files_are_one_model()

@@ -2,13 +2,13 @@
 ghost use Rattle.std.specs.Prelude.{◌≡◌, IfOk, IfErr, IsOkUnless};
 ghost use Rattle.mof_metamodel.specs.declared.desc.MetaDesc.{MetaDesc};
 ghost use Rattle.object_tables.specs.Models.{ModelData};
-ghost use Rattle.xmi_profile.specs.declared.fault.Externs.TheVariants as externs;
+ghost use Rattle.model_assembly.specs.declared.fault.Externs.TheVariants as externs;
 ghost use Rattle.model_files.specs.declared.file_form.Form.TheVariants as forms;
 ghost use Rattle.model_files.specs.Emof.{emof};
 ghost use Rattle.model_files.specs.FaultTexts.{IsKnownError};
 ghost use Rattle.model_files.specs.FileForm.{form_of};
 ghost use Rattle.model_files.specs.FileErrors.{IsToldError};
-ghost use Rattle.xmi_profile.specs.Assembled.{IsWhole, IsAssembled};
+ghost use Rattle.model_assembly.specs.Assembled.{IsWhole, IsAssembled};
 ghost use Rattle.model_files.specs.Files.{SpellsIn, IsErrorIn, FileSpells, IsFileError, MetaSpells, IsMetaFileError};
 
 use crate::emof::emof_metamodel;
@@ -17,10 +17,11 @@ use crate::file_form::{Form, form_of};
 use crate::json_filed::filed_of;
 use crate::json_reading::read_objects;
 use crate::metamodels::metamodel_of;
+use model_assembly::{AssemblyError, Externs, Filed, assemble};
 use mof_metamodel::MetaModel;
 use object_tables::Model;
 use std::alloc::Global;
-use xmi_profile::{AssemblyError, Externs, Filed, assemble, read_model};
+use xmi_profile::read_model;
 
 /// A model that was read, and the form of its file.
 #[derive(Drop)]

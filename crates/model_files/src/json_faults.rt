@@ -6,18 +6,18 @@ ghost use Rattle.serde_json.specs.Find.{get};
 ghost use Rattle.serde_json.specs.View.{view, items_view, members_view};
 ghost use Rattle.mof_metamodel.specs.Metamodels.{same_name, class_count, enum_count, literal_number, prop_number, IsTypeOf};
 ghost use Rattle.mof_metamodel.specs.Characters.{is_storable_text as storable};
-ghost use Rattle.xmi_profile.specs.Elements.{concrete_class};
+ghost use Rattle.model_assembly.specs.Elements.{concrete_class};
 ghost use Rattle.model_files.specs.JsonContent as content;
 ghost use Rattle.model_files.specs.JsonSteps.{printed, met_ids, is_text_with, wrong_in_class, wrong_data};
 
 use crate::names::empty_text;
+use model_assembly::ModelFault;
 use mof_metamodel::{
     ClassId, EnumId, MetaModel, NameTable, NoMemory, PropType, Text, is_identifier, is_storable,
     or_drop,
 };
 use serde_json::{Map, Value};
 use std::alloc::Global;
-use xmi_profile::ModelFault;
 
 /// An object that writes slots: its identifier as it is written, and its number.
 #[derive(Clone, Copy)]

@@ -4,17 +4,18 @@ ghost use Rattle.serde_json.specs.Find.{get};
 ghost use Rattle.serde_json.specs.View.{view, items_view, members_view};
 ghost use Rattle.object_tables.specs.declared.limit.TheConstants.{MAX_OBJECTS as max_objects};
 ghost use Rattle.mof_metamodel.specs.Metamodels.{class_count, enum_count, prop_count, IsTypeOf};
-ghost use Rattle.xmi_profile.specs.Elements.{concrete_class};
+ghost use Rattle.model_assembly.specs.Elements.{concrete_class};
 ghost use Rattle.model_files.specs.JsonContent as content;
 ghost use Rattle.model_files.specs.JsonFiled as filing;
-ghost use Rattle.xmi_profile.specs.Filed.{IsFiled};
-ghost use Rattle.xmi_profile.specs.SoundFiled.{IsSoundFiled};
+ghost use Rattle.model_assembly.specs.Filed.{IsFiled};
+ghost use Rattle.model_assembly.specs.SoundFiled.{IsSoundFiled};
 ghost use Rattle.model_files.specs.JsonFaults.{HasObjects};
 ghost use Rattle.model_files.specs.JsonSteps.{met_ids};
 
 use crate::json_faults::{add_id, concrete_class, member_text};
 use crate::json_reading::{in_list, objects_of};
 use crate::names::empty_text;
+use model_assembly::{Filed, Mention, WrittenReference, WrittenValue};
 use mof_metamodel::{
     ClassId, EnumId, MetaModel, NameTable, NoMemory, PropId, PropType, Seq, Text, is_storable,
     or_drop,
@@ -22,7 +23,6 @@ use mof_metamodel::{
 use object_tables::Value as Datum;
 use serde_json::{Map, Value};
 use std::alloc::Global;
-use xmi_profile::{Filed, Mention, WrittenReference, WrittenValue};
 
 /// What an object holds at one of its properties.
 #[derive(Clone, Copy)]

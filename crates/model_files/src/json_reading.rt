@@ -9,11 +9,11 @@ ghost use Rattle.model_files.specs.JsonFaults.{HasShape, HasObjects, IsUnshaped,
 use crate::fault::{FileError, JsonFault};
 use crate::json_faults::first_wrong;
 use crate::shape::first_amiss;
+use model_assembly::ModelFault;
 use mof_metamodel::{MetaModel, NoMemory, or_drop};
 use object_tables::{LimitKind, MAX_OBJECTS};
 use serde_json::Value;
 use std::alloc::Global;
-use xmi_profile::ModelFault;
 
 /// The bytes behind a byte order mark.
 pub(crate) fn without_mark(bytes: &[u8]) -> &[u8]

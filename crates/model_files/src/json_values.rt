@@ -5,16 +5,16 @@ ghost use Rattle.serde_json.specs.View.{view, members_view};
 ghost use Rattle.mof_metamodel.specs.Metamodels.{prop_count, enum_at, literal_at};
 ghost use Rattle.object_tables.specs.Models.{IsLive, IsAttributeOf, IsReferenceOf, values_at, partners_at};
 ghost use Rattle.object_tables.specs.Validity.{IsPropertyOf};
-ghost use Rattle.xmi_profile.specs.Forms.{form_of, is_composite, reference_form, attribute_form};
-ghost use Rattle.xmi_profile.specs.Profile.{prop_name, id_text};
+ghost use Rattle.model_assembly.specs.Forms.{form_of, is_composite, reference_form, attribute_form};
+ghost use Rattle.model_assembly.specs.Profile.{prop_name, id_text};
 ghost use Rattle.model_files.specs.CanonJson.{text_data, value_data, partner_data, slot_data, with_slot, with_slots, slots_data, object_data, live_data, objects_data, model_data};
 ghost use Rattle.model_files.specs.Literals.{names_literal};
 
+use model_assembly::Form;
 use mof_metamodel::{EnumId, MetaModel, NoMemory, PropId, PropType, Seq};
 use object_tables::{Model, ObjId, Value as Datum};
 use serde_json::{Map, Value, json};
 use std::alloc::Global;
-use xmi_profile::Form;
 
 /// A text.
 fn text_value(alloc: Global, text: &str) -> Result<Value, NoMemory>

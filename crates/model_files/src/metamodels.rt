@@ -4,7 +4,7 @@ ghost use Rattle.mof_metamodel.specs.declared.desc.MetaDesc.{MetaDesc};
 ghost use Rattle.mof_metamodel.specs.WellMeta.{WellMeta};
 ghost use Rattle.object_tables.specs.Ids.{object_ids};
 ghost use Rattle.object_tables.specs.Models.{IsLive};
-ghost use Rattle.xmi_profile.specs.Profile.{is_part as is_part_of};
+ghost use Rattle.model_assembly.specs.Profile.{is_part as is_part_of};
 ghost use Rattle.model_files.specs.Described.{is_top_package, top_packages, Describes, IsWhy, IsFaultOf};
 
 use crate::description::description_of;

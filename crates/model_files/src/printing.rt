@@ -9,10 +9,10 @@ ghost use Rattle.model_files.specs.FaultTexts as texts;
 use crate::emof::emof_metamodel;
 use crate::fault::{FileError, JsonFault};
 use fault_lines::line;
+use model_assembly::ModelFault;
 use mof_metamodel::{MetaFault, MetaKind, MetaModel, NoMemory, PropId, Seq, Text};
 use object_tables::{Breach, LimitKind};
 use std::alloc::Global;
-use xmi_profile::ModelFault;
 use xmi_text::{TextFault, TextKind};
 
 fn is_text_limit(kind: TextKind) -> bool

@@ -5,7 +5,7 @@ ghost use Rattle.mof_metamodel.specs.Metamodels.{prop_count, type_of};
 ghost use Rattle.object_tables.specs.Ids.{object_ids};
 ghost use Rattle.object_tables.specs.Models.{IsLive, is_class_type};
 ghost use Rattle.object_tables.specs.Validity.{IsPropertyOf};
-ghost use Rattle.xmi_profile.specs.Profile.{class_text};
+ghost use Rattle.model_assembly.specs.Profile.{class_text};
 ghost use Rattle.model_files.specs.Ascii.{is_ascii};
 ghost use Rattle.model_files.specs.Reflection.{is_of_class as of_class, prop_in, values_in, partners_in, values_named, partners_named, first_of, partner_named};
 

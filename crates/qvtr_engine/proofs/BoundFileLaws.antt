@@ -8,8 +8,7 @@ use Rattle.std.proofs.lemmas.Option.{same_Some, none-some}
 use Rattle.mof_metamodel.specs.Characters.{same_name}
 use Rattle.mof_metamodel.proofs.Facts.{nothing_in, contains_first}
 use Rattle.object_tables.specs.Models.{ModelData}
-use Rattle.xmi_profile.proofs.SeenLaws.{in_cons}
-use Rattle.xmi_profile.proofs.WritingCalls.{contains_tail}
+use Rattle.model_assembly.proofs.assembling.ListLaws.{in_cons, contains_tail}
 use Rattle.qvtr_engine.specs.CheckWords.{Bound}
 use Rattle.qvtr_engine.specs.CheckedModels.{no_model}
 use Rattle.qvtr_engine.specs.CheckedNames.{name_of}

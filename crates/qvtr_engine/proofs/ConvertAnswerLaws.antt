@@ -4,7 +4,7 @@ use Rattle.vault_io.specs.Files.{Files}
 use Rattle.mof_metamodel.specs.declared.desc.MetaDesc.{MetaDesc}
 use Rattle.qvtr_engine.specs.declared.limits.TheConstants.{MAX_FILE}
 use Rattle.object_tables.specs.Models.{ModelData}
-use Rattle.xmi_profile.specs.declared.fault.Externs.TheVariants as externs
+use Rattle.model_assembly.specs.declared.fault.Externs.TheVariants as externs
 use Rattle.model_files.specs.declared.fault.FileError.{FileError}
 use Rattle.model_files.specs.FaultTexts.{is_limit, error_text}
 use Rattle.model_files.specs.Emof.{emof}

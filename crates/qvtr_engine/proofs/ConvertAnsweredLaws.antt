@@ -7,7 +7,7 @@ use Rattle.mof_metamodel.specs.declared.desc.MetaDesc.{MetaDesc}
 use Rattle.qvtr_engine.specs.declared.limits.TheConstants.{MAX_FILE}
 use Rattle.mof_metamodel.specs.WellMeta.{WellMeta}
 use Rattle.object_tables.specs.Models.{ModelData}
-use Rattle.xmi_profile.specs.declared.fault.Externs.TheVariants as externs
+use Rattle.model_assembly.specs.declared.fault.Externs.TheVariants as externs
 use Rattle.model_files.specs.FileForm.{form_of}
 use Rattle.model_files.proofs.AnsweredLaws as models
 use Rattle.model_files.proofs.DescribedLaws as metamodels

@@ -5,7 +5,7 @@ use Rattle.mof_metamodel.specs.declared.desc.MetaDesc.{MetaDesc}
 use Rattle.qvtr_engine.specs.declared.limits.TheConstants.{MAX_FILE}
 use Rattle.vault_io.specs.Counts.{Rose}
 use Rattle.vault_io.specs.Files.{Files}
-use Rattle.xmi_profile.specs.declared.fault.Externs.TheVariants as externs
+use Rattle.model_assembly.specs.declared.fault.Externs.TheVariants as externs
 use Rattle.model_files.specs.declared.file_form.Form.{Form}
 use Rattle.model_files.specs.Emof.{emof}
 use Rattle.model_files.specs.Files.{IsFileError, IsMetaFileError}

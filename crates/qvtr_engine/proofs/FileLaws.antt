@@ -6,7 +6,7 @@ use Rattle.mof_metamodel.specs.WellMeta.{WellMeta}
 use Rattle.object_tables.specs.Containment.{IsDepth}
 use Rattle.object_tables.specs.Models.{ModelData, IsLive}
 use Rattle.object_tables.specs.Validity.{Valid}
-use Rattle.xmi_profile.specs.declared.fault.Externs.{Externs}
+use Rattle.model_assembly.specs.declared.fault.Externs.{Externs}
 use Rattle.model_files.specs.declared.fault.FileError.{FileError}
 use Rattle.model_files.specs.declared.file_form.Form.{Form}
 use Rattle.model_files.specs.declared.file_form.Form.TheVariants.{Xmi, Json}

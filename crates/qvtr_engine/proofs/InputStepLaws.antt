@@ -8,7 +8,7 @@ use Rattle.vault_io.specs.Files.{Files}
 use Rattle.mof_metamodel.specs.declared.desc.MetaDesc.{MetaDesc}
 use Rattle.mof_metamodel.specs.Characters.{same_name}
 use Rattle.mof_metamodel.specs.WellMeta.{WellMeta}
-use Rattle.xmi_profile.specs.declared.fault.Externs.TheVariants as externs
+use Rattle.model_assembly.specs.declared.fault.Externs.TheVariants as externs
 use Rattle.model_files.specs.Emof.{emof}
 use Rattle.model_files.specs.Files.{IsFileError, IsMetaFileError}
 use Rattle.qv_syntax.specs.declared.script.Script.{Script}

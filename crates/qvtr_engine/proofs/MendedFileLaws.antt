@@ -14,8 +14,8 @@ use Rattle.object_tables.specs.Containment.{IsDepth}
 use Rattle.object_tables.specs.Models.{ModelData, IsLive}
 use Rattle.object_tables.specs.Sameness.{IsSame}
 use Rattle.object_tables.specs.Validity.{Valid}
-use Rattle.xmi_profile.specs.declared.fault.Externs.TheVariants as externs
-use Rattle.xmi_profile.specs.Held.{IsHeldModel, MayBeWritten}
+use Rattle.model_assembly.specs.declared.fault.Externs.TheVariants as externs
+use Rattle.model_assembly.specs.Held.{IsHeldModel, MayBeWritten}
 use Rattle.model_files.specs.declared.file_form.Form.{Form}
 use Rattle.model_files.specs.Files.{FileSpells}
 use Rattle.qv_syntax.specs.declared.program.Program.{Program}

@@ -2,7 +2,7 @@
 use Rattle.std.proofs.Common.{◌≡◌, ℕ, true, List, refl, sym, ◌∙◌, subst, true≢false, inl}
 use Rattle.vault_io.specs.Files.{Files}
 use Rattle.object_tables.specs.Models.{ModelData}
-use Rattle.xmi_profile.specs.Held.{IsHeldModel}
+use Rattle.model_assembly.specs.Held.{IsHeldModel}
 use Rattle.qv_syntax.specs.declared.program.Program.{Program}
 use Rattle.qvtr_semantics.specs.Satisfaction.{Satisfied}
 use Rattle.repair_semantics.specs.declared.report.Report.{Report}

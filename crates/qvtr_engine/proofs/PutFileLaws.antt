@@ -17,7 +17,7 @@ use Rattle.script_scopes.specs.ScriptNames.{model_names, meta_names, written_nam
 use Rattle.script_scopes.specs.Environments.{metamodel_names}
 use Rattle.script_scopes.proofs.MemberLemmas.{once_has}
 use Rattle.script_scopes.proofs.NameLemmas.{name_had}
-use Rattle.xmi_profile.proofs.WritingCalls.{contains_tail}
+use Rattle.model_assembly.proofs.assembling.ListLaws.{contains_tail}
 use Rattle.qvtr_engine.specs.CheckWords.{Bound, CheckWords}
 use Rattle.qvtr_engine.specs.CheckedMetamodels.{AreMetamodels, IsMeta, is_metamodel, metamodel_files}
 use Rattle.qvtr_engine.specs.CheckedModels.{IsModel, meta_for, model_files, no_model, numbered_models}

@@ -7,7 +7,7 @@ use Rattle.mof_metamodel.specs.declared.desc.MetaDesc.{MetaDesc}
 use Rattle.vault_io.specs.Counts.{Rose}
 use Rattle.vault_io.specs.Files.{Files, MayFail, OfFile}
 use Rattle.object_tables.specs.Models.{ModelData}
-use Rattle.xmi_profile.specs.declared.fault.Externs.TheVariants as externs
+use Rattle.model_assembly.specs.declared.fault.Externs.TheVariants as externs
 use Rattle.model_files.specs.declared.fault.FileError.{FileError}
 use Rattle.model_files.specs.declared.fault.FileError.TheVariants as errors
 use Rattle.model_files.specs.declared.file_form.Form.{Form}

@@ -14,13 +14,12 @@ use Rattle.object_tables.proofs.ListLemmas.{Contains-from_map}
 use Rattle.object_tables.proofs.ModelLemmas.{live_from_class}
 use Rattle.xmi_text.specs.Calls.{Call, Open, Attr, Line, wrote}
 use Rattle.xmi_text.specs.Writing.{nothing}
-use Rattle.xmi_profile.specs.declared.form.Form.{Form}
-use Rattle.xmi_profile.specs.declared.form.Form.TheVariants as forms
+use Rattle.model_assembly.specs.declared.form.Form.{Form}
+use Rattle.model_assembly.specs.declared.form.Form.TheVariants as forms
 use Rattle.xmi_profile.specs.Canon.{spaced, value_attr, partners_attr, attr_by, attr_calls, tag_calls, value_element, children_by, child_calls, ended, depth_over, object_calls, top_calls, top_numbers, head, foot, canon_calls, canon_bytes}
-use Rattle.xmi_profile.specs.Forms.{form_of}
-use Rattle.xmi_profile.specs.Profile.{xmi_id, xmi_type, prop_name, id_or_none, id_text, name_or_none, class_text, props_or_none, object_props, live_numbers, is_part}
-use Rattle.xmi_profile.proofs.SeenLaws.{in_cons}
-use Rattle.xmi_profile.proofs.WritingCalls.{contains_tail}
+use Rattle.model_assembly.specs.Forms.{form_of}
+use Rattle.model_assembly.specs.Profile.{xmi_id, xmi_type, prop_name, id_or_none, id_text, name_or_none, class_text, props_or_none, object_props, live_numbers, is_part}
+use Rattle.model_assembly.proofs.assembling.ListLaws.{in_cons, contains_tail}
 use Rattle.xmi_profile.proofs.written.Known.{partner_live}
 use Rattle.xmi_profile.proofs.written.Ordering.{top_of, top_listed}
 use Rattle.xmi_profile.proofs.written.Reordered.{Rising, rising_filter, range_rises}

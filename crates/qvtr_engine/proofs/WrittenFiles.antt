@@ -15,11 +15,11 @@ use Rattle.object_tables.proofs.ModelLemmas.{live_from_class, live_from_id}
 use Rattle.xmi_text.specs.Calls as calls
 use Rattle.xmi_text.specs.Calls.{Call, after_call, wrote}
 use Rattle.xmi_text.specs.Writing.{Written, nothing, is_tag, tag_end, escaped, declaration, declared}
-use Rattle.xmi_profile.specs.declared.fault.Externs.TheVariants as externs
+use Rattle.model_assembly.specs.declared.fault.Externs.TheVariants as externs
 use Rattle.xmi_profile.specs.Canon.{canon, top_calls, top_numbers, foot}
-use Rattle.xmi_profile.specs.Held.{IsHeld, HasHeldNames, IsHeldModel, MayBeWritten}
-use Rattle.xmi_profile.specs.Profile.{xmi_document, xmi_namespace, xmi_version}
-use Rattle.xmi_profile.proofs.HeldLaws.{values_held}
+use Rattle.model_assembly.specs.Held.{IsHeld, HasHeldNames, IsHeldModel, MayBeWritten}
+use Rattle.model_assembly.specs.Profile.{xmi_document, xmi_namespace, xmi_version}
+use Rattle.model_assembly.proofs.HeldLaws.{values_held}
 use Rattle.xmi_profile.proofs.written.Reading.{written_read}
 use Rattle.model_files.specs.declared.file_form.Form.{Form}
 use Rattle.model_files.specs.declared.file_form.Form.TheVariants.{Xmi, Json}

@@ -1,7 +1,7 @@
 //! The conversion of a model to a file of another form.
 ghost use Rattle.std.specs.Prelude.{◌≡◌, ◌≤◌, ◌∷◌, [], IfOk, IfErr, IfSome};
 ghost use Rattle.vault_io.specs.Counts.{Rose};
-ghost use Rattle.xmi_profile.specs.declared.fault.Externs.TheVariants as externs;
+ghost use Rattle.model_assembly.specs.declared.fault.Externs.TheVariants as externs;
 ghost use Rattle.model_files.specs.Files.{IsFileError};
 ghost use Rattle.qvtr_engine.specs.ConvertAnswer.{ConvertAnswer};
 ghost use Rattle.qvtr_engine.specs.ConvertView.{convert_view};

@@ -1,7 +1,7 @@
 //! Files that are read: metamodels, and models with the form that their file has.
 ghost use Rattle.std.specs.Prelude.{◌≡◌, ◌≤◌, ◌∷◌, [], IfOk, IfErr, IfSome};
 ghost use Rattle.vault_io.specs.Counts.{Rose};
-ghost use Rattle.xmi_profile.specs.declared.fault.Externs.TheVariants as externs;
+ghost use Rattle.model_assembly.specs.declared.fault.Externs.TheVariants as externs;
 ghost use Rattle.model_files.specs.Emof.{emof};
 ghost use Rattle.model_files.specs.FaultTexts.{IsKnownError};
 ghost use Rattle.model_files.specs.FileForm.{form_of};

@@ -18,7 +18,7 @@ use Rattle.xmi_text.specs.Automaton as automaton
 use Rattle.xmi_text.specs.States.{start, complete, complete_by, cleared}
 use Rattle.xmi_text.specs.Reading.{Fed, marks_of, marks_from, state_of, end_fault_of, answer, answer_by, after_answer, Answers, or_fault, last_by}
 use Rattle.xmi_text.specs.Trees.{Event, told, with_event}
-use Rattle.xmi_profile.specs.declared.fault.Externs.{Externs}
+use Rattle.model_assembly.specs.declared.fault.Externs.{Externs}
 use Rattle.xmi_profile.specs.Bytes.{next_by, next_of, text_fault, IsSaid, mark_of, behind_next}
 use Rattle.xmi_profile.specs.Listing.{Listing, nothing, behind, listed}
 

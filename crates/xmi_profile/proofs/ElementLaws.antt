@@ -9,16 +9,18 @@ use Rattle.mof_metamodel.specs.Metamodels.{prop_number, type_of}
 use Rattle.object_tables.specs.declared.value.Value.{Value}
 use Rattle.object_tables.specs.Models.{is_class_type}
 use Rattle.xmi_profile.specs.declared.element.Element.{Element}
-use Rattle.xmi_profile.specs.declared.fault.ModelFault.{ModelFault}
-use Rattle.xmi_profile.specs.declared.fault.ModelFault.TheVariants as faults
-use Rattle.xmi_profile.specs.Attributes.{Attrs}
-use Rattle.xmi_profile.specs.Elements as elements
-use Rattle.xmi_profile.specs.Elements.{Item, Role, ObjectRole, attr_place}
-use Rattle.xmi_profile.specs.FirstFault.{rank}
-use Rattle.xmi_profile.specs.Judged.{IsUnknownAttr, IsWrongAttr, id_in}
+use Rattle.model_assembly.specs.declared.fault.ModelFault.{ModelFault}
+use Rattle.model_assembly.specs.declared.fault.ModelFault.TheVariants as faults
+use Rattle.model_assembly.specs.Attributes.{Attrs}
+use Rattle.model_assembly.specs.declared.role.Role.TheVariants as elements
+use Rattle.model_assembly.specs.declared.role.Role.{Role}
+use Rattle.model_assembly.specs.declared.role.ObjectRole.{ObjectRole}
+use Rattle.model_assembly.specs.Elements.{Item, attr_place}
+use Rattle.model_assembly.specs.FirstFault.{rank}
+use Rattle.model_assembly.specs.Judged.{IsUnknownAttr, IsWrongAttr, id_in}
 use Rattle.xmi_profile.specs.Judging.{Found, or_later, id_by, class_by, is_unknown, is_wrong_attr, is_wrong_value, is_no_value, attr_fault, attrs_fault}
-use Rattle.xmi_profile.specs.Source.{Source, file_ids}
-use Rattle.xmi_profile.specs.Values.{value_of}
+use Rattle.model_assembly.specs.Source.{Source, file_ids}
+use Rattle.model_assembly.specs.Values.{value_of}
 use Rattle.xmi_profile.specs.Firsts.{Before, Stands, FirstIn}
 use Rattle.xmi_profile.proofs.FirstLaws.{first_as}
 use Rattle.xmi_profile.proofs.SeenLaws.{kept}

@@ -2,7 +2,7 @@
 use Rattle.std.specs.Prelude.{◌≡◌, ℕ, List, [], ◌∷◌, ◌++◌, codes}
 use Rattle.std.proofs.Common.{refl}
 use Rattle.xmi_profile.specs.Canon.{canon}
-use Rattle.xmi_profile.proofs.Small.{cls, two_classes, box_in_box}
+use Rattle.model_assembly.proofs.Small.{cls, two_classes, box_in_box}
 
 abbrev line : List ℕ → List ℕ
 line text = text ++ 10 ∷ []

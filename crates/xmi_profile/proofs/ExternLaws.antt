@@ -7,12 +7,13 @@ use Rattle.mof_metamodel.specs.Characters.{same_name}
 use Rattle.mof_metamodel.specs.NameTables.{value_of}
 use Rattle.mof_metamodel.proofs.NameLemmas.{lookup-push}
 use Rattle.xmi_profile.specs.declared.element.Element.{Element}
-use Rattle.xmi_profile.specs.Elements.{Item, Role}
+use Rattle.model_assembly.specs.declared.role.Role.{Role}
+use Rattle.model_assembly.specs.Elements.{Item}
 use Rattle.xmi_profile.specs.Firsts.{FirstIn, Duplicates}
 use Rattle.xmi_profile.specs.Judging.{Found}
 use Rattle.xmi_profile.specs.Listing.{element_of}
 use Rattle.xmi_profile.specs.Numbering.{Numbers, NumbersOf, no_numbers, numbered, with_new, is_used, is_extern_new, with_extern, all_numbered}
-use Rattle.xmi_profile.specs.Source.{Source, all_items, file_ids, all_ids, uses, is_added, added_names, primitive_class}
+use Rattle.model_assembly.specs.Source.{Source, all_items, file_ids, all_ids, uses, is_added, added_names, primitive_class}
 use Rattle.xmi_profile.proofs.NumberingLaws.{Knows, knows_new, FileNumbers, numbers_of}
 use Rattle.xmi_profile.proofs.Positions.{first_place, position_is}
 use Rattle.xmi_profile.proofs.SeenLaws.{element_kept}

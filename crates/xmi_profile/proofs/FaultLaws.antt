@@ -3,21 +3,23 @@ use Rattle.std.proofs.Common.{◌⊎◌, ℕ, List, [], ◌∷◌, map, sym, sub
 use Rattle.std.specs.Prelude.{All, Contains, Option}
 use Rattle.std.proofs.lemmas.List.Elements.{All-head, All-tail}
 use Rattle.xmi_profile.specs.declared.element.Element.{Element}
-use Rattle.xmi_profile.specs.declared.fault.ModelFault.{ModelFault}
-use Rattle.xmi_profile.specs.declared.fault.ModelFault.TheVariants as faults
-use Rattle.xmi_profile.specs.Elements as elements
-use Rattle.xmi_profile.specs.Elements.{Item, Role}
-use Rattle.xmi_profile.specs.Faults.{StandsAt}
-use Rattle.xmi_profile.specs.Judged.{IsAlien, IsUnknownClass, IsUnknownProperty, IsWrong, IsWrongValue}
+use Rattle.model_assembly.specs.declared.fault.ModelFault.{ModelFault}
+use Rattle.model_assembly.specs.declared.fault.ModelFault.TheVariants as faults
+use Rattle.model_assembly.specs.declared.role.Role.TheVariants as elements
+use Rattle.model_assembly.specs.declared.role.Role.{Role}
+use Rattle.model_assembly.specs.Elements.{Item}
+use Rattle.model_assembly.specs.Faults.{StandsAt}
+use Rattle.model_assembly.specs.Judged.{IsAlien, IsUnknownClass, IsUnknownProperty, IsWrong, IsWrongValue}
 use Rattle.xmi_profile.specs.Judging.{Found, element_fault, first_fault, first_of}
 use Rattle.xmi_profile.specs.Listing.{element_of}
 use Rattle.xmi_profile.specs.Scanning.{IsWithin}
-use Rattle.xmi_profile.specs.Source.{Source, all_items, file_ids}
+use Rattle.model_assembly.specs.Source.{Source, all_items, file_ids}
 use Rattle.xmi_profile.proofs.ElementLaws.{OfElement, UnknownAttrs, IsWrongAttrOf, attributes_first}
 use Rattle.xmi_profile.specs.Firsts.{Stands, FirstIn, Duplicates}
 use Rattle.xmi_profile.proofs.FirstLaws.{Either, Never, first_as, first_of_both}
 use Rattle.xmi_profile.proofs.RoleLaws.{NoClass, BothC, BothU, BothW, RoleProperties, RoleWrongs, of_as, of_both, role_first}
-use Rattle.xmi_profile.proofs.SeenLaws.{kept, element_kept, in_cons, in_tail}
+use Rattle.xmi_profile.proofs.SeenLaws.{kept, element_kept}
+use Rattle.model_assembly.proofs.assembling.ListLaws.{in_cons, in_tail}
 use Rattle.mof_metamodel.proofs.Facts.{contains_first}
 use Rattle.mof_metamodel.proofs.Facts.{nothing_in}
 

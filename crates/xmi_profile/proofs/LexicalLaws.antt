@@ -11,7 +11,7 @@ use Rattle.std.proofs.lemmas.Bool.{cond-true, cond-false, lt-ltb, leb-true, leb-
 use Rattle.mof_metamodel.specs.Characters.{is_blank}
 use Rattle.mof_metamodel.specs.WellMeta.{is_digit}
 use Rattle.xmi_profile.specs.Lexical.{trim_blank, trim_on, limit_of, digit_on, scan_on, signed_value, scanned, Start, Signed, Digits, Wrong}
-use Rattle.xmi_profile.specs.Values.{is_all_blank, without_front_blanks, without_end_blanks, trimmed, number_from, at_most, not_negative, negative, integer_of}
+use Rattle.model_assembly.specs.Values.{is_all_blank, without_front_blanks, without_end_blanks, trimmed, number_from, at_most, not_negative, negative, integer_of}
 
 -- ---- blanks around a text
 

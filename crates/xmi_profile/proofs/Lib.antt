@@ -1,6 +1,4 @@
-pub mod Small
 pub mod Examples
-pub mod ReadingExamples
 pub mod Literals
 pub mod ListingLaws
 pub mod Prefixes
@@ -10,7 +8,6 @@ pub mod WritingCalls
 pub mod WritingNames
 pub mod WritingModels
 pub mod WritingSteps
-pub mod WritingParts
 pub mod WritingForms
 pub mod WritingTexts
 pub mod ByteLaws
@@ -25,9 +22,8 @@ pub mod Positions
 pub mod NumberingLaws
 pub mod ExternLaws
 pub mod LexicalLaws
-pub mod HeldLaws
-pub mod assembling
 pub mod filed_laws
+pub mod AnsweredLaws
 pub mod written
 pub mod SpotFaults
 pub mod PlaceOwners

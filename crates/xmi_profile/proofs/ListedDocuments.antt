@@ -7,9 +7,9 @@ use Rattle.xmi_text.specs.Markup.{Markup}
 use Rattle.xmi_text.specs.Reading.{marks_of}
 use Rattle.xmi_text.specs.Trees.{Tree, Event, Spells, told}
 use Rattle.xmi_text.proofs.forward.Spelled.{markup_spelled}
-use Rattle.xmi_profile.specs.declared.fault.Externs.{Externs}
+use Rattle.model_assembly.specs.declared.fault.Externs.{Externs}
 use Rattle.xmi_profile.specs.Bytes.{listing_of, unless_fault}
-use Rattle.xmi_profile.specs.Elements.{items}
+use Rattle.model_assembly.specs.Elements.{items}
 use Rattle.xmi_profile.specs.Listing.{Listing, nothing, listed, element_of}
 use Rattle.xmi_profile.proofs.ListingLaws.{listed_tree}
 

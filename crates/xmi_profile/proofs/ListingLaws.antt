@@ -1,17 +1,19 @@
 -- The list of the elements of a tree's tags and runs is that of its elements.
-use Rattle.std.proofs.Common.{◌≡◌, ℕ, suc, ◌+◌, ◌-◌, Bool, true, false, List, [], ◌∷◌, ◌++◌, map, length, filter, take, refl, sym, ◌∙◌, ap, arith, append_assoc, append-nil, Some, Option, cond}
-use Rattle.std.specs.Prelude.{slice_get, if◌then◌else◌}
+use Rattle.std.proofs.Common.{◌≡◌, ℕ, suc, ◌+◌, ◌-◌, List, [], ◌∷◌, ◌++◌, map, length, filter, take, refl, sym, ◌∙◌, ap, arith, append_assoc, append-nil, Some, Option}
+use Rattle.std.specs.Prelude.{slice_get}
 use Rattle.std.specs.Option.{option_and_then}
 use Rattle.std.proofs.lemmas.List.{length-append, map-append}
 use Rattle.std.proofs.lemmas.List.Elements.{filter-append}
 use Rattle.mof_metamodel.specs.declared.desc.MetaDesc.{MetaDesc}
 use Rattle.object_tables.specs.Lists.{update_at}
 use Rattle.xmi_text.specs.Trees.{Nodes, Ends, Run, Element as Inner, Tree, Event, Closes, events_of, events}
-use Rattle.xmi_profile.specs.declared.fault.Externs.{Externs}
+use Rattle.model_assembly.specs.declared.fault.Externs.{Externs}
 use Rattle.xmi_profile.specs.declared.element.Element.{Element}
-use Rattle.xmi_profile.specs.Attributes.{Attrs}
-use Rattle.xmi_profile.specs.Elements.{Item, Role, role_of_root, role_in, number_in, number_behind, room_of, inner_place, behind_place, items_in, items, is_object}
+use Rattle.model_assembly.specs.Attributes.{Attrs}
+use Rattle.model_assembly.specs.declared.role.Role.{Role}
+use Rattle.model_assembly.specs.Elements.{Item, role_of_root, role_in, number_in, number_behind, room_of, inner_place, behind_place, items_in, items, is_object}
 use Rattle.xmi_profile.specs.Listing.{begun, with_run, with_runs, element_of, Listing, nothing, innermost, role_by, parent_of, with_element, opened, said, said_in, closed, listed}
+use Rattle.model_assembly.proofs.PlaceLaws.{counted}
 
 -- ---- lists
 
@@ -70,13 +72,6 @@ closed_inside : (es : List Element) (above : List ℕ) (n place number : ℕ) �
 closed_inside es above n place number = ap (λ (ns : List ℕ). at_state es ns (suc place) number) (without_last above n)
 
 -- ---- numbers
-
-pub counted : (item : Item) (inner : List Item) (number : ℕ) → number_behind inner (number_in item.role number) ≡ number_behind (item ∷ inner) number
-counted item inner number = by (is_object item)
-  where
-    by : (b : Bool) → (if b then suc number else number) + length (filter is_object inner) ≡ number + length (cond b (item ∷ filter is_object inner) (filter is_object inner))
-    by true = omega arith
-    by false = refl
 
 counted_both : (own more : List Item) (number : ℕ) → number_behind more (number_behind own number) ≡ number_behind (own ++ more) number
 counted_both own more number =

@@ -5,9 +5,9 @@ use Rattle.std.specs.List.{fold}
 use Rattle.std.specs.Option.{option_map}
 use Rattle.std.proofs.lemmas.Bool.{eqb-true, eq-eqb}
 use Rattle.xmi_text.specs.Markup.{begins}
-use Rattle.xmi_profile.specs.declared.fault.Externs.{Externs}
-use Rattle.xmi_profile.specs.Attributes.{behind}
-use Rattle.xmi_profile.specs.References.{with_first, divided, parts_target, href_target}
+use Rattle.model_assembly.specs.declared.fault.Externs.{Externs}
+use Rattle.model_assembly.specs.Attributes.{behind}
+use Rattle.model_assembly.specs.References.{with_first, divided, parts_target, href_target}
 use Rattle.xmi_profile.specs.Scanning.{behind_on, href_by}
 use Rattle.xmi_profile.proofs.Prefixes.{same_bool}
 

@@ -10,16 +10,16 @@ use Rattle.mof_metamodel.specs.NameTables.{value_of}
 use Rattle.mof_metamodel.proofs.NameLemmas.{lookup-push}
 use Rattle.mof_metamodel.proofs.SearchLemmas.{same_true, true_same}
 use Rattle.xmi_profile.specs.declared.element.Element.{Element}
-use Rattle.xmi_profile.specs.declared.fault.ModelFault.{ModelFault}
-use Rattle.xmi_profile.specs.declared.fault.ModelFault.TheVariants as faults
-use Rattle.xmi_profile.specs.Attributes.{is_id_name}
-use Rattle.xmi_profile.specs.Elements.{Item, is_object, object_items}
+use Rattle.model_assembly.specs.declared.fault.ModelFault.{ModelFault}
+use Rattle.model_assembly.specs.declared.fault.ModelFault.TheVariants as faults
+use Rattle.model_assembly.specs.Attributes.{is_id_name}
+use Rattle.model_assembly.specs.Elements.{Item, is_object, object_items}
 use Rattle.xmi_profile.specs.Firsts.{Stands, FirstIn, Duplicates}
-use Rattle.xmi_profile.specs.Judged.{id_place}
+use Rattle.model_assembly.specs.Judged.{id_place}
 use Rattle.xmi_profile.specs.Judging.{Found}
 use Rattle.xmi_profile.specs.Listing.{element_of}
 use Rattle.xmi_profile.specs.Numbering.{Numbers, no_numbers, own_id, repeated_at, with_new, with_repeated, with_id, with_object, numbered}
-use Rattle.xmi_profile.specs.Source.{Source, all_items, file_ids, ids_from}
+use Rattle.model_assembly.specs.Source.{Source, all_items, file_ids, ids_from}
 use Rattle.xmi_profile.proofs.FirstLaws.{Either, Only, Never, first_as, first_of_both, first_only}
 use Rattle.xmi_profile.proofs.Positions.{position_is, position_push, first_passes, none_passes}
 use Rattle.xmi_profile.proofs.RoleLaws.{found_as}

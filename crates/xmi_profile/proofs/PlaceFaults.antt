@@ -9,22 +9,25 @@ use Rattle.mof_metamodel.specs.Metamodels.{prop_number}
 use Rattle.mof_metamodel.specs.WellMeta.{WellMeta, is_prop_name}
 use Rattle.mof_metamodel.proofs.MetaLaws.{prop_named}
 use Rattle.mof_metamodel.proofs.PropLemmas.{prop_known}
-use Rattle.xmi_profile.specs.declared.fault.ModelFault.{ModelFault}
-use Rattle.xmi_profile.specs.declared.fault.ModelFault.TheVariants as faults
-use Rattle.xmi_profile.specs.Attributes.{Attrs, first_attr, later, is_id_name, is_type_name, is_passed_name}
-use Rattle.xmi_profile.specs.Elements.{Item, Role, ObjectRole, Document, Skipped, AnObject, AValue, AReference, Neither, Alien, Stranger, Misplaced, inner_place, object_of, is_object, number_in}
-use Rattle.xmi_profile.specs.Faults.{StandsAt, IsDuplicate}
-use Rattle.xmi_profile.specs.FirstFault.{rank, IsFirstAt}
-use Rattle.xmi_profile.specs.Judged.{found_place, text_place, first_place, runs, IsAttrAt, IsAlien, IsStranger, IsUnknownAttr, is_unknown_of, id_in, IsWrongId, IsWrongAttr, IsWrongObject, IsWrong}
-use Rattle.xmi_profile.specs.Profile.{prop_name}
-use Rattle.xmi_profile.specs.Source.{Source, all_items, file_ids, printed_id}
+use Rattle.model_assembly.specs.declared.fault.ModelFault.{ModelFault}
+use Rattle.model_assembly.specs.declared.fault.ModelFault.TheVariants as faults
+use Rattle.model_assembly.specs.Attributes.{Attrs, first_attr, later, is_id_name, is_type_name, is_passed_name}
+use Rattle.model_assembly.specs.declared.role.Role.{Role}
+use Rattle.model_assembly.specs.declared.role.ObjectRole.{ObjectRole}
+use Rattle.model_assembly.specs.declared.role.Role.TheVariants.{Document, Skipped, AnObject, AValue, AReference, Neither, Alien, Stranger, Misplaced}
+use Rattle.model_assembly.specs.Elements.{Item, inner_place, object_of, is_object, number_in}
+use Rattle.model_assembly.specs.Faults.{StandsAt, IsDuplicate}
+use Rattle.model_assembly.specs.FirstFault.{rank, IsFirstAt}
+use Rattle.model_assembly.specs.Judged.{found_place, text_place, first_place, runs, IsAttrAt, IsAlien, IsStranger, IsUnknownAttr, is_unknown_of, id_in, IsWrongId, IsWrongAttr, IsWrongObject, IsWrong}
+use Rattle.model_assembly.specs.Profile.{prop_name}
+use Rattle.model_assembly.specs.Source.{Source, all_items, file_ids, printed_id}
 use Rattle.mof_metamodel.proofs.Facts.{contains_first}
 use Rattle.xmi_profile.proofs.PlaceOwners.{IsInHead, IsOf, of_head, of_run, of_value, IsBelow, AreOneOrBelow, one, below, above, tree_apart}
-use Rattle.xmi_profile.proofs.assembling.ListLaws.{get_within, get_filter}
+use Rattle.model_assembly.proofs.assembling.ListLaws.{get_within, get_filter}
 use Rattle.mof_metamodel.proofs.Facts.{contains_at}
 use Rattle.std.proofs.lemmas.Option.{same_Some}
 use Rattle.std.proofs.lemmas.Option.{none-some}
-use Rattle.xmi_profile.proofs.filed_laws.PlaceLaws.{IsNumbered, AreNumberedFrom, placed_tree}
+use Rattle.model_assembly.proofs.PlaceLaws.{IsNumbered, AreNumberedFrom, placed_tree}
 use Rattle.xmi_profile.proofs.written.Naming.{prop_not_id}
 
 -- ---- attributes that are found

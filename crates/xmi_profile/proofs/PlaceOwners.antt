@@ -5,11 +5,13 @@ use Rattle.std.specs.Prelude.{Contains, if◌then◌else◌}
 use Rattle.std.proofs.lemmas.List.Elements.{Contains-append_cases}
 use Rattle.mof_metamodel.specs.declared.desc.MetaDesc.{MetaDesc}
 use Rattle.xmi_text.specs.Trees.{Nodes, Ends, Run, Element as Inner, Tree}
-use Rattle.xmi_profile.specs.declared.fault.Externs.{Externs}
-use Rattle.xmi_profile.specs.Attributes.{is_skipped_name, is_alien_name, Attrs}
-use Rattle.xmi_profile.specs.Elements.{Item, Role, Document, Skipped, AnObject, AValue, AReference, Neither, Alien, Stranger, Misplaced, role_of_root, role_in, role_in_property, number_in, number_behind, room_of, inner_place, behind_place, items_in, items}
-use Rattle.xmi_profile.specs.Judged.{runs_in, runs}
-use Rattle.xmi_profile.proofs.SeenLaws.{in_cons}
+use Rattle.model_assembly.specs.declared.fault.Externs.{Externs}
+use Rattle.model_assembly.specs.Attributes.{is_skipped_name, is_alien_name, Attrs}
+use Rattle.model_assembly.specs.declared.role.Role.{Role}
+use Rattle.model_assembly.specs.declared.role.Role.TheVariants.{Document, Skipped, AnObject, AValue, AReference, Neither, Alien, Stranger, Misplaced}
+use Rattle.model_assembly.specs.Elements.{Item, role_of_root, role_in, role_in_property, number_in, number_behind, room_of, inner_place, behind_place, items_in, items}
+use Rattle.model_assembly.specs.Judged.{runs_in, runs}
+use Rattle.model_assembly.proofs.assembling.ListLaws.{in_cons}
 use Rattle.mof_metamodel.proofs.Facts.{nothing_in}
 
 -- a place in the start tag of an element, of a run of characters directly in it, or directly behind the start tag of a value's

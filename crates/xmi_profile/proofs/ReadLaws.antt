@@ -10,7 +10,7 @@ use Rattle.xmi_text.specs.declared.mark.Mark.{Mark}
 use Rattle.xmi_text.specs.Reading.{Fed, marks_of, end_fault_of}
 use Rattle.xmi_text.specs.Trees.{told}
 use Rattle.xmi_text.proofs.reading.Reached.{length-marks_of}
-use Rattle.xmi_profile.specs.declared.fault.Externs.{Externs}
+use Rattle.model_assembly.specs.declared.fault.Externs.{Externs}
 use Rattle.xmi_profile.specs.Bytes.{next_by, next_of, text_fault, unless_fault, listing_of}
 use Rattle.xmi_profile.specs.Listing.{Listing, nothing, listed, IsSound}
 use Rattle.xmi_profile.proofs.ByteLaws.{next_some, next_none, next_err, given_within, listed_next, listed_end}

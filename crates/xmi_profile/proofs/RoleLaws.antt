@@ -3,32 +3,33 @@ use Rattle.std.proofs.Common.{◌≡◌, ◌⊎◌, ◌↔◌, ℕ, suc, ◌+◌
 use Rattle.std.specs.Prelude.{◌||◌, not, is_some, IfSome, Option, if◌then◌else◌}
 use Rattle.std.specs.Option.{option_map, unwrap_or}
 use Rattle.std.proofs.lemmas.Bool.{true≢false, cases_lt}
-use Rattle.mof_metamodel.specs.declared.desc.MetaDesc.{MetaDesc}
 use Rattle.mof_metamodel.specs.declared.desc.PropType.{PropType}
 use Rattle.mof_metamodel.specs.declared.desc.PropType.TheVariants as types
 use Rattle.mof_metamodel.specs.Characters.{is_identifier_text}
-use Rattle.mof_metamodel.specs.Metamodels.{class_count, type_of, Conforms, conforms_within}
+use Rattle.mof_metamodel.specs.Metamodels.{class_count, type_of}
 use Rattle.mof_metamodel.proofs.ReachLemmas.{steps_sound, steps_complete}
 use Rattle.object_tables.specs.declared.value.Value.{Value}
 use Rattle.object_tables.specs.Models.{ConformsTo}
 use Rattle.xmi_profile.specs.declared.element.Element.{Element}
-use Rattle.xmi_profile.specs.declared.fault.ModelFault.{ModelFault}
-use Rattle.xmi_profile.specs.declared.fault.ModelFault.TheVariants as faults
-use Rattle.xmi_profile.specs.Attributes.{Attrs, first_attr, later, value_where, is_id_name, is_type_name, is_nil}
-use Rattle.xmi_profile.specs.Elements as elements
-use Rattle.xmi_profile.specs.Elements.{Item, Role, ObjectRole, attr_place, inner_place}
-use Rattle.xmi_profile.specs.FirstFault.{rank}
-use Rattle.xmi_profile.specs.Judged.{IsTextAt, IsAlien, IsStranger, IsWrongId, IsTextInObject, IsWrongPart, IsWrongText, IsOfProperty, found_place, id_in, no_id, runs}
+use Rattle.model_assembly.specs.declared.fault.ModelFault.{ModelFault}
+use Rattle.model_assembly.specs.declared.fault.ModelFault.TheVariants as faults
+use Rattle.model_assembly.specs.AssemblyFirsts.{conforms_to}
+use Rattle.model_assembly.specs.Attributes.{Attrs, first_attr, later, value_where, is_id_name, is_type_name, is_nil}
+use Rattle.model_assembly.specs.declared.role.Role.TheVariants as elements
+use Rattle.model_assembly.specs.declared.role.Role.{Role}
+use Rattle.model_assembly.specs.declared.role.ObjectRole.{ObjectRole}
+use Rattle.model_assembly.specs.Elements.{Item, attr_place, inner_place}
+use Rattle.model_assembly.specs.FirstFault.{rank}
+use Rattle.model_assembly.specs.Judged.{IsTextAt, IsAlien, IsStranger, IsWrongId, IsTextInObject, IsWrongPart, IsWrongText, IsOfProperty, found_place, id_in, no_id, runs}
 use Rattle.xmi_profile.specs.Judging as judging
-use Rattle.xmi_profile.specs.Judging.{Found, found_at, found_if, first_of, place_by, place_of, wrong_of, role_fault, object_fault, fault_by_class, part_fault, value_fault, id_fault, id_fault_by, class_fault, conforms_to, is_no_value}
-use Rattle.xmi_profile.specs.Profile.{prop_name}
+use Rattle.xmi_profile.specs.Judging.{Found, found_at, found_if, first_of, place_by, place_of, wrong_of, role_fault, object_fault, fault_by_class, part_fault, value_fault, id_fault, id_fault_by, class_fault, is_no_value}
+use Rattle.model_assembly.specs.Profile.{prop_name}
 use Rattle.xmi_profile.specs.Scanning.{IsWithin, number_from}
-use Rattle.xmi_profile.specs.Source.{Source, file_ids, given_id, printed_id, text_in}
-use Rattle.xmi_profile.specs.Values.{value_of}
+use Rattle.model_assembly.specs.Source.{Source, file_ids, given_id, printed_id, text_in}
+use Rattle.model_assembly.specs.Values.{value_of}
 use Rattle.xmi_profile.proofs.ElementLaws.{Classes, Properties, Wrongs, OfElement}
 use Rattle.xmi_profile.specs.Firsts.{Before, Stands, FirstIn}
 use Rattle.xmi_profile.proofs.FirstLaws.{Either, first_as, first_of_both}
-use Rattle.xmi_profile.proofs.Prefixes.{same_bool}
 use Rattle.xmi_profile.proofs.SeenLaws.{kept, odd_from, odd_found, FirstOdd, text_at_is}
 use Rattle.std.proofs.lemmas.Option.{none-some, same_Some}
 
@@ -179,12 +180,6 @@ text_first item id prop = by (odd_from None (runs item)) (odd_found item.inner (
       where
         before : (p : ℕ) → first ≤ p → Before first 4 p 4
         before p l = elim (cases_lt first p) [ inl m ↦ inl m | inr m ↦ inr (omega (arith, l, m), omega arith) ]
-
--- ---- classes
-
-pub conforms_same : (meta : MetaDesc) (c d : ℕ) → c < class_count meta → (b : Bool) → ((b ≡ true) ↔ Conforms meta c d) → b ≡ conforms_within meta (class_count meta) c d
-conforms_same meta c d l b h =
-    same_bool b (conforms_within meta (class_count meta) c d) (λ e. steps_complete meta c d l (h.0 e)) (λ e. h.1 (steps_sound meta (class_count meta) c d e))
 
 -- ---- places
 

@@ -3,25 +3,15 @@ use Rattle.std.proofs.Common.{◌≡◌, ◌⊎◌, ℕ, suc, ◌≤◌, Bool, t
 use Rattle.std.specs.Prelude.{Option, Contains}
 use Rattle.std.specs.Option.{unwrap_or}
 use Rattle.std.proofs.lemmas.Bool.{true≢false}
-use Rattle.std.proofs.lemmas.List.Elements.{Contains-append_left, Contains-append_right, Contains-append_cases, Contains-push, Contains-push_cases}
 use Rattle.xmi_text.specs.Trees.{Nodes, Ends, Run, Element as Inner}
 use Rattle.xmi_profile.specs.declared.element.Element.{Element}
-use Rattle.xmi_profile.specs.Elements.{Item, inner_place, behind_place}
-use Rattle.xmi_profile.specs.Judged.{runs_in, runs, first_place}
+use Rattle.model_assembly.specs.Elements.{Item, inner_place, behind_place}
+use Rattle.model_assembly.specs.Judged.{runs_in, runs, first_place}
 use Rattle.xmi_profile.specs.Listing.{begun, or_place, odd_place, with_run, with_runs, element_of}
-use Rattle.xmi_profile.specs.Source.{text_in}
-use Rattle.xmi_profile.specs.Values.{is_all_blank}
-use Rattle.mof_metamodel.proofs.Facts.{only_one, nothing_in, contains_first}
-
-pub in_cons : {X : Type 0} (x : X) (xs : List X) (y : X) → Contains (x ∷ xs) y → (x ≡ y) ⊎ Contains xs y
-in_cons x xs y c = by (Contains-append_cases (x ∷ []) xs y c)
-  where
-    by : Contains (x ∷ []) y ⊎ Contains xs y → (x ≡ y) ⊎ Contains xs y
-    by (inl h) = inl (only_one x y h)
-    by (inr h) = inr h
-
-pub in_tail : {X : Type 0} (x : X) (xs : List X) (y : X) → Contains xs y → Contains (x ∷ xs) y
-in_tail x xs y c = Contains-append_right (x ∷ []) xs y c
+use Rattle.model_assembly.specs.Source.{text_in}
+use Rattle.model_assembly.specs.Values.{is_all_blank}
+use Rattle.mof_metamodel.proofs.Facts.{nothing_in, contains_first}
+use Rattle.model_assembly.proofs.assembling.ListLaws.{in_cons, in_tail}
 
 -- ---- runs
 

@@ -9,8 +9,9 @@ use Rattle.mof_metamodel.specs.declared.desc.MetaDesc.{MetaDesc}
 use Rattle.object_tables.specs.Lists.{update_at}
 use Rattle.object_tables.proofs.ListLemmas.{length-update_at}
 use Rattle.xmi_profile.specs.declared.element.Element.{Element}
-use Rattle.xmi_profile.specs.Attributes.{Attrs}
-use Rattle.xmi_profile.specs.Elements.{Role, object_of}
+use Rattle.model_assembly.specs.Attributes.{Attrs}
+use Rattle.model_assembly.specs.declared.role.Role.{Role}
+use Rattle.model_assembly.specs.Elements.{object_of}
 use Rattle.xmi_profile.specs.Listing.{Listing, IsSound, AreKnown, nothing, begun, with_run, with_element, said, said_in, closed, innermost, parent_of}
 use Rattle.xmi_profile.specs.Scanning.{IsWithin}
 

@@ -4,15 +4,16 @@ use Rattle.std.specs.Prelude.{slice_get}
 use Rattle.std.proofs.lemmas.Bool.{cases_lt}
 use Rattle.mof_metamodel.specs.Metamodels.{prop_at, opposite_of}
 use Rattle.mof_metamodel.specs.WellMeta.{WellMeta}
-use Rattle.xmi_profile.specs.declared.fault.ModelFault.{ModelFault}
-use Rattle.xmi_profile.specs.declared.fault.ModelFault.TheVariants as faults
-use Rattle.xmi_profile.specs.Faults.{Spot, IsBefore, ByObject, ByProperty, ByTarget, StandsBy, IsWritten, IsDangling, MakesPart, IsContainedTwice, IsMismatch}
-use Rattle.xmi_profile.specs.FirstFault.{rank, IsFirstBy}
-use Rattle.xmi_profile.specs.Profile.{prop_name}
-use Rattle.xmi_profile.specs.References.{Target, target_text}
-use Rattle.xmi_profile.specs.Source.{Source, id_of, target_number, targets_at}
+use Rattle.model_assembly.specs.declared.fault.ModelFault.{ModelFault}
+use Rattle.model_assembly.specs.declared.fault.ModelFault.TheVariants as faults
+use Rattle.model_assembly.specs.Faults.{Spot, IsBefore, ByObject, ByProperty, ByTarget, StandsBy, IsWritten, IsDangling, MakesPart, IsContainedTwice, IsMismatch}
+use Rattle.model_assembly.specs.FirstFault.{rank, IsFirstBy}
+use Rattle.model_assembly.specs.Profile.{prop_name}
+use Rattle.model_assembly.specs.declared.target.Target.{Target}
+use Rattle.model_assembly.specs.References.{target_text}
+use Rattle.model_assembly.specs.Source.{Source, id_of, target_number, targets_at}
 use Rattle.std.proofs.lemmas.Option.{same_Some}
-use Rattle.xmi_profile.proofs.assembling.PartLaws.{not_both}
+use Rattle.model_assembly.proofs.assembling.PartLaws.{not_both}
 
 -- ---- spots
 

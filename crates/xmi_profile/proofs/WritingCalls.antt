@@ -13,6 +13,7 @@ use Rattle.xmi_text.specs.Writing.{Written, has, is_new, is_inside, may_open, ma
 use Rattle.xmi_text.specs.Calls.{Call, Open, Attr, Data, Close, Line, after_call, wrote}
 use Rattle.xmi_profile.specs.Writable.{CanWrite}
 use Rattle.mof_metamodel.proofs.Facts.{contains_first}
+use Rattle.model_assembly.proofs.assembling.ListLaws.{contains_tail}
 
 -- ---- one list of calls behind another
 
@@ -47,9 +48,6 @@ fits_both d a b f g = record {
   can = λ w e. can_both w a b (f.can w e) (g.can (wrote w a) (f.open_still w e));
   open_still = λ w e. ap (λ v. length v.elements) (wrote_both w a b) ∙ g.open_still (wrote w a) (f.open_still w e);
 }
-
-pub contains_tail : {X : Type 0} (x y : X) (xs : List X) → Contains xs y → Contains (x ∷ xs) y
-contains_tail x y xs c = let (k, l, e) = c in (suc k, omega arith, e)
 
 pub fits_each : {X : Type 0} (d : ℕ) (f : X → List Call) (xs : List X) → ((x : X) → Contains xs x → Fits d (f x)) → Fits d (flat_map f xs)
 fits_each d f [] h = fits_none d

@@ -20,10 +20,10 @@ use Rattle.object_tables.specs.Objects.{Object}
 use Rattle.object_tables.specs.Kept.{Kept}
 use Rattle.object_tables.specs.Validity.{IsPropertyOf}
 use Rattle.xmi_text.specs.Calls.{Call, Open, Attr, Data, Close, Line}
-use Rattle.xmi_profile.specs.declared.form.Form.{Form}
-use Rattle.xmi_profile.specs.declared.form.Form.TheVariants as forms
-use Rattle.xmi_profile.specs.Forms.{is_one, is_composite, form_of}
-use Rattle.xmi_profile.specs.Profile.{prop_name, id_or_none, id_text, object_props, props_or_none, is_part}
+use Rattle.model_assembly.specs.declared.form.Form.{Form}
+use Rattle.model_assembly.specs.declared.form.Form.TheVariants as forms
+use Rattle.model_assembly.specs.Forms.{is_one, is_composite, form_of}
+use Rattle.model_assembly.specs.Profile.{prop_name, id_or_none, id_text, object_props, props_or_none, is_part}
 use Rattle.xmi_profile.specs.Canon.{value_text, depth_over, object_calls, children_by, value_element, spaced_behind, partners_attr, top_calls}
 use Rattle.xmi_profile.specs.Writable.{IsTold, calls_at, is_top_object, chosen_form, AreLive, ids_of, has_some, text_value, value_elements, part_elements, calls_of}
 use Rattle.xmi_profile.proofs.WritingSteps.{values_some, some_cons}

@@ -29,12 +29,13 @@ use Rattle.object_tables.specs.Validity.{IsPropertyOf}
 use Rattle.xmi_text.specs.Names.{is_name}
 use Rattle.xmi_text.specs.Writing.{Written, has, opened, with_attr, nothing, is_whole}
 use Rattle.xmi_text.specs.Calls.{Call, Open, Attr, Data, Close, Declare, Line, after_call, wrote}
-use Rattle.xmi_profile.specs.declared.form.Form.TheVariants as forms
-use Rattle.xmi_profile.specs.Forms.{is_one, is_composite}
-use Rattle.xmi_profile.specs.Profile.{xmi_id, xmi_type, prop_name, class_name, id_or_none, id_text, name_or_none, class_text, props_or_none, object_props, live_numbers, is_part}
+use Rattle.model_assembly.specs.declared.form.Form.TheVariants as forms
+use Rattle.model_assembly.specs.Forms.{is_one, is_composite}
+use Rattle.model_assembly.specs.Profile.{xmi_id, xmi_type, prop_name, class_name, id_or_none, id_text, name_or_none, class_text, props_or_none, object_props, live_numbers, is_part}
 use Rattle.xmi_profile.specs.Canon.{value_text, spaced, spaced_behind, typed_name, value_attr, partners_attr, attr_by, attr_calls, tag_calls, value_element, children_by, child_calls, depth_over, object_calls, top_calls, top_numbers, head, foot, canon_calls}
 use Rattle.xmi_profile.specs.Writable.{CanWrite, children_calls}
-use Rattle.xmi_profile.proofs.WritingCalls.{data_rooted, wrote_both, Fits, fits_none, fits_both, fits_each, fits_line, Begins, fits_element, fits_text, length-opened, length-closed, inside_of, may_open_inside, IsAttr, AreAttrs, attrs_come, contains_tail}
+use Rattle.xmi_profile.proofs.WritingCalls.{data_rooted, wrote_both, Fits, fits_none, fits_both, fits_each, fits_line, Begins, fits_element, fits_text, length-opened, length-closed, inside_of, may_open_inside, IsAttr, AreAttrs, attrs_come}
+use Rattle.model_assembly.proofs.assembling.ListLaws.{contains_tail}
 use Rattle.mof_metamodel.proofs.Facts.{contains_first}
 use Rattle.xmi_profile.proofs.WritingNames.{markup_name, prefixed_name, name_storable, number_storable}
 

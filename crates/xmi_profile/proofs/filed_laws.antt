@@ -3,7 +3,6 @@ pub mod ObjectLaws
 pub mod WordLaws
 pub mod MetLaws
 pub mod EntryLaws
-pub mod PlaceLaws
 pub mod SaidLaws
 pub mod NamedLaws
 pub mod PlacedLaws

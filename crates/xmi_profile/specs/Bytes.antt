@@ -10,7 +10,9 @@ use Rattle.xmi_text.specs.declared.mark.Step.{Step}
 use Rattle.xmi_text.specs.declared.mark.Step.TheVariants as answers
 use Rattle.xmi_text.specs.Reading.{Fed, marks_of, end_fault_of}
 use Rattle.xmi_text.specs.Trees.{told}
-use Rattle.xmi_profile.specs.declared.fault.Externs.{Externs}
+use Rattle.model_assembly.specs.declared.assembly.check.AssemblyError.{AssemblyError}
+use Rattle.model_assembly.specs.declared.assembly.check.AssemblyError.TheVariants as put
+use Rattle.model_assembly.specs.declared.fault.Externs.{Externs}
 use Rattle.xmi_profile.specs.declared.fault.XmiError.{XmiError}
 use Rattle.xmi_profile.specs.declared.fault.XmiError.TheVariants as errors
 use Rattle.xmi_profile.specs.Listing.{Listing, nothing, listed}
@@ -24,6 +26,11 @@ text_fault faults.NoMemory = None
 abbrev pub error_of : TextError → XmiError
 error_of (faults.Fault fault) = errors.Text fault
 error_of faults.NoMemory = errors.NoMemory
+
+-- why what is written is no model, as an error of a reader
+abbrev pub read_error : AssemblyError → XmiError
+read_error (put.Content fault) = errors.Content fault
+read_error put.NoMemory = errors.NoMemory
 
 -- the next mark of a whole text, or none behind the last one, or the fault
 abbrev pub next_by : Option TextFault → List Mark → Result (Option Mark) TextFault

@@ -11,10 +11,10 @@ use Rattle.object_tables.specs.declared.value.Value.TheVariants as values
 use Rattle.object_tables.specs.Models.{ModelData, values_at, partners_at}
 use Rattle.xmi_text.specs.Calls.{Call, Open, Attr, Data, Close, Declare, Line, wrote}
 use Rattle.xmi_text.specs.Writing.{nothing}
-use Rattle.xmi_profile.specs.declared.form.Form.{Form}
-use Rattle.xmi_profile.specs.declared.form.Form.TheVariants as forms
-use Rattle.xmi_profile.specs.Forms.{form_of}
-use Rattle.xmi_profile.specs.Profile.{xmi_namespace, xmi_version, xmi_document, xmi_id, xmi_type, prop_name, class_text, id_text, object_props, live_numbers, is_part}
+use Rattle.model_assembly.specs.declared.form.Form.{Form}
+use Rattle.model_assembly.specs.declared.form.Form.TheVariants as forms
+use Rattle.model_assembly.specs.Forms.{form_of}
+use Rattle.model_assembly.specs.Profile.{xmi_namespace, xmi_version, xmi_document, xmi_id, xmi_type, prop_name, class_text, id_text, object_props, live_numbers, is_part}
 
 -- the text of a value (XML Schema 1.0 part 2, 3.2 and 3.3: the canonical lexical forms)
 abbrev pub boolean_text : Bool → List ℕ

@@ -1,7 +1,7 @@
 -- What a reader of a model in pieces was given: a metamodel, what references to the outside may name, and bytes.
 use Rattle.std.specs.Prelude.{ℕ, List}
 use Rattle.mof_metamodel.specs.declared.desc.MetaDesc.{MetaDesc}
-use Rattle.xmi_profile.specs.declared.fault.Externs.{Externs}
+use Rattle.model_assembly.specs.declared.fault.Externs.{Externs}
 
 pub record FedModel : Type 0 where
   pub meta : MetaDesc

@@ -12,23 +12,25 @@ use Rattle.mof_metamodel.specs.NameTables.{NamesWith, value_of as number_named}
 use Rattle.object_tables.specs.Models.{is_class_type}
 use Rattle.object_tables.specs.declared.value.Value.{Value}
 use Rattle.xmi_profile.specs.declared.element.Element.{Element}
-use Rattle.xmi_profile.specs.declared.filed.Filed.{Filed}
-use Rattle.xmi_profile.specs.declared.filed.Mention.{Mention}
-use Rattle.xmi_profile.specs.declared.filed.WrittenReference.{WrittenReference}
-use Rattle.xmi_profile.specs.declared.filed.WrittenValue.{WrittenValue}
+use Rattle.model_assembly.specs.declared.filed.Filed.{Filed}
+use Rattle.model_assembly.specs.declared.filed.Mention.{Mention}
+use Rattle.model_assembly.specs.declared.filed.WrittenReference.{WrittenReference}
+use Rattle.model_assembly.specs.declared.filed.WrittenValue.{WrittenValue}
 pub use Rattle.xmi_profile.specs.declared.filing.Writings.{Writings}
 pub use Rattle.xmi_profile.specs.declared.filed_objects.Lists.{Lists}
-use Rattle.xmi_profile.specs.Attributes.{Attrs, is_nil}
-use Rattle.xmi_profile.specs.Content.{is_string}
-use Rattle.xmi_profile.specs.Elements as elements
-use Rattle.xmi_profile.specs.Elements.{Role}
+use Rattle.model_assembly.specs.Attributes.{Attrs, is_nil}
+use Rattle.model_assembly.specs.Content.{is_string}
+use Rattle.model_assembly.specs.declared.role.Role.TheVariants as elements
+use Rattle.model_assembly.specs.declared.role.Role.{Role}
 use Rattle.xmi_profile.specs.Judging.{class_by}
 use Rattle.xmi_profile.specs.Numbering.{Numbers}
-use Rattle.xmi_profile.specs.Profile.{prop_name}
-use Rattle.xmi_profile.specs.References.{Target, Named, Extern, Contained, Nowhere, target_text, words}
+use Rattle.model_assembly.specs.Profile.{prop_name}
+use Rattle.model_assembly.specs.declared.target.Target.{Target}
+use Rattle.model_assembly.specs.declared.target.Target.TheVariants.{Named, Extern, Contained, Nowhere}
+use Rattle.model_assembly.specs.References.{target_text, words}
 use Rattle.xmi_profile.specs.Scanning.{IsWithin}
-use Rattle.xmi_profile.specs.Source.{primitive_class}
-use Rattle.xmi_profile.specs.Values.{value_of}
+use Rattle.model_assembly.specs.Source.{primitive_class}
+use Rattle.model_assembly.specs.Values.{value_of}
 
 abbrev pub no_writings : Writings
 no_writings = record { values = []; references = []; mentions = [] }

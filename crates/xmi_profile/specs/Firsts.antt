@@ -1,11 +1,11 @@
 -- When what is found is the first fault of those that stand at places.
 use Rattle.std.specs.Prelude.{◌≡◌, ◌⊎◌, ℕ, ◌<◌, ◌≤◌, Option, None, Some}
-use Rattle.xmi_profile.specs.declared.fault.ModelFault.{ModelFault}
-use Rattle.xmi_profile.specs.declared.fault.ModelFault.TheVariants as faults
-use Rattle.xmi_profile.specs.Faults.{IsDuplicate}
-use Rattle.xmi_profile.specs.FirstFault.{rank}
+use Rattle.model_assembly.specs.declared.fault.ModelFault.{ModelFault}
+use Rattle.model_assembly.specs.declared.fault.ModelFault.TheVariants as faults
+use Rattle.model_assembly.specs.Faults.{IsDuplicate}
+use Rattle.model_assembly.specs.FirstFault.{rank}
 use Rattle.xmi_profile.specs.Judging.{Found}
-use Rattle.xmi_profile.specs.Source.{Source}
+use Rattle.model_assembly.specs.Source.{Source}
 
 -- faults that stand at places
 abbrev pub Stands : Type 1

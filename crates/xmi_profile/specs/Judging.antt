@@ -3,24 +3,26 @@ use Rattle.std.specs.Prelude.{ℕ, suc, ◌==◌, ◌||◌, ◌&&◌, Bool, fals
 use Rattle.std.specs.Option.{unwrap_or}
 use Rattle.mof_metamodel.specs.declared.desc.MetaDesc.{MetaDesc}
 use Rattle.mof_metamodel.specs.declared.desc.PropType.{PropType}
-use Rattle.mof_metamodel.specs.declared.desc.PropType.TheVariants as types
 use Rattle.mof_metamodel.specs.Characters.{is_identifier_text}
-use Rattle.mof_metamodel.specs.Metamodels.{class_count, prop_number, type_of, conforms_within}
+use Rattle.mof_metamodel.specs.Metamodels.{prop_number, type_of}
 use Rattle.object_tables.specs.Models.{is_class_type}
-use Rattle.xmi_profile.specs.declared.fault.ModelFault.{ModelFault}
-use Rattle.xmi_profile.specs.declared.fault.ModelFault.TheVariants as faults
+use Rattle.model_assembly.specs.declared.fault.ModelFault.{ModelFault}
+use Rattle.model_assembly.specs.declared.fault.ModelFault.TheVariants as faults
 use Rattle.xmi_profile.specs.declared.element.Element.{Element}
 pub use Rattle.xmi_profile.specs.declared.judging.Found.{Found}
 use Rattle.xmi_profile.specs.declared.names.Own.TheVariants as owns
-use Rattle.xmi_profile.specs.Attributes.{Attrs, value_where, is_passed_name, is_nil}
-use Rattle.xmi_profile.specs.Elements as elements
-use Rattle.xmi_profile.specs.Elements.{Role, ObjectRole, attr_place, inner_place}
-use Rattle.xmi_profile.specs.FirstFault.{rank}
-use Rattle.xmi_profile.specs.Judged.{is_unknown_of, no_id}
-use Rattle.xmi_profile.specs.Profile.{prop_name}
+use Rattle.model_assembly.specs.AssemblyFirsts.{conforms_to}
+use Rattle.model_assembly.specs.Attributes.{Attrs, value_where, is_passed_name, is_nil}
+use Rattle.model_assembly.specs.declared.role.Role.TheVariants as elements
+use Rattle.model_assembly.specs.declared.role.Role.{Role}
+use Rattle.model_assembly.specs.declared.role.ObjectRole.{ObjectRole}
+use Rattle.model_assembly.specs.Elements.{attr_place, inner_place}
+use Rattle.model_assembly.specs.FirstFault.{rank}
+use Rattle.model_assembly.specs.Judged.{is_unknown_of, no_id}
+use Rattle.model_assembly.specs.Profile.{prop_name}
 use Rattle.xmi_profile.specs.Scanning.{is_own, number_where}
-use Rattle.xmi_profile.specs.Source.{given_id, proper}
-use Rattle.xmi_profile.specs.Values.{value_of}
+use Rattle.model_assembly.specs.Source.{given_id, proper}
+use Rattle.model_assembly.specs.Values.{value_of}
 
 -- a fault with its place
 
@@ -138,10 +140,6 @@ abbrev pub class_fault : Element → List ℕ → Option Found
 class_fault e named = Some (found_at (place_of (is_own owns.Type) e) (faults.UnknownClass named))
 
 -- a contained object whose class doesn't conform to the property's type
-abbrev pub conforms_to : MetaDesc → ℕ → Option PropType → Bool
-conforms_to meta class (Some (types.Class c)) = conforms_within meta (class_count meta) class c.0
-conforms_to meta class type = false
-
 abbrev pub part_fault : MetaDesc → List (List ℕ) → Element → ℕ → Option (ℕ × ℕ) → Option Found
 part_fault meta ids e class None = None
 part_fault meta ids e class (Some within) =

@@ -9,22 +9,22 @@ use Rattle.xmi_text.specs.Faults as markup
 use Rattle.xmi_text.specs.Markup.{Markup}
 use Rattle.xmi_text.specs.Trees.{Tree}
 use Rattle.xmi_profile.specs.declared.element.Element.{Element}
-use Rattle.xmi_profile.specs.declared.fault.Externs.{Externs}
-use Rattle.xmi_profile.specs.declared.fault.ModelFault.{ModelFault}
-use Rattle.xmi_profile.specs.declared.fault.ModelFault.TheVariants as faults
+use Rattle.model_assembly.specs.declared.fault.Externs.{Externs}
+use Rattle.model_assembly.specs.declared.fault.ModelFault.{ModelFault}
+use Rattle.model_assembly.specs.declared.fault.ModelFault.TheVariants as faults
 use Rattle.xmi_profile.specs.declared.fault.XmiError.{XmiError}
 use Rattle.xmi_profile.specs.declared.fault.XmiError.TheVariants as errors
 use Rattle.xmi_profile.specs.declared.objects.Objects.{Objects}
-use Rattle.xmi_profile.specs.declared.filed.Filed.{Filed}
-use Rattle.xmi_profile.specs.Faults.{StandsAt}
-use Rattle.xmi_profile.specs.Filed.{IsFiled}
+use Rattle.model_assembly.specs.declared.filed.Filed.{Filed}
+use Rattle.model_assembly.specs.Faults.{StandsAt}
+use Rattle.model_assembly.specs.Filed.{IsFiled}
 use Rattle.xmi_profile.specs.Judging.{Found, first_of, first_fault}
 use Rattle.xmi_profile.specs.Listing.{Listing, element_of}
 use Rattle.xmi_profile.specs.Numbering.{Numbers, no_numbers, numbered, all_numbered}
 use Rattle.xmi_profile.specs.Reads.{source_of, IsRefused}
 use Rattle.xmi_profile.specs.Scanning.{IsWithin}
-use Rattle.xmi_profile.specs.SoundFiled.{IsSoundFiled}
-use Rattle.xmi_profile.specs.Source.{all_items, all_ids, object_count}
+use Rattle.model_assembly.specs.SoundFiled.{IsSoundFiled}
+use Rattle.model_assembly.specs.Source.{all_items, all_ids, object_count}
 
 abbrev pub fault_in : Option Found → Option ModelFault
 fault_in None = None

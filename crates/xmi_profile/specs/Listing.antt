@@ -4,12 +4,13 @@ use Rattle.std.specs.Option.{option_and_then}
 use Rattle.mof_metamodel.specs.declared.desc.MetaDesc.{MetaDesc}
 use Rattle.object_tables.specs.Lists.{update_at}
 use Rattle.xmi_text.specs.Trees.{Nodes, Ends, Run, Element as Inner, Event, Opens, Says, Closes}
-use Rattle.xmi_profile.specs.declared.fault.Externs.{Externs}
+use Rattle.model_assembly.specs.declared.fault.Externs.{Externs}
 use Rattle.xmi_profile.specs.declared.element.Element.{Element}
-use Rattle.xmi_profile.specs.Attributes.{Attrs}
-use Rattle.xmi_profile.specs.Elements.{Item, Role, role_of_root, role_in, number_in, inner_place, behind_place}
+use Rattle.model_assembly.specs.Attributes.{Attrs}
+use Rattle.model_assembly.specs.declared.role.Role.{Role}
+use Rattle.model_assembly.specs.Elements.{Item, role_of_root, role_in, number_in, inner_place, behind_place}
 use Rattle.xmi_profile.specs.Scanning.{IsWithin}
-use Rattle.xmi_profile.specs.Values.{is_all_blank}
+use Rattle.model_assembly.specs.Values.{is_all_blank}
 
 -- Elements
 

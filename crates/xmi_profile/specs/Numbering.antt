@@ -6,14 +6,14 @@ use Rattle.mof_metamodel.specs.declared.desc.MetaDesc.{MetaDesc}
 use Rattle.mof_metamodel.specs.Characters.{same_name}
 use Rattle.mof_metamodel.specs.NameTables.{NamesWith, value_of, with_value}
 use Rattle.xmi_profile.specs.declared.element.Element.{Element}
-use Rattle.xmi_profile.specs.declared.fault.ModelFault.TheVariants as faults
+use Rattle.model_assembly.specs.declared.fault.ModelFault.TheVariants as faults
 use Rattle.xmi_profile.specs.declared.names.Own.TheVariants as owns
-use Rattle.xmi_profile.specs.Attributes.{value_where}
-use Rattle.xmi_profile.specs.Elements.{object_of}
+use Rattle.model_assembly.specs.Attributes.{value_where}
+use Rattle.model_assembly.specs.Elements.{object_of}
 use Rattle.xmi_profile.specs.Firsts.{FirstIn, Duplicates}
 use Rattle.xmi_profile.specs.Judging.{Found, found_at, first_of, place_of}
 use Rattle.xmi_profile.specs.Scanning.{is_own}
-use Rattle.xmi_profile.specs.Source.{Source, given_id, all_ids, uses, primitive_class}
+use Rattle.model_assembly.specs.Source.{Source, given_id, all_ids, uses, primitive_class}
 
 abbrev pub is_object_element : Element → Bool
 is_object_element e = is_some (object_of e.role)

@@ -5,12 +5,12 @@ use Rattle.object_tables.specs.Models.{ModelData}
 use Rattle.xmi_text.specs.Faults as markup
 use Rattle.xmi_text.specs.Markup.{Markup}
 use Rattle.xmi_text.specs.Trees.{Tree}
-use Rattle.xmi_profile.specs.declared.fault.Externs.{Externs}
-use Rattle.xmi_profile.specs.declared.fault.ModelFault.{ModelFault}
+use Rattle.model_assembly.specs.declared.fault.Externs.{Externs}
+use Rattle.model_assembly.specs.declared.fault.ModelFault.{ModelFault}
 use Rattle.xmi_profile.specs.declared.fault.XmiError.{XmiError}
 use Rattle.xmi_profile.specs.declared.fault.XmiError.TheVariants as errors
-use Rattle.xmi_profile.specs.FirstFault.{IsFirstFault, IsModel}
-use Rattle.xmi_profile.specs.Source.{Source}
+use Rattle.model_assembly.specs.FirstFault.{IsFirstFault, IsModel}
+use Rattle.model_assembly.specs.Source.{Source}
 
 -- a tree, read by a metamodel
 abbrev pub source_of : MetaDesc → Externs → Tree → Source

@@ -4,12 +4,15 @@ use Rattle.xmi_profile.specs.declared.names.Own.{Own}
 use Rattle.xmi_profile.specs.declared.names.Own.TheVariants as owns
 use Rattle.mof_metamodel.specs.declared.desc.MetaDesc.{MetaDesc}
 use Rattle.mof_metamodel.specs.Metamodels.{class_count, prop_count}
-use Rattle.xmi_profile.specs.declared.fault.Externs.{Externs}
-use Rattle.xmi_profile.specs.Elements.{Role, Document, Skipped, AnObject, AValue, AReference, Neither, Alien, Stranger, Misplaced}
-use Rattle.xmi_profile.specs.References.{Target, Named, Nowhere, extern_target}
+use Rattle.model_assembly.specs.declared.fault.Externs.{Externs}
+use Rattle.model_assembly.specs.declared.role.Role.{Role}
+use Rattle.model_assembly.specs.declared.role.Role.TheVariants.{Document, Skipped, AnObject, AValue, AReference, Neither, Alien, Stranger, Misplaced}
+use Rattle.model_assembly.specs.declared.target.Target.{Target}
+use Rattle.model_assembly.specs.declared.target.Target.TheVariants.{Named, Nowhere}
+use Rattle.model_assembly.specs.References.{extern_target}
 use Rattle.xmi_text.specs.declared.mark.Attr.{Attr}
 use Rattle.xmi_text.specs.Trees.{pair_of}
-use Rattle.xmi_profile.specs.Attributes.{Attrs, is_id_name, is_type_name, is_idref_name, is_nil_name, is_href_name}
+use Rattle.model_assembly.specs.Attributes.{Attrs, is_id_name, is_type_name, is_idref_name, is_nil_name, is_href_name}
 
 -- the name of an attribute that is one of these
 abbrev pub is_own : Own → List ℕ → Bool

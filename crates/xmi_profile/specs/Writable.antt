@@ -11,9 +11,9 @@ use Rattle.object_tables.specs.Models.{ModelData, object_at, values_at, partners
 use Rattle.object_tables.specs.declared.value.ObjId.{ObjId}
 use Rattle.xmi_text.specs.Writing.{Written, is_empty, is_inside, may_open, may_attr}
 use Rattle.xmi_text.specs.Calls.{Call, Open, Attr, Data, Close, Declare, Line, after_call, wrote}
-use Rattle.xmi_profile.specs.declared.form.Form.{Form}
-use Rattle.xmi_profile.specs.declared.form.Form.TheVariants as forms
-use Rattle.xmi_profile.specs.Profile.{prop_name, id_text, object_props, is_part}
+use Rattle.model_assembly.specs.declared.form.Form.{Form}
+use Rattle.model_assembly.specs.declared.form.Form.TheVariants as forms
+use Rattle.model_assembly.specs.Profile.{prop_name, id_text, object_props, is_part}
 use Rattle.xmi_profile.specs.Canon.{value_text, value_element, child_calls, depth_over, object_calls, top_calls}
 
 -- a call may come: the writer's conditions are met

@@ -8,12 +8,12 @@ use Rattle.object_tables.specs.declared.value.Value.{Value}
 use Rattle.object_tables.specs.Models.{ModelData, values_at, partners_at}
 use Rattle.xmi_text.specs.Trees.{Nodes, Ends, Run, Element, Tree}
 use Rattle.xmi_text.specs.Writing.{line_end}
-use Rattle.xmi_profile.specs.declared.form.Form.{Form}
-use Rattle.xmi_profile.specs.declared.form.Form.TheVariants as forms
-use Rattle.xmi_profile.specs.Attributes.{Attrs}
+use Rattle.model_assembly.specs.declared.form.Form.{Form}
+use Rattle.model_assembly.specs.declared.form.Form.TheVariants as forms
+use Rattle.model_assembly.specs.Attributes.{Attrs}
 use Rattle.xmi_profile.specs.Canon.{value_text, spaced, typed_name, depth_over, top_numbers}
-use Rattle.xmi_profile.specs.Forms.{form_of}
-use Rattle.xmi_profile.specs.Profile.{xmi_namespace, xmi_version, xmi_document, xmi_id, xmi_type, prop_name, id_text, object_props}
+use Rattle.model_assembly.specs.Forms.{form_of}
+use Rattle.model_assembly.specs.Profile.{xmi_namespace, xmi_version, xmi_document, xmi_id, xmi_type, prop_name, id_text, object_props}
 
 -- Attributes
 

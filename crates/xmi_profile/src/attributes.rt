@@ -1,6 +1,6 @@
 ghost use Rattle.std.specs.Prelude.{◌≡◌, List, map, length, chars, option_copied, option_map, IsTrue, is_some};
 ghost use Rattle.xmi_text.specs.Trees.{pair_of};
-ghost use Rattle.xmi_profile.specs.Attributes as names;
+ghost use Rattle.model_assembly.specs.Attributes as names;
 ghost use Rattle.xmi_profile.specs.Scanning.{is_own, number_from, number_where, pairs_of};
 
 use crate::names::{Own, is_named, is_own};

@@ -4,7 +4,7 @@ ghost use Rattle.xmi_profile.specs.Scanning.{is_own};
 
 use crate::attributes::Attributes;
 use crate::names::Own;
-use crate::role::Role;
+use model_assembly::Role;
 use mof_metamodel::Text;
 
 /// What is kept of an element: its place, what it is, its name and attributes, the characters directly in it, the place of

@@ -1,12 +1,12 @@
 ghost use Rattle.std.specs.Prelude.{All, map, Option, None};
-ghost use Rattle.xmi_profile.specs.Elements.{Item};
-ghost use Rattle.xmi_profile.specs.Faults.{StandsAt};
+ghost use Rattle.model_assembly.specs.Elements.{Item};
+ghost use Rattle.model_assembly.specs.Faults.{StandsAt};
 ghost use Rattle.xmi_profile.specs.Firsts.{FirstIn, Duplicates};
 ghost use Rattle.xmi_profile.specs.Judging.{Found, first_of, first_fault};
 ghost use Rattle.xmi_profile.specs.Listing.{element_of};
 ghost use Rattle.xmi_profile.specs.Numbering.{NumbersOf, all_numbered};
 ghost use Rattle.xmi_profile.specs.Scanning.{IsWithin};
-ghost use Rattle.xmi_profile.specs.Source.{Source, all_items, file_ids};
+ghost use Rattle.model_assembly.specs.Source.{Source, all_items, file_ids};
 
 /// The first of what is found of a tree's identifiers and of its elements is the first fault that stands at a place.
 pub(crate) fn first_faults_stand()

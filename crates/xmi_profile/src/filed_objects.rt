@@ -4,12 +4,12 @@ ghost use Rattle.xmi_profile.specs.Known.{ReadsFiled};
 
 use crate::element::Element;
 use crate::fault::XmiError;
-use crate::filed::Filed;
 use crate::filing::{Filer, Writings};
 use crate::judging::class_by;
 use crate::numbering::primitive_class;
 use crate::objects::{Objects, read_objects};
 use crate::roles::Profile;
+use model_assembly::Filed;
 use mof_metamodel::{ClassId, NoMemory, Seq, Text, or_drop};
 use std::alloc::Global;
 

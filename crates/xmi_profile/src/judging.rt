@@ -1,21 +1,20 @@
 ghost use Rattle.std.specs.Prelude.{◌≡◌, ◌<◌, ◌+◌, ◌^◌, All, IfOk, IfSome, Some, chars};
-ghost use Rattle.mof_metamodel.specs.declared.desc.PropType.TheVariants as types;
 ghost use Rattle.mof_metamodel.specs.Metamodels.{prop_count, class_count, type_of};
 ghost use Rattle.xmi_profile.specs.declared.element.Element.{Element};
-ghost use Rattle.xmi_profile.specs.declared.fault.ModelFault.TheVariants as faults;
-ghost use Rattle.xmi_profile.specs.Elements.{attr_place};
-ghost use Rattle.xmi_profile.specs.FirstFault as kinds;
-ghost use Rattle.xmi_profile.specs.Judged as judged;
+ghost use Rattle.model_assembly.specs.declared.fault.ModelFault.TheVariants as faults;
+ghost use Rattle.model_assembly.specs.AssemblyFirsts.{conforms_to};
+ghost use Rattle.model_assembly.specs.Elements.{attr_place};
+ghost use Rattle.model_assembly.specs.FirstFault as kinds;
+ghost use Rattle.model_assembly.specs.Judged as judged;
 ghost use Rattle.xmi_profile.specs.Judging as judging;
 ghost use Rattle.xmi_profile.specs.Scanning.{IsWithin, HasProperty, pairs_of};
 
 use crate::attributes::Attributes;
 use crate::element::Element;
-use crate::fault::ModelFault;
 use crate::lexical::value_of;
 use crate::names::{Own, is_kept_name, is_own, is_passed_name};
 use crate::numbering::{given_id, printed_id};
-use crate::role::{ObjectRole, Role};
+use model_assembly::{ModelFault, ObjectRole, Role, conforms_to};
 use mof_metamodel::{ClassId, MetaModel, NoMemory, PropId, PropType, Text, is_identifier, or_drop};
 use std::alloc::Global;
 use xmi_text::Attr;
@@ -155,14 +154,6 @@ fn attr_found(element: &Element, number: usize, fault: ModelFault) -> Found
 {
     let place = element.place + number as u128 + 1;
     Found { place, fault }
-}
-
-/// Whether a class conforms to another.
-pub(crate) fn conforms_to(meta: &MetaModel, class: ClassId, d: ClassId) -> bool
-    requires { class.0 < class_count meta.now }
-    ensures { result ≡ judging.conforms_to meta.now class.0 (Some (types.Class d)) }
-{
-    meta.conforms(class, d)
 }
 
 impl<'m> Judge<'m> {
@@ -372,7 +363,7 @@ impl<'m> Judge<'m> {
     fn is_of_type(&self, class: ClassId, p: PropId) -> bool
         requires class { class.0 < class_count self.now.meta.now }
         requires within { p.0 < prop_count self.now.meta.now }
-        ensures { result ≡ judging.conforms_to self.now.meta.now class.0 (type_of self.now.meta.now p.0) }
+        ensures { result ≡ conforms_to self.now.meta.now class.0 (type_of self.now.meta.now p.0) }
     {
         match self.meta.prop(p).ty {
             PropType::Class(d) => conforms_to(self.meta, class, d),

@@ -4,9 +4,10 @@ ghost use Rattle.mof_metamodel.specs.declared.desc.PropType.TheVariants as types
 ghost use Rattle.mof_metamodel.specs.Metamodels.{enum_count, IsTypeOf};
 ghost use Rattle.mof_metamodel.specs.WellMeta.{is_digit as digit};
 ghost use Rattle.xmi_profile.specs.Lexical as lexical;
-ghost use Rattle.xmi_profile.specs.Values as texts;
+ghost use Rattle.model_assembly.specs.Values as texts;
 
-use crate::names::{empty_text, is_named};
+use crate::names::is_named;
+use model_assembly::empty_text;
 use mof_metamodel::{EnumId, MetaModel, NoMemory, PropType, Text, is_blank_character};
 use object_tables::Value;
 use std::alloc::Global;

@@ -2,16 +2,12 @@
 #![tactic(auto)]
 
 mod answer_laws;
-mod assembly;
 mod attributes;
 mod element;
 mod fault;
 mod fault_laws;
-mod filed;
 mod filed_objects;
 mod filing;
-mod form;
-mod held;
 mod judging;
 mod lexical;
 mod listing;
@@ -23,20 +19,14 @@ mod names;
 mod numbering;
 mod objects;
 mod reading;
-mod role;
 mod roles;
-mod target;
 mod targets;
 mod words;
 mod writing;
 mod writing_laws;
 
 pub use answer_laws::{files_are_answered, one_fault};
-pub use assembly::{AssemblyError, assemble};
-pub use fault::{Externs, ModelFault, XmiError};
-pub use filed::{Filed, Mention, WrittenReference, WrittenValue};
-pub use form::Form;
-pub use held::models_are_held;
+pub use fault::XmiError;
 pub use model_reader::ModelReader;
 pub use model_reading::read_model;
 pub use writing::write_model;

@@ -1,16 +1,16 @@
 ghost use Rattle.std.specs.Prelude.{◌≡◌, ◌<◌, ◌≤◌, ◌+◌, ◌^◌, List, [], length, chars, IfOk, IfSome, OnOk, All};
 ghost use Rattle.object_tables.specs.Lists.{update_at};
-ghost use Rattle.xmi_profile.specs.Elements.{number_in};
+ghost use Rattle.model_assembly.specs.Elements.{number_in};
 ghost use Rattle.xmi_profile.specs.Listing as lists;
 ghost use Rattle.xmi_profile.specs.Listing.{IsSound};
 ghost use Rattle.xmi_profile.specs.Scanning.{IsWithin, pairs_of};
-ghost use Rattle.xmi_profile.specs.Values as texts;
+ghost use Rattle.model_assembly.specs.Values as texts;
 
 use crate::attributes::Attributes;
 use crate::element::Element;
-use crate::names::{empty_text, is_all_blank};
-use crate::role::Role;
+use crate::names::is_all_blank;
 use crate::roles::Profile;
+use model_assembly::{Role, empty_text};
 use mof_metamodel::{NoMemory, Seq, Text, or_drop};
 use std::alloc::Global;
 use std::marker::Model;

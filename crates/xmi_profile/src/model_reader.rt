@@ -1,8 +1,9 @@
 ghost use Rattle.std.specs.Prelude.{◌≡◌, [], ◌++◌, OnOk, OnErr};
 ghost use Rattle.xmi_profile.specs.Reads.{Reads};
 
-use crate::fault::{Externs, XmiError};
+use crate::fault::XmiError;
 use crate::model_reading::read_model;
+use model_assembly::Externs;
 use mof_metamodel::{MetaModel, NoMemory};
 use object_tables::Model;
 use std::alloc::Global;

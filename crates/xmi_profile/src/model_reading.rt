@@ -1,9 +1,9 @@
 ghost use Rattle.xmi_profile.specs.Reads.{Reads};
 
-use crate::assembly::assemble;
-use crate::fault::{Externs, XmiError};
+use crate::fault::XmiError;
 use crate::filed_objects::read_filed;
 use crate::roles::Profile;
+use model_assembly::{Externs, assemble};
 use mof_metamodel::MetaModel;
 use object_tables::Model;
 use std::alloc::Global;

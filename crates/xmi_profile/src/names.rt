@@ -1,19 +1,13 @@
-ghost use Rattle.std.specs.Prelude.{◌≡◌, [], chars, codes, IfOk};
+ghost use Rattle.std.specs.Prelude.{◌≡◌, chars, codes, IfOk};
 ghost use Rattle.mof_metamodel.specs.Characters.{same_name};
-ghost use Rattle.xmi_profile.specs.Attributes as names;
+ghost use Rattle.model_assembly.specs.Attributes as names;
 ghost use Rattle.xmi_text.specs.Markup.{begins};
 ghost use Rattle.xmi_profile.specs.Scanning as scanning;
-ghost use Rattle.xmi_profile.specs.Values as texts;
+ghost use Rattle.model_assembly.specs.Values as texts;
 
+use model_assembly::empty_text;
 use mof_metamodel::{NoMemory, Text, is_blank_character};
 use std::alloc::Global;
-
-/// A text without a character.
-pub(crate) fn empty_text(alloc: Global) -> Text
-    ensures { result ≡ [] }
-{
-    Text::from_string(String::new(alloc))
-}
 
 /// An attribute of XMI's namespace or of schema instances that says something (XMI 2.5.1, 7.6), or `href`.
 #[derive(Clone, Copy)]

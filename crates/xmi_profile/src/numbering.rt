@@ -5,15 +5,13 @@ ghost use Rattle.mof_metamodel.specs.NameTables.{value_of};
 ghost use Rattle.xmi_profile.specs.declared.element.Element.{Element};
 ghost use Rattle.xmi_profile.specs.Judging as judging;
 ghost use Rattle.xmi_profile.specs.Numbering as numbers;
-ghost use Rattle.xmi_profile.specs.Source as sources;
+ghost use Rattle.model_assembly.specs.Source as sources;
 
 use crate::element::Element;
-use crate::fault::ModelFault;
 use crate::judging::{Found, first_of};
 use crate::names::{Own, is_named};
-use crate::role::Role;
 use crate::roles::{Profile, concrete_class};
-use crate::target::Target;
+use model_assembly::{ModelFault, Role, Target};
 use mof_metamodel::{MetaModel, NameTable, NoMemory, Seq, Text, is_identifier, or_drop};
 use std::alloc::Global;
 use std::marker::Model;

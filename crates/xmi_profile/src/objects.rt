@@ -6,12 +6,13 @@ ghost use Rattle.xmi_profile.specs.Listing.{AreKnown};
 ghost use Rattle.xmi_profile.specs.Numbering.{no_numbers, numbered, all_numbered};
 
 use crate::element::Element;
-use crate::fault::{ModelFault, XmiError};
+use crate::fault::XmiError;
 use crate::judging::{Found, Judge, first_of};
 use crate::listing::Listing;
 use crate::numbering::{Numbers, numbered};
 use crate::reading::read_listing;
 use crate::roles::Profile;
+use model_assembly::ModelFault;
 use mof_metamodel::{NoMemory, Text, or_drop};
 use object_tables::{LimitKind, MAX_OBJECTS};
 

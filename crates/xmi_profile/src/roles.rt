@@ -2,17 +2,15 @@ ghost use Rattle.std.specs.Prelude.{◌≡◌, ◌<◌, ◌↔◌, chars, option
 ghost use Rattle.mof_metamodel.specs.declared.desc.MetaDesc.{MetaDesc};
 ghost use Rattle.mof_metamodel.specs.Metamodels.{class_count, prop_count, type_of, IsProp};
 ghost use Rattle.object_tables.specs.Models.{is_class_type};
-ghost use Rattle.xmi_profile.specs.Elements as elements;
-ghost use Rattle.xmi_profile.specs.Profile as words;
-ghost use Rattle.xmi_profile.specs.References as references;
+ghost use Rattle.model_assembly.specs.Elements as elements;
+ghost use Rattle.model_assembly.specs.Profile as words;
+ghost use Rattle.model_assembly.specs.References as references;
 ghost use Rattle.xmi_profile.specs.Scanning.{IsWithin, HasProperty};
 
 use crate::attributes::Attributes;
-use crate::fault::Externs;
 use crate::names::{Own, is_alien_name, is_document_name, is_skipped_name, local_part};
-use crate::role::{ObjectRole, Role};
-use crate::target::Target;
 use crate::targets::href_target;
+use model_assembly::{Externs, ObjectRole, Role, Target};
 use mof_metamodel::{ClassId, MetaModel, NoMemory, PropId, PropType, Text};
 use std::alloc::Global;
 

@@ -1,10 +1,9 @@
 ghost use Rattle.std.specs.Prelude.{◌≡◌, chars, IfOk};
-ghost use Rattle.xmi_profile.specs.References as references;
+ghost use Rattle.model_assembly.specs.References as references;
 ghost use Rattle.xmi_profile.specs.Scanning as scanning;
 
-use crate::fault::Externs;
 use crate::names::{begins_with_hash, behind, is_named};
-use crate::target::Target;
+use model_assembly::{Externs, Target};
 use mof_metamodel::{NoMemory, Text};
 use std::alloc::Global;
 

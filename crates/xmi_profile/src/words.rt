@@ -1,9 +1,9 @@
 ghost use Rattle.std.specs.Prelude.{◌≡◌, ◌++◌, ◌∷◌, [], chars, IfOk, OnOk};
 ghost use Rattle.std.specs.List.{fold};
-ghost use Rattle.xmi_profile.specs.References as references;
+ghost use Rattle.model_assembly.specs.References as references;
 ghost use Rattle.xmi_profile.specs.WordList as lists;
 
-use crate::names::empty_text;
+use model_assembly::empty_text;
 use mof_metamodel::{NoMemory, Seq, Text, is_blank_character};
 use std::alloc::Global;
 use std::marker::Model;

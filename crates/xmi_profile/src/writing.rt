@@ -4,7 +4,7 @@ ghost use Rattle.object_tables.specs.Models.{IsLive};
 ghost use Rattle.object_tables.specs.Containment.{IsDepth};
 ghost use Rattle.object_tables.specs.Validity.{Valid};
 ghost use Rattle.xmi_text.specs.Calls.{wrote};
-ghost use Rattle.xmi_profile.specs.Profile as profile;
+ghost use Rattle.model_assembly.specs.Profile as profile;
 ghost use Rattle.xmi_profile.specs.Canon as canon;
 ghost use Rattle.xmi_profile.specs.Writable.{CanWrite, calls_at, is_top_object};
 

@@ -12,22 +12,22 @@ ghost use Rattle.object_tables.specs.Models.{ModelData, IsLive, is_value_of, liv
 ghost use Rattle.object_tables.specs.Sameness.{IsSame};
 ghost use Rattle.object_tables.specs.Validity.{Valid};
 ghost use Rattle.xmi_text.specs.Markup.{Markup};
-ghost use Rattle.xmi_profile.specs.declared.fault.Externs.{Externs};
-ghost use Rattle.xmi_profile.specs.declared.fault.Externs.TheVariants as externs;
-ghost use Rattle.xmi_profile.specs.declared.fault.ModelFault.{ModelFault};
+ghost use Rattle.model_assembly.specs.declared.fault.Externs.{Externs};
+ghost use Rattle.model_assembly.specs.declared.fault.Externs.TheVariants as externs;
+ghost use Rattle.model_assembly.specs.declared.fault.ModelFault.{ModelFault};
 ghost use Rattle.xmi_profile.specs.Canon.{spaced, value_text, canon_bytes};
-ghost use Rattle.xmi_profile.specs.Content.{Content};
-ghost use Rattle.xmi_profile.specs.Elements.{concrete_class};
-ghost use Rattle.xmi_profile.specs.Held.{IsHeld, IsHeldModel, MayBeWritten};
-ghost use Rattle.xmi_profile.specs.Profile.{class_name, prop_name};
+ghost use Rattle.model_assembly.specs.Content.{Content};
+ghost use Rattle.model_assembly.specs.Elements.{concrete_class};
+ghost use Rattle.model_assembly.specs.Held.{IsHeld, IsHeldModel, MayBeWritten};
+ghost use Rattle.model_assembly.specs.Profile.{class_name, prop_name};
 ghost use Rattle.xmi_profile.specs.Reads.{IsRefused, Spells};
-ghost use Rattle.xmi_profile.specs.References.{words};
-ghost use Rattle.xmi_profile.specs.Source.{Source};
-ghost use Rattle.xmi_profile.specs.Values.{value_of};
+ghost use Rattle.model_assembly.specs.References.{words};
+ghost use Rattle.model_assembly.specs.Source.{Source};
+ghost use Rattle.model_assembly.specs.Values.{value_of};
 ghost use Rattle.xmi_profile.specs.WrittenOrder.{written_order};
 ghost use Rattle.xmi_profile.specs.WrittenTree.{written_tree};
 
-use crate::held::models_are_held;
+use model_assembly::models_are_held;
 use object_tables::Model;
 
 /// What is written of a model is read as the same model, and as no other (XMI 2.5.1, clauses 7 and 9).

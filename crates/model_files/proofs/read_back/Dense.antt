@@ -15,16 +15,15 @@ use Rattle.object_tables.specs.Objects.{Object}
 use Rattle.object_tables.specs.Sameness.{IsSame}
 use Rattle.object_tables.specs.Validity.{Valid}
 use Rattle.object_tables.proofs.ModelLemmas.{live_from_id}
-use Rattle.xmi_profile.specs.declared.form.Form.{Form}
-use Rattle.xmi_profile.specs.declared.form.Form.TheVariants as forms
-use Rattle.xmi_profile.specs.Forms.{form_of}
-use Rattle.xmi_profile.specs.Held.{IsHeld, IsHeldText, IsHeldModel}
-use Rattle.xmi_profile.specs.Profile.{prop_name, id_or_none, id_text, name_or_none, class_text, props_or_none, object_props, live_numbers}
-use Rattle.xmi_profile.proofs.SeenLaws.{in_cons}
+use Rattle.model_assembly.specs.declared.form.Form.{Form}
+use Rattle.model_assembly.specs.declared.form.Form.TheVariants as forms
+use Rattle.model_assembly.specs.Forms.{form_of}
+use Rattle.model_assembly.specs.Held.{IsHeld, IsHeldText, IsHeldModel}
+use Rattle.model_assembly.specs.Profile.{prop_name, id_or_none, id_text, name_or_none, class_text, props_or_none, object_props, live_numbers}
+use Rattle.model_assembly.proofs.assembling.ListLaws.{in_cons, contains_tail}
 use Rattle.mof_metamodel.proofs.Facts.{nothing_in}
-use Rattle.xmi_profile.proofs.WritingCalls.{contains_tail}
 use Rattle.mof_metamodel.proofs.Facts.{contains_first}
-use Rattle.xmi_profile.proofs.WritingParts.{kept_in, numbered, known}
+use Rattle.model_assembly.proofs.WritingParts.{kept_in, numbered, known}
 use Rattle.xmi_profile.proofs.written.Known.{partner_live}
 use Rattle.xmi_profile.proofs.written.Reading.{live_count_is}
 use Rattle.xmi_profile.proofs.written.Reordered as orders

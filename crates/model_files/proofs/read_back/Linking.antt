@@ -18,20 +18,20 @@ use Rattle.object_tables.specs.Validity.{Valid, IsPropertyOf}
 use Rattle.object_tables.proofs.ContainmentLemmas.{live-below}
 use Rattle.object_tables.proofs.ListLemmas.{Contains-from_map}
 use Rattle.object_tables.proofs.ModelLemmas.{live_class, live_from_class}
-use Rattle.xmi_profile.specs.declared.form.Form.{Form}
-use Rattle.xmi_profile.specs.declared.form.Form.TheVariants as forms
-use Rattle.xmi_profile.specs.Content.{Content, written_values}
-use Rattle.xmi_profile.specs.Elements.{concrete_class}
-use Rattle.xmi_profile.specs.Forms.{form_of}
-use Rattle.xmi_profile.specs.Held.{IsHeldModel}
-use Rattle.xmi_profile.specs.Links.{is_some_target, speaks, Names}
-use Rattle.xmi_profile.specs.Profile.{id_text, class_text, object_props, props_or_none, live_numbers}
-use Rattle.xmi_profile.specs.declared.fault.Externs.TheVariants as externs
-use Rattle.xmi_profile.specs.References.{fragment_target}
-use Rattle.xmi_profile.specs.Source.{Source, attr_text, all_ids, all_classes, object_count, id_of, class_of, targets_of, element_targets, targets_at, number_of, target_number, named_at}
-use Rattle.xmi_profile.specs.Values.{without_repeats}
+use Rattle.model_assembly.specs.declared.form.Form.{Form}
+use Rattle.model_assembly.specs.declared.form.Form.TheVariants as forms
+use Rattle.model_assembly.specs.Content.{Content, written_values}
+use Rattle.model_assembly.specs.Elements.{concrete_class}
+use Rattle.model_assembly.specs.Forms.{form_of}
+use Rattle.model_assembly.specs.Held.{IsHeldModel}
+use Rattle.model_assembly.specs.Links.{is_some_target, speaks, Names}
+use Rattle.model_assembly.specs.Profile.{id_text, class_text, object_props, props_or_none, live_numbers}
+use Rattle.model_assembly.specs.declared.fault.Externs.TheVariants as externs
+use Rattle.model_assembly.specs.References.{fragment_target}
+use Rattle.model_assembly.specs.Source.{Source, attr_text, all_ids, all_classes, object_count, id_of, class_of, targets_of, element_targets, targets_at, number_of, target_number, named_at}
+use Rattle.model_assembly.specs.Values.{without_repeats}
 use Rattle.mof_metamodel.proofs.Facts.{nothing_in}
-use Rattle.xmi_profile.proofs.WritingCalls.{contains_tail}
+use Rattle.model_assembly.proofs.assembling.ListLaws.{contains_tail}
 use Rattle.mof_metamodel.proofs.Facts.{contains_first}
 use Rattle.xmi_profile.proofs.WritingForms.{class_typed, is_reference}
 use Rattle.xmi_profile.proofs.written.Items.{class_is}

@@ -21,16 +21,16 @@ use Rattle.object_tables.specs.Containment.{IsDepth}
 use Rattle.object_tables.specs.Models.{ModelData, object_at, class_at, values_at, partners_at, live_count, IsLive}
 use Rattle.object_tables.specs.Validity.{Valid}
 use Rattle.object_tables.proofs.ModelLemmas.{live_class}
-use Rattle.xmi_profile.specs.declared.fault.ModelFault.{ModelFault}
-use Rattle.xmi_profile.specs.declared.fault.ModelFault.TheVariants as faults
-use Rattle.xmi_profile.specs.declared.form.Form.{Form}
-use Rattle.xmi_profile.specs.declared.form.Form.TheVariants as forms
-use Rattle.xmi_profile.specs.Elements.{concrete_class}
-use Rattle.xmi_profile.specs.Forms.{form_of}
-use Rattle.xmi_profile.specs.Held.{IsHeldText, IsHeld, IsHeldModel}
-use Rattle.xmi_profile.specs.Profile.{prop_name, id_text, class_text, object_props, live_numbers}
-use Rattle.xmi_profile.specs.Source.{proper}
-use Rattle.xmi_profile.proofs.WritingCalls.{contains_tail}
+use Rattle.model_assembly.specs.declared.fault.ModelFault.{ModelFault}
+use Rattle.model_assembly.specs.declared.fault.ModelFault.TheVariants as faults
+use Rattle.model_assembly.specs.declared.form.Form.{Form}
+use Rattle.model_assembly.specs.declared.form.Form.TheVariants as forms
+use Rattle.model_assembly.specs.Elements.{concrete_class}
+use Rattle.model_assembly.specs.Forms.{form_of}
+use Rattle.model_assembly.specs.Held.{IsHeldText, IsHeld, IsHeldModel}
+use Rattle.model_assembly.specs.Profile.{prop_name, id_text, class_text, object_props, live_numbers}
+use Rattle.model_assembly.specs.Source.{proper}
+use Rattle.model_assembly.proofs.assembling.ListLaws.{contains_tail}
 use Rattle.mof_metamodel.proofs.Facts.{contains_first}
 use Rattle.xmi_profile.proofs.WritingModels.{filtered}
 use Rattle.xmi_profile.proofs.written.Documents.{id_held, class_held}

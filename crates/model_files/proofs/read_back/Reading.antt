@@ -5,8 +5,8 @@ use Rattle.mof_metamodel.specs.declared.desc.MetaDesc.{MetaDesc}
 use Rattle.object_tables.specs.Models.{ModelData}
 use Rattle.object_tables.specs.Sameness.{IsSame}
 use Rattle.object_tables.proofs.SamenessLemmas.{same_back, same_through}
-use Rattle.xmi_profile.specs.declared.fault.Externs.TheVariants as externs
-use Rattle.xmi_profile.specs.Held.{MayBeWritten}
+use Rattle.model_assembly.specs.declared.fault.Externs.TheVariants as externs
+use Rattle.model_assembly.specs.Held.{MayBeWritten}
 use Rattle.model_files.specs.declared.fault.FileError.{FileError}
 use Rattle.model_files.specs.declared.file_form.Form.TheVariants as forms
 use Rattle.model_files.specs.CanonJson.{canon_json, model_data}

@@ -24,13 +24,13 @@ use Rattle.object_tables.specs.declared.value.Value.TheVariants as values
 use Rattle.object_tables.specs.Containment.{IsDepth}
 use Rattle.object_tables.specs.Models.{ModelData, class_at, values_at, partners_at, is_class_type, is_value_of, IsLive, IsAttributeOf}
 use Rattle.object_tables.specs.Validity.{Valid, IsPropertyOf}
-use Rattle.xmi_profile.specs.declared.form.Form.{Form}
-use Rattle.xmi_profile.specs.declared.form.Form.TheVariants as forms
-use Rattle.xmi_profile.specs.Forms.{form_of}
-use Rattle.xmi_profile.specs.Held.{IsHeldText, IsHeld, HasHeldNames, IsHeldModel}
-use Rattle.xmi_profile.specs.Profile.{prop_name, id_text, object_props, props_or_none}
-use Rattle.xmi_profile.specs.Values as texts
-use Rattle.xmi_profile.proofs.WritingCalls.{contains_tail}
+use Rattle.model_assembly.specs.declared.form.Form.{Form}
+use Rattle.model_assembly.specs.declared.form.Form.TheVariants as forms
+use Rattle.model_assembly.specs.Forms.{form_of}
+use Rattle.model_assembly.specs.Held.{IsHeldText, IsHeld, HasHeldNames, IsHeldModel}
+use Rattle.model_assembly.specs.Profile.{prop_name, id_text, object_props, props_or_none}
+use Rattle.model_assembly.specs.Values as texts
+use Rattle.model_assembly.proofs.assembling.ListLaws.{contains_tail}
 use Rattle.mof_metamodel.proofs.Facts.{contains_first}
 use Rattle.xmi_profile.proofs.WritingForms.{class_typed}
 use Rattle.xmi_profile.proofs.WritingModels.{property_of}
@@ -43,8 +43,8 @@ use Rattle.xmi_profile.proofs.written.Ordering.{object_props_once, once_behind, 
 use Rattle.xmi_profile.proofs.written.Values.{value_read}
 use Rattle.model_files.specs.CanonJson.{value_data, partner_data, data_by, slot_data, with_slot, with_slots, slots_data}
 use Rattle.model_files.specs.JsonContent.{items_list, in_list, slots_list, text_value, value_of, is_reference, may_stand, unless, wrong_in, wrong_at, wrong_slots}
-use Rattle.xmi_profile.specs.declared.fault.ModelFault.{ModelFault}
-use Rattle.xmi_profile.specs.declared.fault.ModelFault.TheVariants as faults
+use Rattle.model_assembly.specs.declared.fault.ModelFault.{ModelFault}
+use Rattle.model_assembly.specs.declared.fault.ModelFault.TheVariants as faults
 use Rattle.model_files.proofs.read_back.Members.{EachMember, put_each, AreInOrder, put_order, IsSpelled, AreSpelled, each_member, each_slot}
 
 -- ---- lists

@@ -17,13 +17,13 @@ use Rattle.object_tables.specs.declared.value.Value.{Value}
 use Rattle.object_tables.specs.Containment.{IsDepth}
 use Rattle.object_tables.specs.Models.{ModelData, class_at, values_at, is_class_type, IsLive, IsAttributeOf}
 use Rattle.object_tables.specs.Validity.{Valid}
-use Rattle.xmi_profile.specs.declared.form.Form.{Form}
-use Rattle.xmi_profile.specs.declared.form.Form.TheVariants as forms
-use Rattle.xmi_profile.specs.Forms.{form_of}
-use Rattle.xmi_profile.specs.Held.{IsHeldModel}
-use Rattle.xmi_profile.specs.Profile.{object_props}
-use Rattle.xmi_profile.specs.Source.{is_at}
-use Rattle.xmi_profile.proofs.WritingCalls.{contains_tail}
+use Rattle.model_assembly.specs.declared.form.Form.{Form}
+use Rattle.model_assembly.specs.declared.form.Form.TheVariants as forms
+use Rattle.model_assembly.specs.Forms.{form_of}
+use Rattle.model_assembly.specs.Held.{IsHeldModel}
+use Rattle.model_assembly.specs.Profile.{object_props}
+use Rattle.model_assembly.specs.Source.{is_at}
+use Rattle.model_assembly.proofs.assembling.ListLaws.{contains_tail}
 use Rattle.mof_metamodel.proofs.Facts.{contains_first}
 use Rattle.xmi_profile.proofs.WritingForms.{class_typed}
 use Rattle.model_files.specs.CanonJson.{value_data, data_by, slot_data, slots_data}

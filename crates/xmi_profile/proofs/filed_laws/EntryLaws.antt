@@ -12,19 +12,23 @@ use Rattle.mof_metamodel.specs.Metamodels.{prop_number, props_of, type_of}
 use Rattle.object_tables.specs.Models.{is_class_type}
 use Rattle.object_tables.specs.declared.value.Value.{Value}
 use Rattle.xmi_profile.specs.declared.element.Element.{Element}
-use Rattle.xmi_profile.specs.declared.filed.Mention.{Mention}
-use Rattle.xmi_profile.specs.declared.filed.WrittenReference.{WrittenReference}
-use Rattle.xmi_profile.specs.declared.filed.WrittenValue.{WrittenValue}
-use Rattle.xmi_profile.specs.Attributes.{Attrs, is_nil}
-use Rattle.xmi_profile.specs.Elements as elements
-use Rattle.xmi_profile.specs.Elements.{Item, Role, ObjectRole, object_of}
-use Rattle.xmi_profile.specs.Filed.{value_at, filed_values, reference_at, filed_references}
+use Rattle.model_assembly.specs.declared.filed.Mention.{Mention}
+use Rattle.model_assembly.specs.declared.filed.WrittenReference.{WrittenReference}
+use Rattle.model_assembly.specs.declared.filed.WrittenValue.{WrittenValue}
+use Rattle.model_assembly.specs.Attributes.{Attrs, is_nil}
+use Rattle.model_assembly.specs.declared.role.Role.TheVariants as elements
+use Rattle.model_assembly.specs.declared.role.Role.{Role}
+use Rattle.model_assembly.specs.declared.role.ObjectRole.{ObjectRole}
+use Rattle.model_assembly.specs.Elements.{Item, object_of}
+use Rattle.model_assembly.specs.Filed.{value_at, filed_values, reference_at, filed_references}
 use Rattle.xmi_profile.specs.Filing.{Writings, number_by, text_by, written_reference, with_target, with_words, mention_of, with_mention, written_value, with_value_if, with_value, with_text, is_met, met_with, with_attr, with_attrs, with_attrs_by, with_own_attrs, with_all_attrs, with_inner, with_part, with_element, with_elements, is_name_prop, with_name, with_names, with_added}
 use Rattle.xmi_profile.specs.Listing.{element_of}
 use Rattle.xmi_profile.specs.Numbering.{Numbers}
-use Rattle.xmi_profile.specs.References.{Target, Named, Contained, attribute_targets, words}
-use Rattle.xmi_profile.specs.Source.{is_at}
-use Rattle.xmi_profile.specs.Values.{value_of}
+use Rattle.model_assembly.specs.declared.target.Target.{Target}
+use Rattle.model_assembly.specs.declared.target.Target.TheVariants.{Named, Contained}
+use Rattle.model_assembly.specs.References.{attribute_targets, words}
+use Rattle.model_assembly.specs.Source.{is_at}
+use Rattle.model_assembly.specs.Values.{value_of}
 use Rattle.xmi_profile.proofs.SeenLaws.{kept, element_kept}
 use Rattle.mof_metamodel.proofs.Facts.{second_true, first_true}
 

@@ -9,34 +9,39 @@ use Rattle.object_tables.specs.declared.limit.TheConstants.{MAX_OBJECTS}
 use Rattle.mof_metamodel.specs.Characters.{same_name, is_identifier_text}
 use Rattle.mof_metamodel.specs.NameTables.{value_of as number_named}
 use Rattle.xmi_profile.specs.declared.element.Element.{Element}
-use Rattle.xmi_profile.specs.declared.fault.Externs.{Externs}
-use Rattle.xmi_profile.specs.declared.fault.ModelFault.{ModelFault}
-use Rattle.xmi_profile.specs.declared.fault.ModelFault.TheVariants as faults
+use Rattle.model_assembly.specs.declared.fault.Externs.{Externs}
+use Rattle.model_assembly.specs.declared.fault.ModelFault.{ModelFault}
+use Rattle.model_assembly.specs.declared.fault.ModelFault.TheVariants as faults
 use Rattle.xmi_profile.specs.declared.fault.XmiError.{XmiError}
 use Rattle.xmi_profile.specs.declared.fault.XmiError.TheVariants as errors
-use Rattle.xmi_profile.specs.declared.filed.Filed.{Filed}
+use Rattle.model_assembly.specs.declared.filed.Filed.{Filed}
 use Rattle.xmi_profile.specs.declared.objects.Objects.{Objects}
-use Rattle.xmi_profile.specs.Elements.{Item, Role, ObjectRole, Document, Skipped, AnObject, AValue, AReference, Neither, Alien, Stranger, Misplaced, object_of, object_items, concrete}
-use Rattle.xmi_profile.specs.Faults.{StandsAt}
-use Rattle.xmi_profile.specs.Filed.{IsFiled}
+use Rattle.model_assembly.specs.declared.role.Role.{Role}
+use Rattle.model_assembly.specs.declared.role.ObjectRole.{ObjectRole}
+use Rattle.model_assembly.specs.declared.role.Role.TheVariants.{Document, Skipped, AnObject, AValue, AReference, Neither, Alien, Stranger, Misplaced}
+use Rattle.model_assembly.specs.Elements.{Item, object_of, object_items, concrete}
+use Rattle.model_assembly.specs.Faults.{StandsAt}
+use Rattle.model_assembly.specs.Filed.{IsFiled}
 use Rattle.xmi_profile.specs.Filing.{Writings, no_writings, class_id, with_class, with_classes, with_class_each, filed_of, IsSmallTarget, IsSmall, AreFew, AreFileable}
 use Rattle.xmi_profile.specs.Judging.{class_by}
-use Rattle.xmi_profile.specs.Judged.{IsAlien, type_place}
+use Rattle.model_assembly.specs.Judged.{IsAlien, type_place}
 use Rattle.xmi_profile.specs.Known.{AreObjects, AreFiled, ReadsObjects, ReadsFiled}
 use Rattle.xmi_profile.specs.Listing.{element_of}
 use Rattle.xmi_profile.specs.Reads.{source_of}
 use Rattle.xmi_profile.specs.Scanning.{IsWithin}
 use Rattle.mof_metamodel.specs.declared.desc.ClassId.{ClassId}
 use Rattle.mof_metamodel.specs.Metamodels.{type_of, class_count, class_at, class_number}
-use Rattle.xmi_profile.specs.SoundFiled.{IsTyped, HasInstances, IsSoundFiled}
+use Rattle.model_assembly.specs.SoundFiled.{IsTyped, HasInstances, IsSoundFiled}
 use Rattle.object_tables.specs.Models.{is_class_type}
-use Rattle.xmi_profile.specs.References.{Target, Named, Extern, Contained, Nowhere}
-use Rattle.xmi_profile.specs.Source.{Source, all_items, all_ids, file_ids, all_classes, added_names, item_class, class_in, primitive_class}
+use Rattle.model_assembly.specs.declared.target.Target.{Target}
+use Rattle.model_assembly.specs.declared.target.Target.TheVariants.{Named, Extern, Contained, Nowhere}
+use Rattle.model_assembly.specs.Source.{Source, all_items, all_ids, file_ids, all_classes, added_names, item_class, class_in, primitive_class}
 use Rattle.xmi_profile.proofs.filed_laws.FiledLaws.{all_entries, class_by_is, KnownItem, IsKnownClass, ids_length, count, more_ids, more_is, written, count_is, lists_are_filed}
 use Rattle.xmi_profile.proofs.filed_laws.IdentifierLaws.{ids_proper, ids_distinct}
-use Rattle.xmi_profile.proofs.filed_laws.PlaceLaws.{IsNoPart, IsOwned, IsConcrete, IsPlaced, IsParent, placed_tree}
+use Rattle.model_assembly.proofs.PlaceLaws.{IsNoPart, IsOwned, IsConcrete, IsPlaced, IsParent, placed_tree}
 use Rattle.xmi_profile.proofs.Positions.{position_is, first_passes}
-use Rattle.xmi_profile.proofs.SeenLaws.{element_kept, in_tail}
+use Rattle.xmi_profile.proofs.SeenLaws.{element_kept}
+use Rattle.model_assembly.proofs.assembling.ListLaws.{in_tail}
 use Rattle.mof_metamodel.proofs.Facts.{contains_first}
 use Rattle.xmi_profile.proofs.filed_laws.StorableLaws.{Stored, stored_tree}
 use Rattle.xmi_profile.proofs.filed_laws.TypedLaws.{entries_typed, all_stored, added_names_stored}

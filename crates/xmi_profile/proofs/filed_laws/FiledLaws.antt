@@ -16,27 +16,32 @@ use Rattle.object_tables.specs.Models.{is_class_type}
 use Rattle.object_tables.specs.declared.value.Value.{Value}
 use Rattle.object_tables.specs.declared.value.Value.TheVariants as values
 use Rattle.xmi_profile.specs.declared.element.Element.{Element}
-use Rattle.xmi_profile.specs.declared.filed.Filed.{Filed}
-use Rattle.xmi_profile.specs.declared.filed.WrittenReference.{WrittenReference}
-use Rattle.xmi_profile.specs.Attributes.{is_nil}
-use Rattle.xmi_profile.specs.Content.{values_of, written_values}
-use Rattle.xmi_profile.specs.Elements.{Item, Role, ObjectRole, Document, Skipped, AnObject, AValue, AReference, Neither, Alien, Stranger, Misplaced, object_of, object_items}
-use Rattle.xmi_profile.specs.Filed.{IsAttributeIn, filed_values, reference_at, filed_references, reference_of, IsSaid, by_target, by_mention, IsFiled}
+use Rattle.model_assembly.specs.declared.filed.Filed.{Filed}
+use Rattle.model_assembly.specs.declared.filed.WrittenReference.{WrittenReference}
+use Rattle.model_assembly.specs.Attributes.{is_nil}
+use Rattle.model_assembly.specs.Content.{values_of, written_values}
+use Rattle.model_assembly.specs.declared.role.Role.{Role}
+use Rattle.model_assembly.specs.declared.role.ObjectRole.{ObjectRole}
+use Rattle.model_assembly.specs.declared.role.Role.TheVariants.{Document, Skipped, AnObject, AValue, AReference, Neither, Alien, Stranger, Misplaced}
+use Rattle.model_assembly.specs.Elements.{Item, object_of, object_items}
+use Rattle.model_assembly.specs.Filed.{IsAttributeIn, filed_values, reference_at, filed_references, reference_of, IsSaid, by_target, by_mention, IsFiled}
 use Rattle.xmi_profile.specs.Filing.{Writings, no_writings, class_id, with_class, with_classes, with_class_each, with_elements, with_added_by, all_writings, filed_of, is_name_prop}
 use Rattle.xmi_profile.specs.Judging.{class_by}
-use Rattle.xmi_profile.specs.Links.{is_some_target, speaks}
+use Rattle.model_assembly.specs.Links.{is_some_target, speaks}
 use Rattle.xmi_profile.specs.Listing.{element_of}
 use Rattle.xmi_profile.specs.Numbering.{Numbers}
-use Rattle.xmi_profile.specs.Profile.{props_or_none}
-use Rattle.xmi_profile.specs.References.{Target, Named, Extern, Contained, Nowhere}
-use Rattle.xmi_profile.specs.Source.{Source, all_items, class_in, item_class, ids_from, file_ids, is_added, added_names, primitive_class, all_ids, all_classes, object_count, id_of, class_of, attr_of, attr_text, listed, text_in, uses, is_at, is_value_at, element_text, texts_at, targets_of, element_targets, targets_at, number_of}
-use Rattle.xmi_profile.specs.Values.{value_of, without_repeats}
+use Rattle.model_assembly.specs.Profile.{props_or_none}
+use Rattle.model_assembly.specs.declared.target.Target.{Target}
+use Rattle.model_assembly.specs.declared.target.Target.TheVariants.{Named, Extern, Contained, Nowhere}
+use Rattle.model_assembly.specs.Source.{Source, all_items, class_in, item_class, ids_from, file_ids, is_added, added_names, primitive_class, all_ids, all_classes, object_count, id_of, class_of, attr_of, attr_text, listed, text_in, uses, is_at, is_value_at, element_text, texts_at, targets_of, element_targets, targets_at, number_of}
+use Rattle.model_assembly.specs.Values.{value_of, without_repeats}
 use Rattle.xmi_profile.proofs.filed_laws.EntryLaws.{Said, Entry, with_entries, entries-append, all_attr_entries, element_entries, added_entries, all_attrs_filed, elements_filed, added_filed, said_at, said-append, all_texts, all_targets, has_attr, is_mention_at, reference_pair, values_filed, references_filed, mentions_filed}
 use Rattle.xmi_profile.proofs.filed_laws.NamedLaws.{name_values}
-use Rattle.xmi_profile.proofs.filed_laws.PlaceLaws.{IsOwned, IsPlaced, IsParent, AreNumberedFrom, placed_tree}
+use Rattle.model_assembly.proofs.PlaceLaws.{IsOwned, IsPlaced, IsParent, AreNumberedFrom, placed_tree}
 use Rattle.xmi_profile.proofs.filed_laws.PlacedLaws.{IsEntry, AreAt, ValueAt, ReferenceAt, MentionAt, nothing_at, entries_at, all_attrs_are, elements_are, added_are}
 use Rattle.xmi_profile.proofs.filed_laws.SaidLaws.{attr_said, attr_texts, attr_targets, attr_is, attrs_at, texts-append, targets-append, attr-append, elements_texts, elements_targets, elements_attr, added_targets, added_attr, added_before, added_at}
-use Rattle.xmi_profile.proofs.SeenLaws.{element_kept, in_tail, in_cons}
+use Rattle.xmi_profile.proofs.SeenLaws.{element_kept}
+use Rattle.model_assembly.proofs.assembling.ListLaws.{in_tail, in_cons}
 use Rattle.mof_metamodel.proofs.Facts.{contains_first}
 use Rattle.mof_metamodel.proofs.Facts.{nothing_in}
 

@@ -15,15 +15,18 @@ use Rattle.std.proofs.lemmas.Str.Parse.{IsDigitsTest, numerals_by_value}
 use Rattle.object_tables.specs.declared.limit.TheConstants.{MAX_OBJECTS}
 use Rattle.mof_metamodel.specs.Characters.{same_name, is_blank, is_storable_character, is_storable_text, is_identifier_text}
 use Rattle.mof_metamodel.proofs.SearchLemmas.{true_same}
-use Rattle.xmi_profile.specs.declared.fault.ModelFault.{ModelFault}
-use Rattle.xmi_profile.specs.declared.fault.ModelFault.TheVariants as faults
-use Rattle.xmi_profile.specs.Attributes.{written_id}
-use Rattle.xmi_profile.specs.Elements.{Item, Role, ObjectRole, Document, Skipped, AnObject, AValue, AReference, Neither, Alien, Stranger, Misplaced, object_of, is_object, object_items}
-use Rattle.xmi_profile.specs.Faults.{StandsAt}
-use Rattle.xmi_profile.specs.Judged.{IsWrong, id_place}
-use Rattle.xmi_profile.specs.Source.{Source, all_items, given_id, ids_from, file_ids, is_added, added_names, all_ids, object_count, uses, primitive_class}
+use Rattle.model_assembly.specs.declared.fault.ModelFault.{ModelFault}
+use Rattle.model_assembly.specs.declared.fault.ModelFault.TheVariants as faults
+use Rattle.model_assembly.specs.Attributes.{written_id}
+use Rattle.model_assembly.specs.declared.role.Role.{Role}
+use Rattle.model_assembly.specs.declared.role.ObjectRole.{ObjectRole}
+use Rattle.model_assembly.specs.declared.role.Role.TheVariants.{Document, Skipped, AnObject, AValue, AReference, Neither, Alien, Stranger, Misplaced}
+use Rattle.model_assembly.specs.Elements.{Item, object_of, is_object, object_items}
+use Rattle.model_assembly.specs.Faults.{StandsAt}
+use Rattle.model_assembly.specs.Judged.{IsWrong, id_place}
+use Rattle.model_assembly.specs.Source.{Source, all_items, given_id, ids_from, file_ids, is_added, added_names, all_ids, object_count, uses, primitive_class}
 use Rattle.xmi_profile.proofs.filed_laws.FiledLaws.{get_right, in_any}
-use Rattle.xmi_profile.proofs.SeenLaws.{in_tail}
+use Rattle.model_assembly.proofs.assembling.ListLaws.{in_tail}
 use Rattle.mof_metamodel.proofs.Facts.{contains_first}
 use Rattle.mof_metamodel.proofs.Facts.{contains_at}
 

@@ -12,13 +12,13 @@ use Rattle.mof_metamodel.proofs.SearchLemmas.{true_same}
 use Rattle.object_tables.specs.declared.value.Value.{Value}
 use Rattle.object_tables.specs.declared.value.Value.TheVariants as values
 use Rattle.object_tables.specs.Models.{is_class_type}
-use Rattle.xmi_profile.specs.Content.{is_string}
+use Rattle.model_assembly.specs.Content.{is_string}
 use Rattle.xmi_profile.specs.Filing.{is_name_prop}
-use Rattle.xmi_profile.specs.Profile.{prop_name}
-use Rattle.xmi_profile.specs.Source.{is_at}
-use Rattle.xmi_profile.specs.Values.{value_of, unmet, without_repeats}
+use Rattle.model_assembly.specs.Profile.{prop_name}
+use Rattle.model_assembly.specs.Source.{is_at}
+use Rattle.model_assembly.specs.Values.{value_of, unmet, without_repeats}
 use Rattle.xmi_profile.proofs.filed_laws.EntryLaws.{OfInner, name_entries_if, name_entries, said_if, said_at, all_texts, at_property}
-use Rattle.xmi_profile.proofs.SeenLaws.{in_cons}
+use Rattle.model_assembly.proofs.assembling.ListLaws.{in_cons}
 use Rattle.mof_metamodel.proofs.Facts.{nothing_in}
 use Rattle.mof_metamodel.proofs.Facts.{second_true}
 

@@ -18,16 +18,16 @@ use Rattle.xmi_text.specs.declared.error.TextFault.{TextFault}
 use Rattle.xmi_text.proofs.backward.Whole.{whole_markup}
 use Rattle.xmi_text.proofs.faults.FirstFault.{told_first}
 use Rattle.xmi_profile.specs.declared.element.Element.{Element}
-use Rattle.xmi_profile.specs.declared.fault.Externs.{Externs}
-use Rattle.xmi_profile.specs.declared.fault.ModelFault.{ModelFault}
-use Rattle.xmi_profile.specs.declared.fault.ModelFault.TheVariants as faults
+use Rattle.model_assembly.specs.declared.fault.Externs.{Externs}
+use Rattle.model_assembly.specs.declared.fault.ModelFault.{ModelFault}
+use Rattle.model_assembly.specs.declared.fault.ModelFault.TheVariants as faults
 use Rattle.xmi_profile.specs.declared.objects.Objects.{Objects}
 use Rattle.xmi_profile.specs.declared.fault.XmiError.{XmiError}
 use Rattle.xmi_profile.specs.declared.fault.XmiError.TheVariants as errors
 use Rattle.xmi_profile.specs.Bytes.{listing_of, unless_fault, error_of, text_fault}
-use Rattle.xmi_profile.specs.Elements.{Item}
-use Rattle.xmi_profile.specs.Faults.{StandsAt}
-use Rattle.xmi_profile.specs.FirstFault.{IsFirstAt, IsFirstFault}
+use Rattle.model_assembly.specs.Elements.{Item}
+use Rattle.model_assembly.specs.Faults.{StandsAt}
+use Rattle.model_assembly.specs.FirstFault.{IsFirstAt, IsFirstFault}
 use Rattle.xmi_profile.specs.Firsts.{FirstIn, IsFound}
 use Rattle.xmi_profile.specs.Judging.{Found, first_of, first_fault}
 use Rattle.xmi_profile.specs.Known.{AreObjects, Answers, ReadsObjects, fault_in, fault_of, told, judged, with_listing, unless_fault as unless_told}
@@ -35,7 +35,7 @@ use Rattle.xmi_profile.specs.Listing.{Listing, AreKnown, element_of, listed, not
 use Rattle.xmi_profile.specs.Numbering.{Numbers, no_numbers, numbered, all_numbered}
 use Rattle.xmi_profile.specs.Reads.{source_of, IsRefused}
 use Rattle.xmi_profile.specs.Scanning.{IsWithin}
-use Rattle.xmi_profile.specs.Source.{Source, all_items, all_ids, object_count}
+use Rattle.model_assembly.specs.Source.{Source, all_items, all_ids, object_count}
 use Rattle.xmi_profile.proofs.ExternLaws.{numbers_of_all}
 use Rattle.xmi_profile.proofs.FaultLaws.{all_first}
 use Rattle.xmi_profile.proofs.ListedDocuments.{listed_document}

@@ -9,19 +9,24 @@ use Rattle.mof_metamodel.proofs.MetaLaws.{prop_named}
 use Rattle.object_tables.specs.Models.{is_class_type}
 use Rattle.object_tables.specs.declared.value.Value.{Value}
 use Rattle.xmi_profile.specs.declared.element.Element.{Element}
-use Rattle.xmi_profile.specs.declared.filed.Mention.{Mention}
-use Rattle.xmi_profile.specs.declared.filed.WrittenReference.{WrittenReference}
-use Rattle.xmi_profile.specs.declared.filed.WrittenValue.{WrittenValue}
-use Rattle.xmi_profile.specs.Attributes.{Attrs, is_nil}
-use Rattle.xmi_profile.specs.Elements.{Item, Role, Document, Skipped, AnObject, AValue, AReference, Neither, Alien, Stranger, Misplaced}
+use Rattle.model_assembly.specs.declared.filed.Mention.{Mention}
+use Rattle.model_assembly.specs.declared.filed.WrittenReference.{WrittenReference}
+use Rattle.model_assembly.specs.declared.filed.WrittenValue.{WrittenValue}
+use Rattle.model_assembly.specs.Attributes.{Attrs, is_nil}
+use Rattle.model_assembly.specs.declared.role.Role.{Role}
+use Rattle.model_assembly.specs.declared.role.Role.TheVariants.{Document, Skipped, AnObject, AValue, AReference, Neither, Alien, Stranger, Misplaced}
+use Rattle.model_assembly.specs.Elements.{Item}
 use Rattle.xmi_profile.specs.Filing.{Writings, no_writings, number_by, text_by, written_reference, with_target, with_words, mention_of, with_mention, written_value, with_value_if, with_value, is_met, met_with, is_name_prop}
 use Rattle.xmi_profile.specs.Numbering.{Numbers}
-use Rattle.xmi_profile.specs.References.{Target, Named, Contained, words}
-use Rattle.xmi_profile.specs.Values.{value_of}
+use Rattle.model_assembly.specs.declared.target.Target.{Target}
+use Rattle.model_assembly.specs.declared.target.Target.TheVariants.{Named, Contained}
+use Rattle.model_assembly.specs.References.{words}
+use Rattle.model_assembly.specs.Values.{value_of}
 use Rattle.xmi_profile.proofs.filed_laws.EntryLaws.{Said, OfAttr, OfInner, OfTarget, Entry, entry, with_said, with_entries, attr_entries_if, attr_entry, attr_entries, own_entries_by, own_entries, all_attr_entries, inner_entries, part_entries, role_entries, element_entries, name_entries_if, name_entries, added_entries}
 use Rattle.xmi_profile.proofs.filed_laws.NamedLaws.{name_is_attribute}
-use Rattle.xmi_profile.proofs.filed_laws.PlaceLaws.{IsOwned, IsPlaced, IsParent}
-use Rattle.xmi_profile.proofs.SeenLaws.{kept, in_tail}
+use Rattle.model_assembly.proofs.PlaceLaws.{IsOwned, IsPlaced, IsParent}
+use Rattle.xmi_profile.proofs.SeenLaws.{kept}
+use Rattle.model_assembly.proofs.assembling.ListLaws.{in_tail}
 use Rattle.mof_metamodel.proofs.Facts.{contains_first}
 
 -- ---- what entries may be, given which objects have which properties

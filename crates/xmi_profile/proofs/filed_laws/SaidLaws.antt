@@ -7,14 +7,18 @@ use Rattle.std.proofs.lemmas.List.Elements.{filter_map-append}
 use Rattle.mof_metamodel.specs.declared.desc.MetaDesc.{MetaDesc}
 use Rattle.mof_metamodel.specs.Metamodels.{prop_number, props_of}
 use Rattle.xmi_profile.specs.declared.element.Element.{Element}
-use Rattle.xmi_profile.specs.Attributes.{Attrs, later, first_attr, value_where, is_nil}
-use Rattle.xmi_profile.specs.Elements.{Item, Role, ObjectRole, Document, Skipped, AnObject, AValue, AReference, Neither, Alien, Stranger, Misplaced, object_of, object_items}
+use Rattle.model_assembly.specs.Attributes.{Attrs, later, first_attr, value_where, is_nil}
+use Rattle.model_assembly.specs.declared.role.Role.{Role}
+use Rattle.model_assembly.specs.declared.role.ObjectRole.{ObjectRole}
+use Rattle.model_assembly.specs.declared.role.Role.TheVariants.{Document, Skipped, AnObject, AValue, AReference, Neither, Alien, Stranger, Misplaced}
+use Rattle.model_assembly.specs.Elements.{Item, object_of, object_items}
 use Rattle.xmi_profile.specs.Filing.{is_met, met_with, is_name_prop}
-use Rattle.xmi_profile.specs.References.{Target, Contained}
-use Rattle.xmi_profile.specs.Source.{class_in, is_number, attr_in, attr_of, listed, is_at, is_value_at, element_text, target_if, part_target, element_target_at, targets_of}
+use Rattle.model_assembly.specs.declared.target.Target.{Target}
+use Rattle.model_assembly.specs.declared.target.Target.TheVariants.{Contained}
+use Rattle.model_assembly.specs.Source.{class_in, is_number, attr_in, attr_of, listed, is_at, is_value_at, element_text, target_if, part_target, element_target_at, targets_of}
 use Rattle.xmi_profile.proofs.filed_laws.EntryLaws.{Said, OfAttr, OfInner, OfTarget, Entry, entry, attr_entries_if, attr_entry, attr_entries, own_entries_by, own_entries_of, own_entries, all_attr_entries, part_entries, role_entries, element_entries, name_entries_if, name_entries, added_entries, said_if, said_at, said-append, all_texts, all_targets, has_attr, said_texts, said_targets, is_attr}
 use Rattle.xmi_profile.proofs.filed_laws.MetLaws.{met_push, equal_swap}
-use Rattle.xmi_profile.proofs.filed_laws.PlaceLaws.{IsNumbered, AreNumberedFrom}
+use Rattle.model_assembly.proofs.PlaceLaws.{IsNumbered, AreNumberedFrom}
 use Rattle.xmi_profile.proofs.SeenLaws.{kept}
 use Rattle.mof_metamodel.proofs.Facts.{or_false}
 use Rattle.std.proofs.lemmas.Option.{none-some}

@@ -10,10 +10,11 @@ use Rattle.mof_metamodel.specs.declared.desc.MetaDesc.{MetaDesc}
 use Rattle.mof_metamodel.specs.Characters.{is_storable_character, is_storable_text}
 use Rattle.xmi_text.specs.Markup.{line_ends, spaced, Reference, Amp, Lt, Gt, Quot, Apos, Decimal, Hexadecimal, is_digit, is_hexadecimal_digit, number, referred, is_number, is_reference, ValuePart, Literal, Named, part_value, is_value_character, is_part, value_of, Attribute, pair, AreAttributes, Piece, Characters, Referred, Cdata, Comment, Instruction, StartTag, EmptyTag, EndTag, said, is_content_character, IsPiece, open_behind, Closing, IsRoot, all_said, say, joined_runs, Markup}
 use Rattle.xmi_text.specs.Trees.{Nodes, Ends, Run, Element, Tree, Event, Opens, Says, Closes, events_of, events}
-use Rattle.xmi_profile.specs.declared.fault.Externs.{Externs}
-use Rattle.xmi_profile.specs.Attributes.{Attrs}
-use Rattle.xmi_profile.specs.Elements.{Item, Role, role_of_root, role_in, number_in, number_behind, inner_place, behind_place, items_in, items}
-use Rattle.xmi_profile.specs.Source.{text_in}
+use Rattle.model_assembly.specs.declared.fault.Externs.{Externs}
+use Rattle.model_assembly.specs.Attributes.{Attrs}
+use Rattle.model_assembly.specs.declared.role.Role.{Role}
+use Rattle.model_assembly.specs.Elements.{Item, role_of_root, role_in, number_in, number_behind, inner_place, behind_place, items_in, items}
+use Rattle.model_assembly.specs.Source.{text_in}
 use Rattle.mof_metamodel.proofs.Facts.{first_true, second_true}
 
 abbrev pub Stored : List ℕ → Type 0

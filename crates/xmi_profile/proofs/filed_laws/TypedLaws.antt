@@ -14,15 +14,18 @@ use Rattle.object_tables.specs.declared.value.Value.{Value}
 use Rattle.object_tables.specs.declared.value.Value.TheVariants as values
 use Rattle.object_tables.specs.Models.{is_class_type, is_value_of}
 use Rattle.xmi_profile.specs.declared.element.Element.{Element}
-use Rattle.xmi_profile.specs.declared.filed.WrittenValue.{WrittenValue}
-use Rattle.xmi_profile.specs.Attributes.{Attrs, is_nil}
-use Rattle.xmi_profile.specs.Elements.{Item, Role, ObjectRole, Document, Skipped, AnObject, AValue, AReference, Neither, Alien, Stranger, Misplaced, object_of}
-use Rattle.xmi_profile.specs.SoundFiled.{IsTyped}
+use Rattle.model_assembly.specs.declared.filed.WrittenValue.{WrittenValue}
+use Rattle.model_assembly.specs.Attributes.{Attrs, is_nil}
+use Rattle.model_assembly.specs.declared.role.Role.{Role}
+use Rattle.model_assembly.specs.declared.role.ObjectRole.{ObjectRole}
+use Rattle.model_assembly.specs.declared.role.Role.TheVariants.{Document, Skipped, AnObject, AValue, AReference, Neither, Alien, Stranger, Misplaced}
+use Rattle.model_assembly.specs.Elements.{Item, object_of}
+use Rattle.model_assembly.specs.SoundFiled.{IsTyped}
 use Rattle.xmi_profile.specs.Filing.{Writings, with_mention, written_value, with_value_if, with_value, with_words, is_met, met_with, is_name_prop}
 use Rattle.xmi_profile.specs.Numbering.{Numbers}
-use Rattle.xmi_profile.specs.References.{words}
-use Rattle.xmi_profile.specs.Source.{Source, is_added, added_names, primitive_class}
-use Rattle.xmi_profile.specs.Values.{value_of, integer_of, boolean_of, trimmed}
+use Rattle.model_assembly.specs.References.{words}
+use Rattle.model_assembly.specs.Source.{Source, is_added, added_names, primitive_class}
+use Rattle.model_assembly.specs.Values.{value_of, integer_of, boolean_of, trimmed}
 use Rattle.xmi_profile.proofs.filed_laws.EntryLaws.{Said, OfAttr, OfInner, OfTarget, Entry, entry, with_said, with_entries, words_values, attr_entries_if, attr_entry, attr_entries, own_entries_by, own_entries_of, own_entries, all_attr_entries, inner_entries, part_entries, role_entries, element_entries, name_entries_if, name_entries, added_entries}
 use Rattle.xmi_profile.proofs.filed_laws.FiledLaws.{added_by, all_entries}
 use Rattle.xmi_profile.proofs.SeenLaws.{kept}

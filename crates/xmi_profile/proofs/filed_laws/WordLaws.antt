@@ -4,7 +4,7 @@ use Rattle.std.specs.Prelude.{◌==◌, if◌then◌else◌}
 use Rattle.std.specs.List.{fold}
 use Rattle.std.proofs.lemmas.Bool.{ne_eqb}
 use Rattle.mof_metamodel.specs.Characters.{is_blank}
-use Rattle.xmi_profile.specs.References.{with_word, words_behind, words}
+use Rattle.model_assembly.specs.References.{with_word, words_behind, words}
 use Rattle.xmi_profile.specs.WordList.{Words, ended, words_on}
 
 has_character : (c : ℕ) (t : List ℕ) → (length (c ∷ t) == 0) ≡ false

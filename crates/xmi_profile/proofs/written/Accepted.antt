@@ -12,15 +12,15 @@ use Rattle.xmi_text.specs.Markup.{Markup}
 use Rattle.xmi_text.specs.Trees.{Tree}
 use Rattle.xmi_text.proofs.forward.Spelled.{markup_spelled}
 use Rattle.xmi_text.proofs.reading.Staying.{one_spelled}
-use Rattle.xmi_profile.specs.declared.fault.Externs.TheVariants as externs
-use Rattle.xmi_profile.specs.declared.fault.ModelFault.{ModelFault}
-use Rattle.xmi_profile.specs.declared.fault.ModelFault.TheVariants as faults
+use Rattle.model_assembly.specs.declared.fault.Externs.TheVariants as externs
+use Rattle.model_assembly.specs.declared.fault.ModelFault.{ModelFault}
+use Rattle.model_assembly.specs.declared.fault.ModelFault.TheVariants as faults
 use Rattle.xmi_profile.specs.Canon.{canon_bytes}
-use Rattle.xmi_profile.specs.Content.{Content}
-use Rattle.xmi_profile.specs.FirstFault.{IsFirstAt, IsFirstBy, IsInvalid, IsTooDeep, IsFirstFault}
-use Rattle.xmi_profile.specs.Held.{MayBeWritten}
+use Rattle.model_assembly.specs.Content.{Content}
+use Rattle.model_assembly.specs.FirstFault.{IsFirstAt, IsFirstBy, IsInvalid, IsTooDeep, IsFirstFault}
+use Rattle.model_assembly.specs.Held.{MayBeWritten}
 use Rattle.xmi_profile.specs.Reads.{IsRefused, source_of}
-use Rattle.xmi_profile.specs.Source.{Source}
+use Rattle.model_assembly.specs.Source.{Source}
 use Rattle.xmi_profile.specs.WrittenTree.{written_tree}
 use Rattle.xmi_profile.proofs.written.Documents.{canon_markup}
 use Rattle.xmi_profile.proofs.written.Faultless.{faultless}

@@ -17,15 +17,16 @@ use Rattle.xmi_text.specs.Markup.{Markup}
 use Rattle.xmi_text.specs.Trees.{Tree, events}
 use Rattle.xmi_text.specs.Writing.{Written, nothing, is_whole}
 use Rattle.xmi_text.proofs.writing.Written.{scalars-append, written_markup}
-use Rattle.xmi_profile.specs.declared.form.Form.{Form}
-use Rattle.xmi_profile.specs.declared.form.Form.TheVariants as forms
+use Rattle.model_assembly.specs.declared.form.Form.{Form}
+use Rattle.model_assembly.specs.declared.form.Form.TheVariants as forms
 use Rattle.xmi_profile.specs.Canon.{value_text, spaced_behind, typed_name, value_attr, partners_attr, attr_by, attr_calls, tag_calls, value_element, children_by, child_calls, ended, depth_over, object_calls, top_calls, top_numbers, head, foot, canon_calls, canon_bytes}
-use Rattle.xmi_profile.specs.Forms.{form_of}
-use Rattle.xmi_profile.specs.Held.{IsHeldText, IsHeld, IsHeldModel}
-use Rattle.xmi_profile.specs.Profile.{prop_name, id_or_none, id_text, name_or_none, class_text, object_props}
+use Rattle.model_assembly.specs.Forms.{form_of}
+use Rattle.model_assembly.specs.Held.{IsHeldText, IsHeld, IsHeldModel}
+use Rattle.model_assembly.specs.Profile.{prop_name, id_or_none, id_text, name_or_none, class_text, object_props}
 use Rattle.xmi_profile.specs.Writable.{CanWrite}
 use Rattle.xmi_profile.specs.WrittenTree.{written_tree}
-use Rattle.xmi_profile.proofs.WritingCalls.{can_both, contains_tail}
+use Rattle.xmi_profile.proofs.WritingCalls.{can_both}
+use Rattle.model_assembly.proofs.assembling.ListLaws.{contains_tail}
 use Rattle.mof_metamodel.proofs.Facts.{contains_first}
 use Rattle.xmi_profile.proofs.WritingModels.{AreCanonSteps, canon_steps}
 use Rattle.xmi_profile.proofs.written.Meaning.{tree_meant}

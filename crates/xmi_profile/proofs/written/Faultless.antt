@@ -19,28 +19,28 @@ use Rattle.object_tables.proofs.ListLemmas.{Contains-from_map}
 use Rattle.object_tables.proofs.ModelLemmas.{live_class, live_from_class, same_class}
 use Rattle.xmi_text.specs.Trees.{Nodes, Ends, Run, Element}
 use Rattle.xmi_text.specs.Writing.{line_end}
-use Rattle.xmi_profile.specs.declared.fault.ModelFault.{ModelFault}
-use Rattle.xmi_profile.specs.declared.fault.ModelFault.TheVariants as faults
-use Rattle.xmi_profile.specs.declared.form.Form.{Form}
-use Rattle.xmi_profile.specs.declared.form.Form.TheVariants as forms
-use Rattle.xmi_profile.specs.Attributes.{Attrs, value_where, is_id_name, is_type_name, is_idref_name, is_nil_name, is_kept_name, is_passed_name}
+use Rattle.model_assembly.specs.declared.fault.ModelFault.{ModelFault}
+use Rattle.model_assembly.specs.declared.fault.ModelFault.TheVariants as faults
+use Rattle.model_assembly.specs.declared.form.Form.{Form}
+use Rattle.model_assembly.specs.declared.form.Form.TheVariants as forms
+use Rattle.model_assembly.specs.Attributes.{Attrs, value_where, is_id_name, is_type_name, is_idref_name, is_nil_name, is_kept_name, is_passed_name}
 use Rattle.xmi_profile.specs.Canon.{value_text, typed_name, depth_over, top_numbers}
-use Rattle.xmi_profile.specs.Content.{IsFaultless}
-use Rattle.xmi_profile.specs.Elements.{Item, inner_place, behind_place}
-use Rattle.xmi_profile.specs.Faults.{Spot, IsDuplicate, StandsAt, StandsBy}
-use Rattle.xmi_profile.specs.Forms.{form_of}
-use Rattle.xmi_profile.specs.Held.{IsHeldModel}
-use Rattle.xmi_profile.specs.Judged.{runs_in, IsTextAt, IsAlien, IsUnknownClass, is_unknown_of_object, is_unknown_of, IsStranger, IsUnknownAttr, IsWrong, IsWrongValue}
-use Rattle.xmi_profile.specs.Links.{HasLinks}
-use Rattle.xmi_profile.specs.Profile.{xmi_id, xmi_type, prop_name, id_text, object_props, props_or_none}
-use Rattle.xmi_profile.specs.References.{Target, Named, Contained}
-use Rattle.xmi_profile.specs.Source.{Source, all_items, file_ids, class_of, targets_of, targets_at, text_in, target_number, named_at}
-use Rattle.xmi_profile.specs.Values.{is_all_blank, value_of}
+use Rattle.model_assembly.specs.Content.{IsFaultless}
+use Rattle.model_assembly.specs.Elements.{Item, inner_place, behind_place}
+use Rattle.model_assembly.specs.Faults.{Spot, IsDuplicate, StandsAt, StandsBy}
+use Rattle.model_assembly.specs.Forms.{form_of}
+use Rattle.model_assembly.specs.Held.{IsHeldModel}
+use Rattle.model_assembly.specs.Judged.{runs_in, IsTextAt, IsAlien, IsUnknownClass, is_unknown_of_object, is_unknown_of, IsStranger, IsUnknownAttr, IsWrong, IsWrongValue}
+use Rattle.model_assembly.specs.Links.{HasLinks}
+use Rattle.model_assembly.specs.Profile.{xmi_id, xmi_type, prop_name, id_text, object_props, props_or_none}
+use Rattle.model_assembly.specs.declared.target.Target.{Target}
+use Rattle.model_assembly.specs.declared.target.Target.TheVariants.{Named, Contained}
+use Rattle.model_assembly.specs.Source.{Source, all_items, file_ids, class_of, targets_of, targets_at, text_in, target_number, named_at}
+use Rattle.model_assembly.specs.Values.{is_all_blank, value_of}
 use Rattle.xmi_profile.specs.WrittenOrder.{written_order}
 use Rattle.xmi_profile.specs.WrittenTree.{value_pair, partners_pair, pair_by, pair_at, object_attrs, each_before, value_nodes, nodes_by, child_nodes, unless_none, lined, object_nodes, top_nodes, written_tree}
-use Rattle.xmi_profile.proofs.SeenLaws.{in_cons}
+use Rattle.model_assembly.proofs.assembling.ListLaws.{in_cons, contains_tail}
 use Rattle.mof_metamodel.proofs.Facts.{nothing_in}
-use Rattle.xmi_profile.proofs.WritingCalls.{contains_tail}
 use Rattle.mof_metamodel.proofs.Facts.{contains_first}
 use Rattle.xmi_profile.proofs.WritingForms.{class_typed}
 use Rattle.xmi_profile.proofs.WritingModels.{property_of}

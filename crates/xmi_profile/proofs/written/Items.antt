@@ -21,18 +21,21 @@ use Rattle.object_tables.proofs.KeptLemmas.{sound_of, linked_partner}
 use Rattle.object_tables.proofs.ModelLemmas.{live_from_class}
 use Rattle.xmi_text.specs.Trees.{Nodes, Ends, Run, Element}
 use Rattle.xmi_text.specs.Writing.{line_end}
-use Rattle.xmi_profile.specs.declared.fault.Externs.TheVariants as externs
-use Rattle.xmi_profile.specs.declared.form.Form.{Form}
-use Rattle.xmi_profile.specs.declared.form.Form.TheVariants as forms
-use Rattle.xmi_profile.specs.Attributes.{Attrs, first_attr, later, is_skipped_name, is_alien_name, is_idref_name}
+use Rattle.model_assembly.specs.declared.fault.Externs.TheVariants as externs
+use Rattle.model_assembly.specs.declared.form.Form.{Form}
+use Rattle.model_assembly.specs.declared.form.Form.TheVariants as forms
+use Rattle.model_assembly.specs.Attributes.{Attrs, first_attr, later, is_skipped_name, is_alien_name, is_idref_name}
 use Rattle.xmi_profile.specs.Canon.{value_text, typed_name, depth_over, top_numbers}
-use Rattle.xmi_profile.specs.Elements.{Item, Role, ObjectRole, Document, Skipped, Alien, AnObject, AValue, Neither, is_object, number_in, number_behind, inner_place, behind_place, items_in, items, role_in, role_in_class, role_at, role_at_reference, object_role, concrete_class}
-use Rattle.xmi_profile.specs.Forms.{form_of}
-use Rattle.xmi_profile.specs.Profile.{prop_name, class_text, name_or_none, object_props}
-use Rattle.xmi_profile.specs.References.{element_target, or_by_href}
+use Rattle.model_assembly.specs.declared.role.Role.{Role}
+use Rattle.model_assembly.specs.declared.role.ObjectRole.{ObjectRole}
+use Rattle.model_assembly.specs.declared.role.Role.TheVariants.{Document, Skipped, Alien, AnObject, AValue, Neither}
+use Rattle.model_assembly.specs.Elements.{Item, is_object, number_in, number_behind, inner_place, behind_place, items_in, items, role_in, role_in_class, role_at, role_at_reference, object_role, concrete_class}
+use Rattle.model_assembly.specs.Forms.{form_of}
+use Rattle.model_assembly.specs.Profile.{prop_name, class_text, name_or_none, object_props}
+use Rattle.model_assembly.specs.References.{element_target, or_by_href}
 use Rattle.xmi_profile.specs.WrittenOrder.{parts_by, parts_at, parts_of, order_of, written_order}
 use Rattle.xmi_profile.specs.WrittenTree.{value_pair, partners_pair, pair_by, pair_at, object_attrs, each_before, text_nodes, value_nodes, nodes_by, child_nodes, unless_none, lined, object_nodes, top_nodes, written_tree}
-use Rattle.xmi_profile.proofs.WritingCalls.{contains_tail}
+use Rattle.model_assembly.proofs.assembling.ListLaws.{contains_tail}
 use Rattle.mof_metamodel.proofs.Facts.{contains_first}
 use Rattle.xmi_profile.proofs.WritingModels.{property_of}
 use Rattle.xmi_profile.proofs.WritingForms.{class_typed}

@@ -9,12 +9,12 @@ use Rattle.object_tables.specs.Models.{ModelData, values_at, partners_at, IsLive
 use Rattle.object_tables.proofs.KeptLemmas.{sound_of, linked_partner}
 use Rattle.object_tables.proofs.ListLemmas.{Contains-from_map}
 use Rattle.object_tables.proofs.ModelLemmas.{live_from_class}
-use Rattle.xmi_profile.specs.declared.form.Form.{Form}
-use Rattle.xmi_profile.specs.declared.form.Form.TheVariants as forms
+use Rattle.model_assembly.specs.declared.form.Form.{Form}
+use Rattle.model_assembly.specs.declared.form.Form.TheVariants as forms
 use Rattle.xmi_profile.specs.Canon.{typed_name, top_numbers}
-use Rattle.xmi_profile.specs.Elements.{Item}
-use Rattle.xmi_profile.specs.Forms.{form_of}
-use Rattle.xmi_profile.specs.Profile.{prop_name, object_props}
+use Rattle.model_assembly.specs.Elements.{Item}
+use Rattle.model_assembly.specs.Forms.{form_of}
+use Rattle.model_assembly.specs.Profile.{prop_name, object_props}
 use Rattle.xmi_profile.proofs.written.Items.{value_row, rows_by, prop_rows, object_row, object_rows, root_row}
 use Rattle.xmi_profile.proofs.written.Rows.{tree_items}
 

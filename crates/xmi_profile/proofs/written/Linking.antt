@@ -20,20 +20,21 @@ use Rattle.object_tables.specs.Validity.{Valid, IsPropertyOf, count_at}
 use Rattle.object_tables.proofs.KeptLemmas.{sound_of, linked_reference}
 use Rattle.mof_metamodel.proofs.Facts.{contains_map}
 use Rattle.object_tables.proofs.ModelLemmas.{live_from_class}
-use Rattle.xmi_profile.specs.declared.form.Form.{Form}
-use Rattle.xmi_profile.specs.declared.form.Form.TheVariants as forms
-use Rattle.xmi_profile.specs.Forms.{is_one, is_composite, form_of}
-use Rattle.xmi_profile.specs.Links.{is_some_target, speaks, Names, IsPair, HasLinks}
-use Rattle.xmi_profile.specs.Profile.{id_or_none, id_text, object_props}
-use Rattle.xmi_profile.specs.References.{Target, Named, Contained}
-use Rattle.xmi_profile.specs.Source.{Source, attr_text, targets_of, element_targets, targets_at, number_of, target_number, named_at}
+use Rattle.model_assembly.specs.declared.form.Form.{Form}
+use Rattle.model_assembly.specs.declared.form.Form.TheVariants as forms
+use Rattle.model_assembly.specs.Forms.{is_one, is_composite, form_of}
+use Rattle.model_assembly.specs.Links.{is_some_target, speaks, Names, IsPair, HasLinks}
+use Rattle.model_assembly.specs.Profile.{id_or_none, id_text, object_props}
+use Rattle.model_assembly.specs.declared.target.Target.{Target}
+use Rattle.model_assembly.specs.declared.target.Target.TheVariants.{Named, Contained}
+use Rattle.model_assembly.specs.Source.{Source, attr_text, targets_of, element_targets, targets_at, number_of, target_number, named_at}
 use Rattle.xmi_profile.specs.WrittenOrder.{written_order}
 use Rattle.xmi_profile.specs.WrittenTree.{partners_pair, pair_by}
-use Rattle.xmi_profile.proofs.WritingCalls.{contains_tail}
+use Rattle.model_assembly.proofs.assembling.ListLaws.{contains_tail}
 use Rattle.mof_metamodel.proofs.Facts.{contains_first}
 use Rattle.xmi_profile.proofs.WritingForms.{class_typed, is_reference}
 use Rattle.xmi_profile.proofs.WritingModels.{property_of}
-use Rattle.xmi_profile.proofs.WritingParts.{any_of, one_of}
+use Rattle.model_assembly.proofs.WritingParts.{any_of, one_of}
 use Rattle.xmi_profile.proofs.written.Known.{partner_live}
 use Rattle.xmi_profile.proofs.written.Renumbering.{image, origin, renumbered, back, there, origin_live, image_within, partners_there, distinct_images, IsBack, linked_back, kept_there}
 use Rattle.xmi_profile.proofs.written.Ordering.{once_first, once_behind, parts_composite}

@@ -10,12 +10,12 @@ use Rattle.xmi_text.specs.Calls.{Call, Open, Attr, Data, Close, Line, leading, m
 use Rattle.xmi_text.specs.Markup.{joined_runs}
 use Rattle.xmi_text.specs.Trees.{Nodes, Ends, Run, Element, Event, Opens, Says, Closes, events_of, events}
 use Rattle.xmi_text.specs.Writing.{line_end}
-use Rattle.xmi_profile.specs.declared.form.Form.{Form}
-use Rattle.xmi_profile.specs.declared.form.Form.TheVariants as forms
-use Rattle.xmi_profile.specs.Attributes.{Attrs}
+use Rattle.model_assembly.specs.declared.form.Form.{Form}
+use Rattle.model_assembly.specs.declared.form.Form.TheVariants as forms
+use Rattle.model_assembly.specs.Attributes.{Attrs}
 use Rattle.xmi_profile.specs.Canon.{value_text, value_attr, partners_attr, attr_by, attr_calls, value_element, children_by, child_calls, ended, typed_name, depth_over, object_calls, top_calls, top_numbers, foot, canon_calls}
-use Rattle.xmi_profile.specs.Forms.{form_of}
-use Rattle.xmi_profile.specs.Profile.{xmi_namespace, xmi_version, xmi_id, xmi_type, xmi_document, prop_name, id_text, object_props}
+use Rattle.model_assembly.specs.Forms.{form_of}
+use Rattle.model_assembly.specs.Profile.{xmi_namespace, xmi_version, xmi_id, xmi_type, xmi_document, prop_name, id_text, object_props}
 use Rattle.xmi_profile.specs.WrittenTree.{value_pair, partners_pair, pair_by, pair_at, each_before, text_nodes, value_nodes, nodes_by, child_nodes, unless_none, lined, object_nodes, top_nodes, written_tree}
 
 -- ---- nodes

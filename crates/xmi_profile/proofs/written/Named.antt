@@ -10,12 +10,12 @@ use Rattle.object_tables.specs.Models.{ModelData, partners_at, values_at, is_cla
 use Rattle.object_tables.specs.Objects.{Object}
 use Rattle.object_tables.specs.Validity.{Valid, IsPropertyOf, count_at}
 use Rattle.object_tables.proofs.KeptLemmas.{sound_of, linked_reference}
-use Rattle.xmi_profile.specs.declared.form.Form.{Form}
-use Rattle.xmi_profile.specs.declared.form.Form.TheVariants as forms
-use Rattle.xmi_profile.specs.Forms.{is_one, is_composite, form_of}
-use Rattle.xmi_profile.specs.Links.{speaks, Names, IsPair, HasLinks}
-use Rattle.xmi_profile.specs.Profile.{object_props}
-use Rattle.xmi_profile.specs.Source.{Source, named_at}
+use Rattle.model_assembly.specs.declared.form.Form.{Form}
+use Rattle.model_assembly.specs.declared.form.Form.TheVariants as forms
+use Rattle.model_assembly.specs.Forms.{is_one, is_composite, form_of}
+use Rattle.model_assembly.specs.Links.{speaks, Names, IsPair, HasLinks}
+use Rattle.model_assembly.specs.Profile.{object_props}
+use Rattle.model_assembly.specs.Source.{Source, named_at}
 use Rattle.mof_metamodel.proofs.Facts.{nothing_in}
 use Rattle.xmi_profile.proofs.WritingForms.{class_typed, is_reference}
 use Rattle.xmi_profile.proofs.WritingModels.{property_of}

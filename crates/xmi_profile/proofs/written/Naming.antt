@@ -13,9 +13,9 @@ use Rattle.mof_metamodel.proofs.MetaLaws.{has_exactly, prop_named}
 use Rattle.mof_metamodel.proofs.PropLemmas.{prop_known}
 use Rattle.mof_metamodel.proofs.SearchLemmas.{same_true, position_alone}
 use Rattle.xmi_text.specs.Markup.{begins}
-use Rattle.xmi_profile.specs.Attributes.{is_document_name, is_skipped_name, is_alien_name, is_id_name, is_type_name, is_idref_name, is_nil_name}
-use Rattle.xmi_profile.specs.Elements.{concrete, concrete_class}
-use Rattle.xmi_profile.specs.Profile.{prop_name, class_name}
+use Rattle.model_assembly.specs.Attributes.{is_document_name, is_skipped_name, is_alien_name, is_id_name, is_type_name, is_idref_name, is_nil_name}
+use Rattle.model_assembly.specs.Elements.{concrete, concrete_class}
+use Rattle.model_assembly.specs.Profile.{prop_name, class_name}
 
 -- ---- classes and properties
 

@@ -15,14 +15,13 @@ use Rattle.object_tables.proofs.ModelLemmas.{live_class, live_from_class}
 use Rattle.xmi_text.specs.Trees.{Tree}
 use Rattle.xmi_text.proofs.forward.Spelled.{markup_spelled}
 use Rattle.xmi_text.proofs.reading.Staying.{one_spelled}
-use Rattle.xmi_profile.specs.declared.fault.Externs.{Externs}
-use Rattle.xmi_profile.specs.Content.{Content}
-use Rattle.xmi_profile.specs.Links.{speaks, HasLinks}
+use Rattle.model_assembly.specs.declared.fault.Externs.{Externs}
+use Rattle.model_assembly.specs.Content.{Content}
+use Rattle.model_assembly.specs.Links.{speaks, HasLinks}
 use Rattle.xmi_profile.specs.Reads.{Spells, source_of}
-use Rattle.xmi_profile.specs.Source.{Source, object_count}
-use Rattle.xmi_profile.proofs.SeenLaws.{in_cons}
+use Rattle.model_assembly.specs.Source.{Source, object_count}
+use Rattle.model_assembly.proofs.assembling.ListLaws.{in_cons, contains_tail}
 use Rattle.mof_metamodel.proofs.Facts.{nothing_in}
-use Rattle.xmi_profile.proofs.WritingCalls.{contains_tail}
 use Rattle.mof_metamodel.proofs.Facts.{contains_first}
 use Rattle.xmi_profile.proofs.written.Reordered.{Rising, rising_all}
 

@@ -1,8 +1,8 @@
 -- Each object of a model without cycles stands once in the order in which objects are written.
-use Rattle.std.proofs.Common.{length-append, ◌≡◌, ◌≢◌, ◌⊎◌, ℕ, zero, suc, ◌+◌, ◌-◌, ◌<◌, ◌≤◌, Bool, true, false, cond, List, [], ◌∷◌, ◌++◌, length, get_or, refl, sym, ◌∙◌, ap, subst, arith, Option, None, Some, inl, inr}
-use Rattle.std.specs.Prelude.{not, nat_eq, Contains, is_some}
-use Rattle.std.specs.List.{flat_map, list_any, range_with_len}
-use Rattle.std.proofs.lemmas.Bool.{and_parts, eqb-true, not-true, true≢false}
+use Rattle.std.proofs.Common.{◌≡◌, ◌≢◌, ◌⊎◌, ℕ, zero, suc, ◌+◌, ◌-◌, ◌<◌, ◌≤◌, Bool, true, false, cond, List, [], ◌∷◌, length, get_or, refl, sym, ◌∙◌, ap, subst, arith, Option, None, Some, inl, inr}
+use Rattle.std.specs.Prelude.{not, Contains, is_some}
+use Rattle.std.specs.List.{flat_map, range_with_len}
+use Rattle.std.proofs.lemmas.Bool.{not-true, true≢false}
 use Rattle.object_tables.specs.declared.limit.TheConstants.{MAX_DEPTH}
 use Rattle.mof_metamodel.specs.Metamodels.{prop_at, type_of, opposite_of}
 use Rattle.mof_metamodel.proofs.DistinctLemmas.{IsOnce, once_nil, once_append, once_range}
@@ -11,22 +11,22 @@ use Rattle.mof_metamodel.proofs.PropLemmas.{from_flat_map, to_flat_map}
 use Rattle.object_tables.specs.Containment.{IsContainer, IsContainerPath, IsAcyclic, IsDepth}
 use Rattle.object_tables.specs.Climbs.{LeadsTo}
 use Rattle.object_tables.specs.Kept.{Kept}
-use Rattle.object_tables.specs.Models.{ModelData, object_at, class_at, partners_at, is_class_type, IsLive, IsTop, IsContainedIn, IsReferenceOf}
+use Rattle.object_tables.specs.Models.{ModelData, object_at, class_at, is_class_type, IsLive, IsTop, IsContainedIn, IsReferenceOf}
 use Rattle.object_tables.specs.Validity.{IsPropertyOf}
 use Rattle.object_tables.proofs.ClimbLemmas.{leads-up}
-use Rattle.object_tables.proofs.ContainmentLemmas.{container-live, container-same, path-push, path-cycle, path-few}
-use Rattle.object_tables.proofs.KeptLemmas.{sound_of, linked_reference, linked_partner}
+use Rattle.object_tables.proofs.ContainmentLemmas.{container-live, container-same, path-cycle}
+use Rattle.object_tables.proofs.KeptLemmas.{sound_of, linked_partner}
 use Rattle.object_tables.proofs.ModelLemmas.{live_from_class}
-use Rattle.xmi_profile.specs.declared.form.Form.{Form}
-use Rattle.xmi_profile.specs.declared.form.Form.TheVariants as forms
+use Rattle.model_assembly.specs.declared.form.Form.{Form}
+use Rattle.model_assembly.specs.declared.form.Form.TheVariants as forms
 use Rattle.xmi_profile.specs.Canon.{top_numbers}
-use Rattle.xmi_profile.specs.Forms.{is_one, is_composite, form_of}
-use Rattle.xmi_profile.specs.Profile.{props_or_none, object_props, live_numbers, contains_by, is_part}
+use Rattle.model_assembly.specs.Forms.{is_one, is_composite, form_of}
+use Rattle.model_assembly.specs.Profile.{props_or_none, object_props, live_numbers, is_part}
 use Rattle.xmi_profile.specs.WrittenOrder.{parts_by, parts_at, parts_of, order_of, written_order}
-use Rattle.xmi_profile.proofs.WritingCalls.{contains_tail}
+use Rattle.model_assembly.proofs.assembling.ListLaws.{contains_tail}
 use Rattle.mof_metamodel.proofs.Facts.{contains_first}
 use Rattle.xmi_profile.proofs.WritingModels.{filtered, property_of}
-use Rattle.xmi_profile.proofs.WritingParts.{part_where_contained, no_part_at_top, one_of, kept_in, numbered, known}
+use Rattle.model_assembly.proofs.WritingParts.{part_where_contained, no_part_at_top, kept_in, numbered, known, reference_of, HasTop, climb}
 
 -- ---- lists without repeats
 
@@ -90,12 +90,9 @@ module _ (m : ModelData) (k : Kept m) where
   pub part_of : (o b : ℕ) → Contains (parts_of m o) b → IsContainer m b o
   part_of o b h = let (p, cp, hp) = from_flat_map (parts_at m o) (object_props m o) b h in (p, part_contained o p b hp)
 
-  reference_of : (b o p : ℕ) → IsContainedIn m b o p → IsReferenceOf m o p
-  reference_of b o p h = linked_reference m p o b (sound_of m k) h.linked
-
   pub contained_part : (b o : ℕ) → IsContainer m b o → Contains (parts_of m o) b
   contained_part b o (p, h) =
-      let r : IsReferenceOf m o p = reference_of b o p h in
+      let r : IsReferenceOf m o p = reference_of m k b o p h in
       let has : Contains (object_props m o) p = subst (λ (c : Option ℕ). Contains (props_or_none m.meta c) p) (sym r.class_is) r.has in
       to_flat_map (parts_at m o) (object_props m o) p b has (subst (λ (f : Form). Contains (parts_by m o p f) b) (sym (parts_composite p r.reference h.composite)) h.linked)
 
@@ -189,7 +186,7 @@ module _ (m : ModelData) (k : Kept m) where
       let live = filtered (λ x. is_some (object_at m x)) (range_with_len 0 (length m.objects)) o found.0 in
       let none : is_part m o ≡ false = not-true (is_part m o) found.1 in (
         live.1,
-        λ a p c. true≢false (sym (part_where_contained m o a p (reference_of o a p c) c) ∙ none),
+        λ a p c. true≢false (sym (part_where_contained m o a p (reference_of m k o a p c) c) ∙ none),
       )
 
   pub order_all_once : IsAcyclic m → IsOnce (written_order m)
@@ -249,28 +246,6 @@ module _ (m : ModelData) (k : Kept m) where
   reached [] x top same = (0, omega arith, sym same)
   reached (b ∷ path) x top (first, rest) = deeper (suc (length path)) top b x (reached path b top rest) first
 
-  -- the way up from an object ends at one that nothing contains
-  pub record HasTop (x : ℕ) : Type 0 where
-    pub path : List ℕ
-    pub top : ℕ
-    pub up : IsContainerPath m x path top
-    pub is_top : IsTop m top
-
-  pub climb : IsAcyclic m → (room x at : ℕ) (path : List ℕ) → IsLive m x → IsContainerPath m x path at → length m.objects ≤ room + length path → HasTop x
-  climb acyclic zero x at path live up few =
-      let l = path-few m x path at acyclic live up in absurd (omega (arith, l, few))
-  climb acyclic (suc room) x at path live up few = by (climb acyclic room x) (is_part m at) refl
-    where
-      by : ((a : ℕ) (way : List ℕ) → IsLive m x → IsContainerPath m x way a → length m.objects ≤ room + length way → HasTop x) → (t : Bool) → is_part m at ≡ t → HasTop x
-      by further false e = record { path = path; top = at; up = up; is_top = λ a p c. true≢false (sym (part_where_contained m at a p (reference_of at a p c) c) ∙ e) }
-      by further true e =
-          let (a, ca, ha) = one_of (λ y. list_any (contains_by m at y) (object_props m y)) (live_numbers m) e in
-          let (p, cp, hp) = one_of (contains_by m at a) (object_props m a) ha in
-          let both = and_parts (prop_at m.meta p).composite (list_any (nat_eq at) (partners_at m a p)) hp in
-          let (b, cb, hb) = one_of (nat_eq at) (partners_at m a p) both.1 in
-          let here : IsContainer m at a = (p, record { composite = both.0; linked = subst (Contains (partners_at m a p)) (sym (eqb-true at b hb)) cb }) in
-          further a (path ++ a ∷ []) live (path-push m x path at a up here) (omega (arith, few, length-append path (a ∷ [])))
-
   pub top_listed : (o : ℕ) → IsLive m o → IsTop m o → Contains (top_numbers m) o
   top_listed o live top =
       let there : Contains (range_with_len 0 (length m.objects)) o = numbered (length m.objects) o (known m o live) in
@@ -278,7 +253,7 @@ module _ (m : ModelData) (k : Kept m) where
 
   pub order_has : IsAcyclic m → ((o d : ℕ) → IsLive m o → IsDepth m o d → d ≤ MAX_DEPTH) → (x : ℕ) → IsLive m x → Contains (written_order m) x
   order_has acyclic shallow x live =
-      let t : HasTop x = climb acyclic (length m.objects) x x [] live refl (omega arith) in
+      let t : HasTop m k x = climb m k acyclic (length m.objects) x x [] live refl (omega arith) in
       let deep : suc (length t.path) ≤ MAX_DEPTH = shallow x (suc (length t.path)) live (t.path, t.top, t.up, t.is_top, refl) in
       let there : Contains (order_of m (suc (length t.path)) t.top) x = reached t.path x t.top t.up in
       let all : Contains (order_of m ((MAX_DEPTH - suc (length t.path)) + suc (length t.path)) t.top) x = more_levels (MAX_DEPTH - suc (length t.path)) (suc (length t.path)) t.top x there in

@@ -14,21 +14,20 @@ use Rattle.object_tables.specs.Sameness.{IsSame}
 use Rattle.object_tables.specs.Validity.{Valid}
 use Rattle.object_tables.proofs.ModelLemmas.{live_from_class}
 use Rattle.object_tables.proofs.SamenessLemmas.{same_back, same_through}
-use Rattle.xmi_profile.specs.declared.fault.Externs.TheVariants as externs
+use Rattle.model_assembly.specs.declared.fault.Externs.TheVariants as externs
 use Rattle.xmi_profile.specs.Canon.{canon_bytes}
-use Rattle.xmi_profile.specs.Content.{Content, written_values}
-use Rattle.xmi_profile.specs.Held.{IsHeldModel, MayBeWritten}
-use Rattle.xmi_profile.specs.Links.{HasLinks}
-use Rattle.xmi_profile.specs.Profile.{live_numbers}
+use Rattle.model_assembly.specs.Content.{Content, written_values}
+use Rattle.model_assembly.specs.Held.{IsHeldModel, MayBeWritten}
+use Rattle.model_assembly.specs.Links.{HasLinks}
+use Rattle.model_assembly.specs.Profile.{live_numbers}
 use Rattle.xmi_profile.specs.Reads.{Spells}
-use Rattle.xmi_profile.specs.Source.{Source, object_count, class_of, id_of}
+use Rattle.model_assembly.specs.Source.{Source, object_count, class_of, id_of}
 use Rattle.xmi_profile.specs.WrittenOrder.{written_order}
 use Rattle.xmi_profile.specs.WrittenTree.{written_tree}
 use Rattle.xmi_profile.proofs.written.OneModel.{one_spelled_model}
-use Rattle.xmi_profile.proofs.SeenLaws.{in_cons}
-use Rattle.xmi_profile.proofs.WritingCalls.{contains_tail}
+use Rattle.model_assembly.proofs.assembling.ListLaws.{in_cons, contains_tail}
 use Rattle.mof_metamodel.proofs.Facts.{contains_first}
-use Rattle.xmi_profile.proofs.WritingParts.{kept_in, numbered, known}
+use Rattle.model_assembly.proofs.WritingParts.{kept_in, numbered, known}
 use Rattle.xmi_profile.proofs.written.Faultless.{faultless}
 use Rattle.xmi_profile.proofs.written.Linking.{id_known, links_are}
 use Rattle.xmi_profile.proofs.written.Documents.{canon_markup}

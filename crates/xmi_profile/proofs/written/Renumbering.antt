@@ -10,7 +10,7 @@ use Rattle.object_tables.specs.Models.{ModelData, object_at, class_at, id_at, va
 use Rattle.object_tables.specs.Sameness.{IsSame}
 use Rattle.object_tables.specs.Validity.{Valid}
 use Rattle.xmi_profile.specs.Canon.{top_numbers}
-use Rattle.xmi_profile.specs.Profile.{live_numbers, is_part}
+use Rattle.model_assembly.specs.Profile.{live_numbers, is_part}
 use Rattle.xmi_profile.specs.WrittenOrder.{order_of, written_order}
 use Rattle.xmi_profile.proofs.written.Items.{IsNumbered, numbered_rest}
 use Rattle.xmi_profile.proofs.written.Ordering.{order_all_once, order_live, order_has, top_listed}

@@ -21,7 +21,7 @@ use Rattle.object_tables.proofs.ContainmentLemmas.{live-below, path-live}
 use Rattle.object_tables.proofs.KeptLemmas.{sound_of, linked_reference, linked_partner}
 use Rattle.mof_metamodel.proofs.Facts.{contains_map}
 use Rattle.object_tables.proofs.ModelLemmas.{index-within, index-found, live_from_class, live_from_id}
-use Rattle.xmi_profile.proofs.WritingCalls.{contains_tail}
+use Rattle.model_assembly.proofs.assembling.ListLaws.{contains_tail}
 use Rattle.mof_metamodel.proofs.Facts.{contains_first}
 use Rattle.xmi_profile.proofs.WritingModels.{filtered}
 

@@ -13,17 +13,17 @@ use Rattle.object_tables.specs.Containment.{IsAcyclic, IsDepth}
 use Rattle.object_tables.specs.Kept.{Kept}
 use Rattle.object_tables.specs.Models.{ModelData, class_at, values_at, partners_at, IsLive, IsTop}
 use Rattle.object_tables.proofs.DepthLemmas.{depth-top, depth-join}
-use Rattle.xmi_profile.specs.declared.form.Form.{Form}
-use Rattle.xmi_profile.specs.declared.form.Form.TheVariants as forms
-use Rattle.xmi_profile.specs.Attributes.{Attrs}
+use Rattle.model_assembly.specs.declared.form.Form.{Form}
+use Rattle.model_assembly.specs.declared.form.Form.TheVariants as forms
+use Rattle.model_assembly.specs.Attributes.{Attrs}
 use Rattle.xmi_profile.specs.Canon.{typed_name, top_numbers}
-use Rattle.xmi_profile.specs.Elements.{Item, is_object}
-use Rattle.xmi_profile.specs.Forms.{form_of}
-use Rattle.xmi_profile.specs.Profile.{prop_name, object_props}
-use Rattle.xmi_profile.specs.Source.{item_class}
+use Rattle.model_assembly.specs.Elements.{Item, is_object}
+use Rattle.model_assembly.specs.Forms.{form_of}
+use Rattle.model_assembly.specs.Profile.{prop_name, object_props}
+use Rattle.model_assembly.specs.Source.{item_class}
 use Rattle.xmi_profile.specs.WrittenOrder.{parts_by, parts_at, parts_of, order_of, written_order}
 use Rattle.xmi_profile.specs.WrittenTree.{object_attrs}
-use Rattle.xmi_profile.proofs.WritingCalls.{contains_tail}
+use Rattle.model_assembly.proofs.assembling.ListLaws.{contains_tail}
 use Rattle.mof_metamodel.proofs.Facts.{contains_first}
 use Rattle.xmi_profile.proofs.written.Items.{flat_map-flat_map, value_row, value_rows, rows_by, prop_rows, object_row, object_rows, root_row}
 use Rattle.xmi_profile.proofs.written.Ordering.{once_behind, once_first, not_inside, part_of, live_part}

@@ -19,18 +19,18 @@ use Rattle.object_tables.specs.Containment.{IsDepth}
 use Rattle.object_tables.specs.Models.{ModelData, class_at, values_at, partners_at, IsLive}
 use Rattle.object_tables.specs.Validity.{Valid, IsPropertyOf}
 use Rattle.mof_metamodel.proofs.Facts.{contains_map}
-use Rattle.xmi_profile.specs.declared.fault.Externs.TheVariants as externs
-use Rattle.xmi_profile.specs.declared.form.Form.{Form}
-use Rattle.xmi_profile.specs.declared.form.Form.TheVariants as forms
-use Rattle.xmi_profile.specs.Attributes.{Attrs, first_attr, later, value_where, written_id}
+use Rattle.model_assembly.specs.declared.fault.Externs.TheVariants as externs
+use Rattle.model_assembly.specs.declared.form.Form.{Form}
+use Rattle.model_assembly.specs.declared.form.Form.TheVariants as forms
+use Rattle.model_assembly.specs.Attributes.{Attrs, first_attr, later, value_where, written_id}
 use Rattle.xmi_profile.specs.Canon.{value_text, typed_name, top_numbers}
-use Rattle.xmi_profile.specs.Elements.{Item, is_object, object_items}
-use Rattle.xmi_profile.specs.Forms.{form_of}
-use Rattle.xmi_profile.specs.Profile.{xmi_id, xmi_type, prop_name, id_text, object_props, props_or_none}
-use Rattle.xmi_profile.specs.Source.{Source, primitive_class, all_items, item_at, item_class, given_id, ids_from, file_ids, uses, is_added, added_names, all_ids, all_classes, object_count, id_of, class_of, is_number, attr_in, attr_of, attr_text, is_at}
+use Rattle.model_assembly.specs.Elements.{Item, is_object, object_items}
+use Rattle.model_assembly.specs.Forms.{form_of}
+use Rattle.model_assembly.specs.Profile.{xmi_id, xmi_type, prop_name, id_text, object_props, props_or_none}
+use Rattle.model_assembly.specs.Source.{Source, primitive_class, all_items, item_at, item_class, given_id, ids_from, file_ids, uses, is_added, added_names, all_ids, all_classes, object_count, id_of, class_of, is_number, attr_in, attr_of, attr_text, is_at}
 use Rattle.xmi_profile.specs.WrittenOrder.{written_order}
 use Rattle.xmi_profile.specs.WrittenTree.{value_pair, partners_pair, pair_by, pair_at, object_attrs, written_tree}
-use Rattle.xmi_profile.proofs.WritingCalls.{contains_tail}
+use Rattle.model_assembly.proofs.assembling.ListLaws.{contains_tail}
 use Rattle.mof_metamodel.proofs.Facts.{contains_first}
 use Rattle.xmi_profile.proofs.WritingModels.{property_of}
 use Rattle.xmi_profile.proofs.written.Items.{bare, NonePass, known_class, tree_rows}

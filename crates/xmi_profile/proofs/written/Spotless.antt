@@ -9,14 +9,14 @@ use Rattle.object_tables.specs.Kept.{Kept}
 use Rattle.object_tables.specs.Models.{ModelData, class_at, partners_at, IsLinked, IsReferenceOf, IsPartnerFor, IsContainedIn}
 use Rattle.object_tables.specs.Objects.{Object}
 use Rattle.object_tables.proofs.KeptLemmas.{sound_of, linked_reference}
-use Rattle.xmi_profile.specs.declared.fault.ModelFault.{ModelFault}
-use Rattle.xmi_profile.specs.declared.fault.ModelFault.TheVariants as faults
-use Rattle.xmi_profile.specs.Faults.{Spot, IsWritten, IsDangling, IsPartWritten, IsContainedTwice, IsMismatch, StandsBy}
-use Rattle.xmi_profile.specs.Links.{HasLinks}
-use Rattle.xmi_profile.specs.Profile.{props_or_none}
-use Rattle.xmi_profile.specs.References.{Target}
-use Rattle.xmi_profile.specs.Source.{Source, class_of, targets_at, target_number, named_at}
-use Rattle.xmi_profile.proofs.WritingCalls.{contains_tail}
+use Rattle.model_assembly.specs.declared.fault.ModelFault.{ModelFault}
+use Rattle.model_assembly.specs.declared.fault.ModelFault.TheVariants as faults
+use Rattle.model_assembly.specs.Faults.{Spot, IsWritten, IsDangling, IsPartWritten, IsContainedTwice, IsMismatch, StandsBy}
+use Rattle.model_assembly.specs.Links.{HasLinks}
+use Rattle.model_assembly.specs.Profile.{props_or_none}
+use Rattle.model_assembly.specs.declared.target.Target.{Target}
+use Rattle.model_assembly.specs.Source.{Source, class_of, targets_at, target_number, named_at}
+use Rattle.model_assembly.proofs.assembling.ListLaws.{contains_tail}
 use Rattle.mof_metamodel.proofs.Facts.{contains_first}
 use Rattle.xmi_profile.proofs.written.Linking.{to_any}
 use Rattle.mof_metamodel.proofs.Facts.{contains_at}

@@ -15,23 +15,23 @@ use Rattle.object_tables.specs.Containment.{IsDepth}
 use Rattle.object_tables.specs.Models.{ModelData, class_at, values_at, partners_at, is_class_type, is_value_of, IsLive, IsAttributeOf}
 use Rattle.object_tables.specs.Validity.{Valid, count_at}
 use Rattle.object_tables.proofs.ModelLemmas.{live_from_class}
-use Rattle.xmi_profile.specs.declared.form.Form.{Form}
-use Rattle.xmi_profile.specs.declared.form.Form.TheVariants as forms
+use Rattle.model_assembly.specs.declared.form.Form.{Form}
+use Rattle.model_assembly.specs.declared.form.Form.TheVariants as forms
 use Rattle.xmi_profile.specs.Canon.{value_text}
-use Rattle.xmi_profile.specs.Content.{values_of, written_values}
-use Rattle.xmi_profile.specs.Elements.{Item}
-use Rattle.xmi_profile.specs.Forms.{is_one, is_composite, form_of}
-use Rattle.xmi_profile.specs.Held.{IsHeldModel}
-use Rattle.xmi_profile.specs.Profile.{id_text, object_props, props_or_none}
-use Rattle.xmi_profile.specs.References.{Target, Contained}
-use Rattle.xmi_profile.specs.Source.{Source, all_items, file_ids, listed, text_in, is_at, element_text, texts_at, target_if, part_target, element_target_at, element_targets}
-use Rattle.xmi_profile.specs.Values.{value_of, same_value, unmet, without_repeats}
+use Rattle.model_assembly.specs.Content.{values_of, written_values}
+use Rattle.model_assembly.specs.Elements.{Item}
+use Rattle.model_assembly.specs.Forms.{is_one, is_composite, form_of}
+use Rattle.model_assembly.specs.Held.{IsHeldModel}
+use Rattle.model_assembly.specs.Profile.{id_text, object_props, props_or_none}
+use Rattle.model_assembly.specs.declared.target.Target.{Target}
+use Rattle.model_assembly.specs.declared.target.Target.TheVariants.{Contained}
+use Rattle.model_assembly.specs.Source.{Source, all_items, file_ids, listed, text_in, is_at, element_text, texts_at, target_if, part_target, element_target_at, element_targets}
+use Rattle.model_assembly.specs.Values.{value_of, same_value, unmet, without_repeats}
 use Rattle.xmi_profile.specs.WrittenOrder.{written_order}
 use Rattle.xmi_profile.specs.WrittenTree.{value_pair, pair_by, text_nodes}
-use Rattle.xmi_profile.proofs.WritingCalls.{contains_tail}
+use Rattle.model_assembly.proofs.assembling.ListLaws.{contains_tail, in_cons}
 use Rattle.mof_metamodel.proofs.Facts.{contains_first}
 use Rattle.xmi_profile.proofs.WritingForms.{class_typed, is_reference}
-use Rattle.xmi_profile.proofs.SeenLaws.{in_cons}
 use Rattle.xmi_profile.proofs.written.Items.{bare, value_row}
 use Rattle.xmi_profile.proofs.written.Known.{IsRow, Root, ValueRow, ObjectRow, IsPlaced}
 use Rattle.xmi_profile.proofs.written.Renumbering.{image, image_within}

@@ -21,8 +21,8 @@ use Rattle.object_tables.specs.declared.value.Value.{Value}
 use Rattle.object_tables.specs.declared.value.Value.TheVariants as values
 use Rattle.object_tables.specs.Models.{is_value_of}
 use Rattle.xmi_profile.specs.Canon.{value_text}
-use Rattle.xmi_profile.specs.Held.{IsHeld}
-use Rattle.xmi_profile.specs.Values.{is_all_blank, without_front_blanks, without_end_blanks, trimmed, number_from, spelled_number, at_most, not_negative, negative, integer_of, value_of}
+use Rattle.model_assembly.specs.Held.{IsHeld}
+use Rattle.model_assembly.specs.Values.{is_all_blank, without_front_blanks, without_end_blanks, trimmed, number_from, spelled_number, at_most, not_negative, negative, integer_of, value_of}
 
 -- ---- texts without blanks
 

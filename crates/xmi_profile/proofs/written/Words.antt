@@ -5,7 +5,7 @@ use Rattle.std.specs.List.{list_any}
 use Rattle.std.proofs.lemmas.Bool.{and_parts, or_parts, cond-false, not-true}
 use Rattle.mof_metamodel.specs.Characters.{is_blank, is_storable_text, is_identifier_text}
 use Rattle.xmi_profile.specs.Canon.{spaced, spaced_behind}
-use Rattle.xmi_profile.specs.References.{with_word, words_behind, words}
+use Rattle.model_assembly.specs.References.{with_word, words_behind, words}
 
 -- a word
 record IsWord (text : List ℕ) : Type 0 where

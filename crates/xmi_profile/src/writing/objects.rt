@@ -5,10 +5,10 @@ ghost use Rattle.xmi_text.specs.Calls.{wrote};
 ghost use Rattle.xmi_profile.specs.Canon as canon;
 ghost use Rattle.xmi_profile.specs.Writable.{CanWrite, has_some, children_calls, calls_of, value_elements, part_elements};
 
-use crate::form::Form;
 use crate::writing::lines::{write_each, write_end};
 use crate::writing::tags::write_tag;
 use crate::writing::values::{form_of, prop_name};
+use model_assembly::Form;
 use mof_metamodel::{NoMemory, PropId};
 use object_tables::{MAX_DEPTH, Model, ObjId};
 use std::alloc::Global;

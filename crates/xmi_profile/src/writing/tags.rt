@@ -3,13 +3,13 @@ ghost use Rattle.std.specs.List.{flat_map};
 ghost use Rattle.object_tables.specs.Models.{IsLive, IsAttributeOf, IsReferenceOf, values_at, partners_at};
 ghost use Rattle.object_tables.specs.Validity.{IsPropertyOf};
 ghost use Rattle.xmi_text.specs.Calls.{wrote};
-ghost use Rattle.xmi_profile.specs.Profile as profile;
+ghost use Rattle.model_assembly.specs.Profile as profile;
 ghost use Rattle.xmi_profile.specs.Canon as canon;
 ghost use Rattle.xmi_profile.specs.Writable.{CanWrite, AreLive, ids_of};
 
-use crate::form::Form;
 use crate::writing::values::{form_of, prop_name, value_text};
 use crate::writing::words::{id_name, type_name, type_prefix};
+use model_assembly::Form;
 use mof_metamodel::{NoMemory, PropId, Text};
 use object_tables::{Model, ObjId, Partners};
 use std::alloc::Global;

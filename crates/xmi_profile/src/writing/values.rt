@@ -2,12 +2,12 @@ ghost use Rattle.std.specs.Prelude.{◌≡◌, ◌<◌, chars, IfOk, Some};
 ghost use Rattle.std.specs.Fmt.{signed_decimal};
 ghost use Rattle.mof_metamodel.specs.Metamodels.{prop_count, opposite_of};
 ghost use Rattle.object_tables.specs.Models.{is_class_type};
-ghost use Rattle.xmi_profile.specs.Forms as forms;
-ghost use Rattle.xmi_profile.specs.Profile as profile;
+ghost use Rattle.model_assembly.specs.Forms as forms;
+ghost use Rattle.model_assembly.specs.Profile as profile;
 ghost use Rattle.xmi_profile.specs.Canon as canon;
 ghost use Rattle.xmi_profile.specs.Writable.{IsTold, chosen_form};
 
-use crate::form::Form;
+use model_assembly::Form;
 use mof_metamodel::{MetaModel, NoMemory, PropId, PropType, Text};
 use object_tables::Value;
 use std::alloc::Global;

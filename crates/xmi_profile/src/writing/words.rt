@@ -1,5 +1,5 @@
 ghost use Rattle.std.specs.Prelude.{◌≡◌, chars, codes};
-ghost use Rattle.xmi_profile.specs.Profile as profile;
+ghost use Rattle.model_assembly.specs.Profile as profile;
 
 /// The name of the document's element.
 #[tactic(auto, using(crate::proofs::WritingTexts::document_characters))]

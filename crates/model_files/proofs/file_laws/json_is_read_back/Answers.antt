@@ -1,4 +1,4 @@
-use Rattle.xmi_profile.specs.Held.{MayBeWritten}
+use Rattle.model_assembly.specs.Held.{MayBeWritten}
 use Rattle.model_files.proofs.file_laws.json_is_read_back.Goals as goal
 use Rattle.model_files.proofs.read_back.Reading.{json_read, json_read_alone, json_accepted}
 

@@ -1,5 +1,5 @@
 use Rattle.std.proofs.Common.{sym, subst}
-use Rattle.xmi_profile.specs.declared.fault.Externs.TheVariants as externs
+use Rattle.model_assembly.specs.declared.fault.Externs.TheVariants as externs
 use Rattle.model_files.specs.declared.file_form.Form.{Form}
 use Rattle.model_files.specs.Files.{SpellsIn}
 use Rattle.model_files.proofs.FileLaws.{no_error_in}

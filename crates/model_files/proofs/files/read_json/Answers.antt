@@ -1,5 +1,5 @@
 use Rattle.serde_json.specs.View.{view}
-use Rattle.xmi_profile.specs.declared.fault.Externs.TheVariants as externs
+use Rattle.model_assembly.specs.declared.fault.Externs.TheVariants as externs
 use Rattle.model_files.proofs.ReadingLaws.{is_whole, assembled_spells, assembled_told}
 use Rattle.model_files.proofs.files.read_json.Goals as goal
 

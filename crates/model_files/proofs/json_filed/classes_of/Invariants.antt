@@ -1,6 +1,6 @@
 use Rattle.std.proofs.Common.{◌≡◌, map, take, drop, Some}
 use Rattle.serde_json.specs.View.{view}
-use Rattle.xmi_profile.specs.Elements.{concrete_class}
+use Rattle.model_assembly.specs.Elements.{concrete_class}
 use Rattle.model_files.specs.JsonContent.{written_of}
 use Rattle.model_files.specs.JsonFiled.{AreClassed}
 use Rattle.model_files.proofs.json_filed.classes_of.Given as goal

@@ -1,8 +1,8 @@
 use Rattle.std.proofs.Common.{◌≡◌, ◌∙◌, List, IfOk, map, refl, ap, subst}
 use Rattle.serde_json.specs.Data.{Data}
 use Rattle.serde_json.specs.View.{view}
-use Rattle.xmi_profile.specs.Forms.{form_of}
-use Rattle.xmi_profile.specs.declared.form.Form.TheVariants.{Attribute, Elements, Identifiers, Parts, Nesting}
+use Rattle.model_assembly.specs.Forms.{form_of}
+use Rattle.model_assembly.specs.declared.form.Form.TheVariants.{Attribute, Elements, Identifiers, Parts, Nesting}
 use Rattle.model_files.proofs.JsonLaws.{attribute_at, reference_at, slot_is}
 use Rattle.model_files.proofs.json_values.slot_values.Goals as goal
 

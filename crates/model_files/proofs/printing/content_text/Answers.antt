@@ -1,5 +1,5 @@
 use Rattle.std.proofs.Common.{◌≡◌, ℕ, List, [], ◌∷◌, codes, IfOk, sym, subst}
-use Rattle.xmi_profile.specs.declared.fault.ModelFault.{ModelFault}
+use Rattle.model_assembly.specs.declared.fault.ModelFault.{ModelFault}
 use Rattle.fault_lines.specs.Lines as lines
 use Rattle.model_files.specs.FaultTexts as texts
 use Rattle.model_files.proofs.printing.content_text.Goals as goal

@@ -2,7 +2,7 @@ use Rattle.std.proofs.Common.{subst, [], ◌∷◌}
 use Rattle.std.specs.Prelude.{IfSome}
 use Rattle.std.proofs.lemmas.Result.{err_from_is_err_and, MatchResult-weaker}
 use Rattle.vault_io.specs.Counts.{Rose}
-use Rattle.xmi_profile.specs.declared.fault.Externs.TheVariants as externs
+use Rattle.model_assembly.specs.declared.fault.Externs.TheVariants as externs
 use Rattle.model_files.specs.Files.{IsFileError}
 use Rattle.qvtr_engine.specs.ConvertView.{convert_view}
 use Rattle.qvtr_engine.specs.Converting.{IsTextAt}

@@ -2,7 +2,7 @@ use Rattle.std.proofs.Common.{sym, subst}
 use Rattle.std.specs.Prelude.{IfSome}
 use Rattle.qvtr_engine.specs.FileStops.{HasShortFile}
 use Rattle.std.proofs.lemmas.Result.{err_from_is_err_and}
-use Rattle.xmi_profile.specs.declared.fault.Externs.TheVariants as externs
+use Rattle.model_assembly.specs.declared.fault.Externs.TheVariants as externs
 use Rattle.model_files.specs.Files.{IsFileError}
 use Rattle.qvtr_engine.proofs.ConvertingLaws.{text_ok}
 use Rattle.qvtr_engine.proofs.ReadingFileLaws.{unloaded_stops, unread_err}

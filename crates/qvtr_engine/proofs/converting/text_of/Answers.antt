@@ -1,4 +1,4 @@
-use Rattle.xmi_profile.specs.declared.fault.Externs.TheVariants as externs
+use Rattle.model_assembly.specs.declared.fault.Externs.TheVariants as externs
 use Rattle.qvtr_engine.proofs.FileLaws.{file_valid, file_depth}
 use Rattle.qvtr_engine.proofs.converting.text_of.Goals as goal
 

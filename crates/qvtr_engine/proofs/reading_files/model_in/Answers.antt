@@ -1,4 +1,4 @@
-use Rattle.xmi_profile.specs.declared.fault.Externs.TheVariants as externs
+use Rattle.model_assembly.specs.declared.fault.Externs.TheVariants as externs
 use Rattle.model_files.specs.Files.{IsFileError}
 use Rattle.qvtr_engine.proofs.ReadingFileLaws.{stop_unread, read_by}
 use Rattle.qvtr_engine.proofs.reading_files.model_in.Goals as goal

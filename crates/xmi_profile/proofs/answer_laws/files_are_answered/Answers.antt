@@ -1,6 +1,6 @@
 use Rattle.std.proofs.Common.{Ok, Err}
 use Rattle.xmi_profile.specs.declared.fault.XmiError.TheVariants as errors
-use Rattle.xmi_profile.proofs.assembling.AnsweredLaws.{spells, misspelled, refused, answered}
+use Rattle.xmi_profile.proofs.AnsweredLaws.{spells, misspelled, refused, answered}
 use Rattle.xmi_profile.proofs.answer_laws.files_are_answered.Goals as goal
 
 pub returns : goal.returns

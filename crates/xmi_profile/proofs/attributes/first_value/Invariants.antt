@@ -1,5 +1,5 @@
 use Rattle.std.proofs.Common.{◌≡◌, drop}
-use Rattle.xmi_profile.specs.Attributes.{value_where}
+use Rattle.model_assembly.specs.Attributes.{value_where}
 use Rattle.xmi_profile.specs.Scanning.{is_own, pairs_of}
 use Rattle.xmi_profile.proofs.attributes.first_value.Given as goal
 

@@ -1,4 +1,4 @@
-use Rattle.xmi_profile.proofs.assembling.AnswerLaws.{spelled}
+use Rattle.xmi_profile.proofs.AnsweredLaws.{spelled}
 use Rattle.xmi_profile.proofs.model_reading.read_model.Goals as goal
 
 pub returns : goal.returns

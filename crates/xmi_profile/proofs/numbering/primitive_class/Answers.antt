@@ -1,5 +1,5 @@
 use Rattle.std.proofs.Common.{ℕ, List, ◌∙◌, ap}
-use Rattle.xmi_profile.specs.Elements.{concrete_class}
+use Rattle.model_assembly.specs.Elements.{concrete_class}
 use Rattle.xmi_profile.proofs.Literals.{primitive}
 use Rattle.xmi_profile.proofs.numbering.primitive_class.Goals as goal
 

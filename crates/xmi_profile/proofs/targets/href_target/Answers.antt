@@ -1,8 +1,8 @@
 use Rattle.std.proofs.Common.{◌≡◌, ℕ, Bool, List, [], ◌∷◌, ◌∙◌, ap, subst}
 use Rattle.std.specs.Prelude.{Option, IfOk}
 use Rattle.xmi_text.specs.Markup.{begins}
-use Rattle.xmi_profile.specs.Attributes.{behind}
-use Rattle.xmi_profile.specs.References.{Target}
+use Rattle.model_assembly.specs.Attributes.{behind}
+use Rattle.model_assembly.specs.declared.target.Target.{Target}
 use Rattle.xmi_profile.specs.Scanning.{href_by}
 use Rattle.xmi_profile.proofs.NameLaws.{href_divided}
 use Rattle.xmi_profile.proofs.targets.href_target.Goals as goal

@@ -1,5 +1,5 @@
 use Rattle.std.proofs.Common.{sym}
-use Rattle.xmi_profile.proofs.WritingParts.{part_where_contained, no_part_at_top}
+use Rattle.model_assembly.proofs.WritingParts.{part_where_contained, no_part_at_top}
 use Rattle.xmi_profile.proofs.writing.is_part.Goals as goal
 
 pub returns-in-Some : goal.returns-in-Some

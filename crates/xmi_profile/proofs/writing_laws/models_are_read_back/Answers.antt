@@ -1,4 +1,4 @@
-use Rattle.xmi_profile.specs.Held.{MayBeWritten}
+use Rattle.model_assembly.specs.Held.{MayBeWritten}
 use Rattle.xmi_profile.proofs.written.Reading.{written_read, read_alone}
 use Rattle.xmi_profile.proofs.written.Accepted.{not_refused}
 use Rattle.xmi_profile.proofs.writing_laws.models_are_read_back.Goals as goal

@@ -6,9 +6,9 @@ use Rattle.mof_metamodel.specs.Metamodels.{prop_count, props_of}
 use Rattle.mof_metamodel.specs.Tables.{prop_numbers}
 use Rattle.object_tables.specs.Models.{partners_at}
 use Rattle.xmi_text.specs.Calls.{wrote}
-use Rattle.xmi_profile.specs.declared.form.Form.TheVariants as forms
-use Rattle.xmi_profile.specs.Forms.{form_of}
-use Rattle.xmi_profile.specs.Profile.{prop_name, object_props}
+use Rattle.model_assembly.specs.declared.form.Form.TheVariants as forms
+use Rattle.model_assembly.specs.Forms.{form_of}
+use Rattle.model_assembly.specs.Profile.{prop_name, object_props}
 use Rattle.xmi_profile.specs.Canon.{depth_over, tag_calls, object_calls}
 use Rattle.xmi_profile.specs.Writable.{CanWrite, Left, has_some, children_calls, calls_of, end_calls, value_elements, part_elements}
 use Rattle.xmi_profile.proofs.WritingSteps.{left_start, left_first, left_rest, item_can, item_left, item_some, left_none_by, none_some, object_begun, part_can, part_left, part_some, parts_none, parts_some, object_some}

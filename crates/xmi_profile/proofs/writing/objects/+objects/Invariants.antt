@@ -2,7 +2,7 @@ use Rattle.std.proofs.Common.{◌≡◌, ◌+◌, ◌*◌, ◌||◌, drop, lengt
 use Rattle.std.specs.List.{flat_map}
 use Rattle.mof_metamodel.specs.Tables.{prop_numbers}
 use Rattle.xmi_text.specs.Calls.{wrote}
-use Rattle.xmi_profile.specs.Profile.{prop_name}
+use Rattle.model_assembly.specs.Profile.{prop_name}
 use Rattle.xmi_profile.specs.Canon.{object_calls}
 use Rattle.xmi_profile.specs.Writable.{Left, AreLive, has_some, children_calls, calls_of, part_elements}
 use Rattle.xmi_profile.proofs.writing.objects.+objects.Given as goal

@@ -2,7 +2,7 @@ use Rattle.std.proofs.Common.{◌<◌, sym, ap, subst, ◌∙◌}
 use Rattle.std.specs.Prelude.{not}
 use Rattle.mof_metamodel.specs.Metamodels.{prop_count}
 use Rattle.xmi_text.specs.Calls.{wrote}
-use Rattle.xmi_profile.specs.Profile.{prop_name}
+use Rattle.model_assembly.specs.Profile.{prop_name}
 use Rattle.xmi_profile.specs.Writable.{CanWrite}
 use Rattle.xmi_profile.proofs.WritingForms.{attribute_known, values_told, elements_same, elements_some}
 use Rattle.xmi_profile.proofs.writing.objects.write_values.Goals as goal

@@ -1,5 +1,5 @@
 use Rattle.std.proofs.Common.{◌≡◌, length}
-use Rattle.xmi_profile.specs.Profile.{id_text}
+use Rattle.model_assembly.specs.Profile.{id_text}
 use Rattle.xmi_profile.specs.Canon.{spaced_behind}
 use Rattle.xmi_profile.specs.Writable.{AreLive, ids_of}
 use Rattle.xmi_profile.proofs.writing.tags.identifiers.Given as goal

@@ -2,7 +2,7 @@ use Rattle.std.proofs.Common.{drop}
 use Rattle.std.specs.List.{flat_map}
 use Rattle.mof_metamodel.specs.Tables.{prop_numbers}
 use Rattle.xmi_text.specs.Calls.{wrote}
-use Rattle.xmi_profile.specs.Profile.{object_props}
+use Rattle.model_assembly.specs.Profile.{object_props}
 use Rattle.xmi_profile.specs.Canon.{attr_calls}
 use Rattle.xmi_profile.specs.Writable.{Left}
 use Rattle.xmi_profile.proofs.writing.tags.write_attrs.Given as goal

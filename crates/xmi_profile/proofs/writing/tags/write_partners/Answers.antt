@@ -4,7 +4,7 @@ use Rattle.mof_metamodel.specs.Characters.{is_storable_text}
 use Rattle.object_tables.specs.Models.{partners_at}
 use Rattle.xmi_text.specs.Writing.{with_attr}
 use Rattle.xmi_text.specs.Calls.{wrote}
-use Rattle.xmi_profile.specs.Profile.{prop_name}
+use Rattle.model_assembly.specs.Profile.{prop_name}
 use Rattle.xmi_profile.specs.Writable.{CanWrite}
 use Rattle.xmi_profile.proofs.WritingForms.{rest_live, ids_live, partners_written}
 use Rattle.xmi_profile.proofs.writing.tags.write_partners.Goals as goal

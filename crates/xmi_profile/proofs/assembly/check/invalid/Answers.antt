@@ -1,5 +1,0 @@
-use Rattle.xmi_profile.proofs.assembling.CheckLaws.{breach_live}
-use Rattle.xmi_profile.proofs.assembly.check.invalid.Goals as goal
-
-pub id_of-requires : goal.id_of-requires
-id_of-requires c = breach_live c.args.model.now c.args.breach c.end.ensures.kept c.requires

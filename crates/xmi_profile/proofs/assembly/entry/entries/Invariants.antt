@@ -1,7 +1,0 @@
-use Rattle.std.proofs.Common.{◌≡◌, ◌++◌, drop}
-use Rattle.xmi_profile.specs.AssemblyEntries.{entries_from}
-use Rattle.xmi_profile.proofs.assembly.entry.entries.Given as goal
-
--- the entries so far, and then those of the rest
-abbrev pub invariant-loop-i : goal.invariant-loop-i
-invariant-loop-i l = l.entries.items ++ entries_from l.meta l.classes l.i (drop l.i l.references) ≡ entries_from l.meta l.classes 0 l.references

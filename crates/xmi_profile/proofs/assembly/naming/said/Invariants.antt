@@ -1,7 +1,0 @@
-use Rattle.std.proofs.Common.{◌≡◌, map, take}
-use Rattle.xmi_profile.specs.AssemblyNamings.{saying_of}
-use Rattle.xmi_profile.proofs.assembly.naming.said.Given as goal
-
--- those so far
-abbrev pub invariant-loop-naming : goal.invariant-loop-naming
-invariant-loop-naming l = l.sayings.items ≡ map saying_of (take l.naming-index l.namings)

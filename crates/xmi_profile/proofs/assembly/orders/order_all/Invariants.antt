@@ -1,7 +1,0 @@
-use Rattle.std.proofs.Common.{◌≡◌}
-use Rattle.xmi_profile.specs.AssemblyOrders.{ordered}
-use Rattle.xmi_profile.proofs.assembly.orders.order_all.Given as goal
-
--- the orders so far
-abbrev pub invariant-loop-i : goal.invariant-loop-i
-invariant-loop-i l = l.model ≡ ordered l.fn.model l.namings l.i

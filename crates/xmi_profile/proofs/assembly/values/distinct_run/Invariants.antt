@@ -1,8 +1,0 @@
-use Rattle.std.proofs.Common.{◌≡◌, ◌++◌, [], drop}
-use Rattle.xmi_profile.specs.AssemblyValues.{run}
-use Rattle.xmi_profile.specs.Values.{unmet}
-use Rattle.xmi_profile.proofs.assembly.values.distinct_run.Given as goal
-
--- the values so far, and then those of the rest that aren't met
-abbrev pub invariant-loop-value : goal.invariant-loop-value
-invariant-loop-value l = l.slot ++ unmet l.met.set.keys (run l.object l.property.0 (drop l.value-index l.values)) ≡ unmet [] (run l.object l.property.0 l.values)

@@ -1,7 +1,0 @@
-use Rattle.std.proofs.Common.{◌≡◌}
-use Rattle.xmi_profile.specs.AssemblyValues.{valued}
-use Rattle.xmi_profile.proofs.assembly.values.set_all.Given as goal
-
--- the values so far
-abbrev pub invariant-loop-i : goal.invariant-loop-i
-invariant-loop-i l = l.model ≡ valued l.fn.model l.values l.i

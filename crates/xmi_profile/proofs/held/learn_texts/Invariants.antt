@@ -1,7 +1,0 @@
-use Rattle.std.proofs.Common.{take}
-use Rattle.std.specs.Prelude.{All}
-use Rattle.xmi_profile.specs.Held.{IsHeldText}
-use Rattle.xmi_profile.proofs.held.learn_texts.Given as goal
-
-abbrev pub invariant-loop-text : goal.invariant-loop-text
-invariant-loop-text l = All IsHeldText (take l.text-index l.texts)

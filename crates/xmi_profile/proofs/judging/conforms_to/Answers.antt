@@ -1,5 +1,0 @@
-use Rattle.xmi_profile.proofs.RoleLaws.{conforms_same}
-use Rattle.xmi_profile.proofs.judging.conforms_to.Goals as goal
-
-pub returns : goal.returns
-returns c = conforms_same c.args.meta.now c.args.class.0 c.args.d.0 c.requires c.conforms.result c.conforms.ensures
