@@ -20,4 +20,5 @@ pub mod CollectLaws
 pub mod Measures
 pub mod ScopeLaws
 pub mod ReachLaws
+pub mod GrowingLaws
 pub mod Refuting

@@ -20,7 +20,7 @@ among-kept Bag e ds = among-in_order e ds
 among-kept Sequence e ds = refl
 among-kept OrderedSet e ds = among-distinct e ds
 
-among-append : (e : Datum) (ds es : List Datum) → is_among e (ds ++ es) ≡ is_among e ds || is_among e es
+pub among-append : (e : Datum) (ds es : List Datum) → is_among e (ds ++ es) ≡ is_among e ds || is_among e es
 among-append e [] es = refl
 among-append e (d ∷ ds) es = ap (λ b. same_datum e d || b) (among-append e ds es) ∙ grouped (same_datum e d) (is_among e ds) (is_among e es)
   where

@@ -231,12 +231,14 @@ set_in_order xs =
     same_set (dedup same_datum (in_order xs)) (in_order (distinct xs)) (strict-dedup (in_order xs) (rising-in_order xs)) (strict-new_ones [] xs)
     (λ e. among-dedup e (in_order xs) ∙ among-in_order e xs ∙ sym (among-distinct e xs) ∙ sym (among-in_order e (distinct xs)))
 
+pub one_set : (xs ys : List Datum) → ((e : Datum) → is_among e xs ≡ is_among e ys) → in_order (distinct xs) ≡ in_order (distinct ys)
+one_set xs ys same =
+    same_set (in_order (distinct xs)) (in_order (distinct ys)) (strict-new_ones [] xs) (strict-new_ones [] ys)
+    (λ e. among-in_order e (distinct xs) ∙ among-distinct e xs ∙ same e ∙ sym (among-distinct e ys) ∙ sym (among-in_order e (distinct ys)))
+
 -- Sets of the same members are one
 pub set_by_members : (xs ys : List Datum) → ((e : Datum) → is_among e xs ≡ is_among e ys) → collection Set xs ≡ collection Set ys
-set_by_members xs ys same =
-    let members : (e : Datum) → is_among e (in_order (distinct xs)) ≡ is_among e (in_order (distinct ys)) =
-    λ e. among-in_order e (distinct xs) ∙ among-distinct e xs ∙ same e ∙ sym (among-distinct e ys) ∙ sym (among-in_order e (distinct ys)) in
-    ap (bounded Set) (same_set (in_order (distinct xs)) (in_order (distinct ys)) (strict-new_ones [] xs) (strict-new_ones [] ys) members)
+set_by_members xs ys same = ap (bounded Set) (one_set xs ys same)
 
 -- a Set of a Bag's elements is the Set of what the Bag was made of
 pub set_of_a_bag : (ds : List Datum) → collection Set (in_order ds) ≡ collection Set ds

@@ -77,7 +77,7 @@ head_not_before x xs y ys up same =
 same_tails : (x : Datum) (xs : List Datum) (y : Datum) (ys : List Datum) → x ≡ y → (f : Datum → ℕ) → sum_by f (x ∷ xs) ≡ sum_by f (y ∷ ys) → sum_by f xs ≡ sum_by f ys
 same_tails x xs y ys e f h = omega (arith, ap f e, sum_by-cons f x xs, sum_by-cons f y ys, h)
 
-same_list : (xs ys : List Datum) → IsRising xs → IsRising ys → ((f : Datum → ℕ) → sum_by f xs ≡ sum_by f ys) → xs ≡ ys
+pub same_list : (xs ys : List Datum) → IsRising xs → IsRising ys → ((f : Datum → ℕ) → sum_by f xs ≡ sum_by f ys) → xs ≡ ys
 same_list [] [] up on same = refl
 same_list [] (y ∷ ys) up on same = absurd (omega (arith, same (λ z. 1), sum_by-cons (λ z. 1) y ys))
 same_list (x ∷ xs) [] up on same = absurd (omega (arith, same (λ z. 1), sum_by-cons (λ z. 1) x xs))
@@ -112,7 +112,7 @@ sum-placed f d (e ∷ es) = go (is_before e d) (sum-placed f d es)
     go true more = omega (arith, sum_by-cons f e (placed d es), more, sum_by-cons f e es)
     go false more = sum_by-cons f d (e ∷ es)
 
-sum-in_order : (f : Datum → ℕ) (xs : List Datum) → sum_by f (in_order xs) ≡ sum_by f xs
+pub sum-in_order : (f : Datum → ℕ) (xs : List Datum) → sum_by f (in_order xs) ≡ sum_by f xs
 sum-in_order f [] = refl
 sum-in_order f (x ∷ xs) = sum-placed f x (in_order xs) ∙ ap (λ n. f x + n) (sum-in_order f xs) ∙ sym (sum_by-cons f x xs)
 

@@ -16,7 +16,7 @@ use Rattle.qvtr_semantics.specs.Objects.{Setting, ObjectClass}
 use Rattle.qvtr_semantics.specs.Expressions.{Scope, Meaning, Operated, Called, Queries, variable, setting, queries_within, meaning, node_meaning, call_meaning, typed_meaning, infix_meaning, postfix_meaning}
 use Rattle.ocl_eval.specs.declared.world.World.{World}
 use Rattle.ocl_eval.specs.declared.reached.Reached.{Reached}
-use Rattle.ocl_eval.specs.declared.reached.Reached.TheVariants.{Own, Variable}
+use Rattle.ocl_eval.specs.declared.reached.Reached.TheVariants.{Own, Variable, Growing}
 
 abbrev pub setting_of : World → Setting
 setting_of w = setting w.program.now w.models.now
@@ -47,6 +47,7 @@ each_behind body scope ds = map (λ d. body (scope ++ One d ∷ [])) ds
 abbrev pub reached_in : Scope → Reached → Out
 reached_in scope (Own x) = x
 reached_in scope (Variable number) = variable scope number
+reached_in scope (Growing x) = x
 
 -- the metamodel and the class of a live object of these models
 abbrev pub class_in : List ModelData → Datum → Option ObjectClass

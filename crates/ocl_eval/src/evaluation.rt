@@ -1,4 +1,4 @@
-ghost use Rattle.std.specs.Prelude.{◌≡◌, [], ◌∷◌, ◌++◌, map, slice_get, IfOk, OnOk};
+ghost use Rattle.std.specs.Prelude.{◌≡◌, [], ◌∷◌, ◌++◌, map, slice_get, true, IfOk, OnOk};
 ghost use Rattle.std.specs.Option.{option_copied};
 ghost use Rattle.std.specs.List.{fold};
 ghost use Rattle.qvtr_semantics.specs.declared.out.Out.TheVariants.{One};
@@ -8,16 +8,19 @@ ghost use Rattle.qvtr_semantics.specs.Outs.{boolean_of};
 ghost use Rattle.qvtr_semantics.specs.Expressions.{on_collection as on_collection_of, with_variable, chosen, all_operated, all_called, in_scope, each, with_collection, variable as value_of, value, value_for, is_true};
 ghost use Rattle.qvtr_semantics.specs.Equality.{is_known_true as known_true};
 ghost use Rattle.qvtr_semantics.specs.Iterators.{iterated};
+ghost use Rattle.ocl_eval.specs.Operations.{is_growing};
 ghost use Rattle.ocl_eval.specs.Progress.{advanced};
 ghost use Rattle.ocl_eval.specs.Worlds.{setting_of, queries_of, meaning_of, call_of, infix_of, postfix_of, each_behind, reached_in};
 
 use crate::classes::{class_operation, extent};
 use crate::datum::duplicate_datum;
+use crate::growing::Growing;
 use crate::integers::integer;
 use crate::kinds::literal;
+use crate::limits::MAX_EVALUATIONS;
 use crate::models::Models;
 use crate::navigation::{collect_property, property_of};
-use crate::on_collections::on_collection;
+use crate::on_collections::{is_growing, on_collection};
 use crate::operations::operation;
 use crate::operators::{negated, negation, operated};
 use crate::outs::{boolean, boolean_of};
@@ -172,15 +175,53 @@ fn eval_calls(
 {
     let mut reached = x;
     for call in calls {
-        let out = eval_reached(world, scope, reached, &call.call)?;
-        reached = Reached::Own(out);
+        reached = eval_reached(world, scope, reached, &call.call)?;
     }
     scope.taken(world.alloc, reached)
 }
 
-/// What is called on a value that may be a variable's.
+/// What is called on a value. Elements that are brought into a collection wait there.
 #[cycle(evaluation)]
+#[tactic(auto, using(crate::proofs::FormLaws::collection_is))]
 fn eval_reached(
+    world: &World<'_, '_>,
+    scope: &mut Reach<'_>,
+    x: Reached,
+    call: &Call,
+) -> Result<Reached, NoMemory>
+    ensures value { IfOk result (λ y. reached_in scope.old y ≡ call_of world.now call.now scope.old (reached_in scope.old x)) }
+    ensures scope { OnOk result (scope.new ≡ scope.old) }
+{
+    if let Call::Collection { operation, args } = call {
+        if is_growing(*operation) {
+            let out = eval_growing(world, scope, x, *operation, args.as_slice())?;
+            return Ok(Reached::Growing(out));
+        }
+    }
+    let out = eval_settled(world, scope, x, call)?;
+    Ok(Reached::Own(out))
+}
+
+/// What an operation that brings elements into a collection, with its arguments, makes of a value.
+#[cycle(evaluation)]
+fn eval_growing(
+    world: &World<'_, '_>,
+    scope: &mut Reach<'_>,
+    x: Reached,
+    operation: CollectionOperation,
+    args: &[Typed],
+) -> Result<Growing, NoMemory>
+    requires { is_growing operation ≡ true }
+    ensures value { IfOk result (λ out. out ≡ with_collection (reached_in scope.old x) (λ c. on_collection_of operation c (in_scope scope.old (map (meaning_of world.now) args.now)))) }
+    ensures scope { OnOk result (scope.new ≡ scope.old) }
+{
+    let args = eval_all(world, scope, args)?;
+    scope.growing(world.alloc, x, operation, args)
+}
+
+/// What is called on a value that is put at hand, but for a variable's.
+#[cycle(evaluation)]
+fn eval_settled(
     world: &World<'_, '_>,
     scope: &mut Reach<'_>,
     x: Reached,
@@ -192,6 +233,10 @@ fn eval_reached(
     match x {
         Reached::Own(x) => eval_call(world, scope, x, call),
         Reached::Variable(number) => eval_on_variable(world, scope, number, call),
+        Reached::Growing(x) => {
+            let x = x.settled(world.alloc)?;
+            eval_call(world, scope, Running::new(x), call)
+        }
     }
 }
 
@@ -340,10 +385,16 @@ fn query_at<'a>(world: &World<'a, '_>, number: u32) -> Option<&'a Query>
     world.program.queries.as_slice().get(number as usize)
 }
 
-/// The value of a query's body with these values of its parameters.
+/// The value of a query's body with these values of its parameters. So many levels may be evaluated within
+/// one another there.
 #[cycle(evaluation)]
 #[tactic(auto, using(crate::proofs::ScopeLaws::no_calls, crate::proofs::ScopeLaws::no_query, crate::proofs::ScopeLaws::query_called, crate::proofs::Measures::falls_in))]
-fn call_query(world: &World<'_, '_>, query: u32, args: Seq<Out>) -> Result<Out, NoMemory>
+fn call_query(
+    world: &World<'_, '_>,
+    levels: usize,
+    query: u32,
+    args: Seq<Out>,
+) -> Result<Out, NoMemory>
     ensures { IfOk result (λ out. out ≡ queries_of world.now query args) }
 {
     if world.calls == 0 {
@@ -357,17 +408,17 @@ fn call_query(world: &World<'_, '_>, query: u32, args: Seq<Out>) -> Result<Out, 
                 models: world.models,
                 calls: world.calls - 1,
             };
-            let mut scope = Reach::of(Scope::new(args));
+            let mut scope = Reach::of(Scope::new(args), levels);
             eval_part(&inner, &mut scope, &query.body)
         }
         None => Ok(Out::Invalid),
     }
 }
 
-/// The value of an expression, with these values of the variables in reach.
+/// The value of an expression by its form, with these values of the variables in reach.
 #[cycle(evaluation)]
 #[tactic(auto, using(crate::proofs::FormLaws::number_is, crate::proofs::FormLaws::string_is, crate::proofs::FormLaws::bool_is, crate::proofs::FormLaws::null_is, crate::proofs::FormLaws::invalid_is, crate::proofs::FormLaws::enum_literal_is, crate::proofs::FormLaws::variable_is, crate::proofs::FormLaws::extent_is, crate::proofs::FormLaws::let_is, crate::proofs::FormLaws::chain_is, crate::proofs::FormLaws::calls_from, crate::proofs::FormLaws::not_is, crate::proofs::FormLaws::negated_is, crate::proofs::FormLaws::if_is, crate::proofs::FormLaws::coll_is, crate::proofs::FormLaws::query_is))]
-fn eval_part(world: &World<'_, '_>, scope: &mut Reach<'_>, part: &Typed) -> Result<Out, NoMemory>
+fn eval_node(world: &World<'_, '_>, scope: &mut Reach<'_>, part: &Typed) -> Result<Out, NoMemory>
     ensures value { IfOk result (λ out. out ≡ meaning_of world.now part.now scope.old) }
     ensures scope { OnOk result (scope.new ≡ scope.old) }
 {
@@ -416,9 +467,22 @@ fn eval_part(world: &World<'_, '_>, scope: &mut Reach<'_>, part: &Typed) -> Resu
         Node::Extent { model, class } => extent(world, *model, *class),
         Node::Query { query, args } => {
             let args = eval_all(world, scope, args.as_slice())?;
-            call_query(world, *query, args)
+            call_query(world, scope.levels(), *query, args)
         }
     }
+}
+
+/// The value of an expression, with these values of the variables in reach: one level more. Want of memory
+/// where no level is left, since each takes stack.
+#[cycle(evaluation)]
+fn eval_part(world: &World<'_, '_>, scope: &mut Reach<'_>, part: &Typed) -> Result<Out, NoMemory>
+    ensures value { IfOk result (λ out. out ≡ meaning_of world.now part.now scope.old) }
+    ensures scope { OnOk result (scope.new ≡ scope.old) }
+{
+    scope.begin_level()?;
+    let out = eval_node(world, scope, part)?;
+    scope.end_level();
+    Ok(out)
 }
 
 /// The value of an expression (OCL 2.4, chapter 11) among the models of a program, with these values of the variables in reach, which
@@ -439,7 +503,10 @@ pub fn eval_in(
         models,
         calls: program.queries.len(),
     };
-    let mut reach = Reach::of(mem::replace(scope, Scope::new(Seq::new(alloc))));
+    let mut reach = Reach::of(
+        mem::replace(scope, Scope::new(Seq::new(alloc))),
+        MAX_EVALUATIONS,
+    );
     let out = eval_part(&world, &mut reach, typed)?;
     *scope = reach.into_scope(alloc)?;
     Ok(out)
@@ -462,7 +529,7 @@ pub fn eval(
         models,
         calls: program.queries.len(),
     };
-    let mut reach = Reach::over(alloc, binding.values.as_slice());
+    let mut reach = Reach::over(alloc, binding.values.as_slice(), MAX_EVALUATIONS);
     eval_part(&world, &mut reach, typed)
 }
 

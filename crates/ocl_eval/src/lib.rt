@@ -1,6 +1,8 @@
 //! The values of expressions (OCL 2.4, chapter 11): `eval` gives what `qvtr_semantics` says an expression is, by recursion on
 //! its tree and on the calls of queries. An evaluation takes time linear in what it looks at, with a logarithm for Sets and
-//! Bags, and a stack as deep as the tree and the calls of queries within one another. A chain of `+` or `concat` looks at each part once.
+//! Bags, and a stack as deep as the tree and the calls of queries within one another: of more than `MAX_EVALUATIONS` levels it answers
+//! want of memory. A chain of `+` or `concat` looks at each part once, and one of `including` or `union` takes the time of its
+//! elements, with a logarithm.
 //!
 //! Below it stand the operations on values: on single data, Integers, Strings, Booleans and collections, and what an iterator gives of
 //! the values of its body. Each function gives what its definition in `qvtr_semantics` says; an operation on a collection is
@@ -19,8 +21,10 @@ pub mod comparing;
 mod datum;
 mod equality;
 mod evaluation;
+mod growing;
 mod integers;
 pub mod kinds;
+mod limits;
 mod met;
 mod met_outs;
 mod models;
@@ -52,6 +56,7 @@ pub use integers::{
     absolute, integer, maximum, minimum, minus, negated, plus, quotient, remainder, sum, times,
 };
 pub use kinds::literal;
+pub use limits::MAX_EVALUATIONS;
 pub use models::Models;
 pub use navigation::held_at;
 pub use on_collections::on_collection;

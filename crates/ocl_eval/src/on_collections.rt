@@ -2,7 +2,7 @@ ghost use Rattle.std.specs.Prelude.{◌≡◌, true, false, IfOk};
 ghost use Rattle.qvtr_semantics.specs.Outs.{Collection, given, datum_of, integer_of, collection_of};
 ghost use Rattle.qvtr_semantics.specs.Collections as definitions;
 ghost use Rattle.qvtr_semantics.specs.Expressions.{argument, on_collection};
-ghost use Rattle.ocl_eval.specs.Operations.{is_reading, with_element, grown_by, with_other};
+ghost use Rattle.ocl_eval.specs.Operations.{is_reading, is_growing, with_element, grown_by, with_other};
 
 use crate::collections::{
     append, at, excludes, excluding, first, includes, is_empty, last, not_empty, prepend, size,
@@ -18,7 +18,7 @@ use qvtr_semantics::{Datum, Out};
 use std::alloc::Global;
 
 // the first argument; one that isn't there is invalid
-fn argument(args: Seq<Out>) -> Out
+pub(crate) fn argument(args: Seq<Out>) -> Out
     ensures { result ≡ argument args 0 }
 {
     let mut all = args.into_vec();
@@ -43,6 +43,16 @@ fn is_reading(operation: CollectionOperation) -> bool
         | CollectionOperation::AsSequence
         | CollectionOperation::AsOrderedSet => false,
         _ => true,
+    }
+}
+
+/// Whether an operation brings elements into the collection, of which its kind keeps what it keeps.
+pub(crate) fn is_growing(operation: CollectionOperation) -> bool
+    ensures { result ≡ is_growing operation }
+{
+    match operation {
+        CollectionOperation::Including | CollectionOperation::Union => true,
+        _ => false,
     }
 }
 

@@ -14,31 +14,40 @@ use Rattle.ocl_eval.proofs.evaluation.+evaluation.Given as goal
 -- ---- what falls
 
 abbrev pub decreases-eval_part : goal.decreases-eval_part
-decreases-eval_part l = left_in l.world.now + (4 * size-Typed l.part.now + 1)
+decreases-eval_part l = left_in l.world.now + (4 * size-Typed l.part.now + 2)
+
+abbrev pub decreases-eval_node : goal.decreases-eval_node
+decreases-eval_node l = left_in l.world.now + (4 * size-Typed l.part.now + 1)
 
 abbrev pub decreases-eval_body : goal.decreases-eval_body
-decreases-eval_body l = left_in l.world.now + (4 * size-Typed l.body.now + 2)
+decreases-eval_body l = left_in l.world.now + (4 * size-Typed l.body.now + 3)
 
 abbrev pub decreases-eval_let : goal.decreases-eval_let
-decreases-eval_let l = left_in l.world.now + (4 * max (size-Typed l.value.now) (size-Typed l.body.now) + 3)
+decreases-eval_let l = left_in l.world.now + (4 * max (size-Typed l.value.now) (size-Typed l.body.now) + 4)
 
 abbrev pub decreases-eval_if : goal.decreases-eval_if
-decreases-eval_if l = left_in l.world.now + (4 * max (size-Typed l.condition.now) (max (size-Typed l.one.now) (size-Typed l.other.now)) + 2)
+decreases-eval_if l = left_in l.world.now + (4 * max (size-Typed l.condition.now) (max (size-Typed l.one.now) (size-Typed l.other.now)) + 3)
 
 abbrev pub decreases-eval_all : goal.decreases-eval_all
-decreases-eval_all l = left_in l.world.now + (4 * most size-Typed l.parts.now + 2)
+decreases-eval_all l = left_in l.world.now + (4 * most size-Typed l.parts.now + 3)
 
 abbrev pub decreases-eval_links : goal.decreases-eval_links
-decreases-eval_links l = left_in l.world.now + (4 * most size-TypedInfix l.links.now + 2)
+decreases-eval_links l = left_in l.world.now + (4 * most size-TypedInfix l.links.now + 3)
 
 abbrev pub decreases-eval_calls : goal.decreases-eval_calls
-decreases-eval_calls l = left_in l.world.now + (4 * most size-TypedPostfix l.calls.now + 3)
+decreases-eval_calls l = left_in l.world.now + (4 * most size-TypedPostfix l.calls.now + 4)
 
 abbrev pub decreases-eval_start : goal.decreases-eval_start
-decreases-eval_start l = left_in l.world.now + (4 * size-Typed l.part.now + 2)
+decreases-eval_start l = left_in l.world.now + (4 * size-Typed l.part.now + 3)
 
 abbrev pub decreases-eval_reached : goal.decreases-eval_reached
-decreases-eval_reached l = left_in l.world.now + (4 * size-Call l.call.now + 4)
+decreases-eval_reached l = left_in l.world.now + (4 * size-Call l.call.now + 5)
+
+abbrev pub decreases-eval_settled : goal.decreases-eval_settled
+decreases-eval_settled l = left_in l.world.now + (4 * size-Call l.call.now + 4)
+
+abbrev pub decreases-eval_growing : goal.decreases-eval_growing
+decreases-eval_growing l = left_in l.world.now + (4 * most size-Typed l.args.now + 4)
 
 abbrev pub decreases-eval_on_variable : goal.decreases-eval_on_variable
 decreases-eval_on_variable l = left_in l.world.now + (4 * size-Call l.call.now + 3)
@@ -47,13 +56,13 @@ abbrev pub decreases-eval_call : goal.decreases-eval_call
 decreases-eval_call l = left_in l.world.now + (4 * size-Call l.call.now + 2)
 
 abbrev pub decreases-eval_collection : goal.decreases-eval_collection
-decreases-eval_collection l = left_in l.world.now + (4 * most size-Typed l.args.now + 3)
+decreases-eval_collection l = left_in l.world.now + (4 * most size-Typed l.args.now + 4)
 
 abbrev pub decreases-eval_iterator : goal.decreases-eval_iterator
-decreases-eval_iterator l = left_in l.world.now + (4 * size-Typed l.body.now + 4)
+decreases-eval_iterator l = left_in l.world.now + (4 * size-Typed l.body.now + 5)
 
 abbrev pub decreases-eval_each : goal.decreases-eval_each
-decreases-eval_each l = left_in l.world.now + (4 * size-Typed l.body.now + 3)
+decreases-eval_each l = left_in l.world.now + (4 * size-Typed l.body.now + 4)
 
 abbrev pub decreases-call_query : goal.decreases-call_query
 decreases-call_query l = left_in l.world.now
