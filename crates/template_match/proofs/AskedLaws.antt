@@ -1,5 +1,5 @@
 -- What the items of a template ask by expressions stands in each binding that meets the template.
-use Rattle.std.specs.Prelude.{◌≡◌, ℕ, Bool, true, false, ◌&&◌, if◌then◌else◌, List, [], ◌∷◌, map, Option, None, Some}
+use Rattle.std.specs.Prelude.{◌≡◌, ℕ, Bool, true, false, ◌&&◌, if◌then◌else◌, List, [], ◌∷◌, map, Option, None, Some, is_some}
 use Rattle.std.specs.List.{AllByRecursion, flat_map, list_all}
 use Rattle.std.specs.Option.{option_map_or}
 use Rattle.std.proofs.Common.{refl, sym, ap, subst, ◌∙◌}
@@ -21,17 +21,23 @@ use Rattle.qvtr_semantics.specs.Expressions.{setting, value_for}
 use Rattle.qvtr_semantics.specs.Templates.{Values, SlotMeaning, ItemMeaning, Pattern, slot_meaning, item_meaning, tmpl_meaning, object_matches, is_of_class, pattern, meets, value_at, has}
 use Rattle.qvtr_semantics.specs.Bindings.{template_meets}
 use Rattle.template_match.specs.declared.side.Side.{Side}
-use Rattle.template_match.specs.Asked.{AskedValue, asked_unless, value_asked, item_asked, tmpl_asked, asked_in, asked_in_item, asked_in_value, domain_asked}
+use Rattle.template_match.specs.Asked.{Asker, AskedValue, asked_unless, value_asked, item_asked, tmpl_asked, asked_in, asked_in_item, asked_in_value, domain_asked}
 use Rattle.template_match.specs.Links.{variable_alone}
 use Rattle.template_match.specs.Meeting.{slot_of, item_of}
+use Rattle.template_match.specs.Settled.{asked_datum}
 use Rattle.template_match.specs.Sides.{is_of_side, domain_meets}
 use Rattle.template_match.proofs.LinkLaws.{asked_of}
 use Rattle.template_match.proofs.ListLaws.{all_append}
 
 module _ (program : Program) (models : List ModelData) (b : Values) where
-  -- the object is bound, and the value of the expression stands in its slot
+  -- the object is bound, and what is asked for stands in its slot; a condition whose other side is no single value asks for nothing
+  abbrev pub is_asked_for : Asker → Bool
+  is_asked_for (Asker.item e) = true
+  is_asked_for (Asker.condition e) = is_some (datum_of (value_for program models e b))
+  is_asked_for (Asker.equation v) = true
+
   abbrev pub Stands : AskedValue → Type 0
-  Stands t = (d : Datum) × (value_at b t.holder ≡ Some d) × (has (held_at (setting program models) d t.prop.0) (datum_of (value_for program models t.value b)) ≡ true)
+  Stands t = is_asked_for t.by ≡ true → (d : Datum) × (value_at b t.holder ≡ Some d) × (has (held_at (setting program models) d t.prop.0) (asked_datum program models b t.by) ≡ true)
 
   abbrev AllStand : List AskedValue → Type 0
   AllStand ts = AllByRecursion Stands ts
@@ -73,7 +79,7 @@ module _ (program : Program) (models : List ModelData) (b : Values) where
   own_stands : (u : ℕ) (d : Datum) (prop : PropId) (e : Typed) (o : Option ℕ) → value_at b u ≡ Some d
       → has (held_at (setting program models) d prop.0) (datum_of (value_for program models e b)) ≡ true → AllStand (asked_unless o u prop e)
   own_stands u d prop e (Some v) at h = tt
-  own_stands u d prop e None at h = ((d, at, h), tt)
+  own_stands u d prop e None at h = (λ _. (d, at, h), tt)
 
   value_layer : (y : layers.ItemValue-F V I T) → ValueStands (roll-ItemValue (map-ItemValue V I T ItemValue Item Tmpl (λ x. x.0) (λ x. x.0) (λ x. x.0) y))
   unfolding ValueStands TmplStands

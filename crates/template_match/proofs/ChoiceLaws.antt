@@ -4,24 +4,33 @@ use Rattle.std.specs.List.{find}
 use Rattle.std.proofs.Common.{sym, ap, subst, ◌∙◌, ◌<◌, ◌≤◌, ◌+◌, arith, inl, inr, take, get_or}
 use Rattle.std.proofs.lemmas.Bool.{and_parts, true≢false}
 use Rattle.std.proofs.lemmas.List.{take_more, take_all}
+use Rattle.std.proofs.lemmas.Option.{same_Some}
 use Rattle.std.proofs.lemmas.List.Elements.{Contains-push_cases}
 use Rattle.qv_syntax.specs.declared.program.Conj.{Conj}
 use Rattle.qv_syntax.specs.declared.typed.Typed.{Typed}
 use Rattle.qvtr_semantics.specs.declared.datum.Datum.{Datum}
+use Rattle.qvtr_semantics.specs.Data.{distinct, in_order}
 use Rattle.qvtr_semantics.specs.Objects.{held_at}
 use Rattle.qvtr_semantics.specs.Expressions.{value_for}
 use Rattle.qvtr_semantics.specs.Outs.{datum_of}
 use Rattle.qvtr_semantics.specs.Templates.{Values, value_at}
+use Rattle.template_match.specs.declared.join.Join.{Join}
 use Rattle.template_match.specs.declared.link.Link.{Link}
 use Rattle.template_match.specs.declared.branch.Branch.{Branch}
 use Rattle.template_match.specs.declared.candidates.Candidates.{Candidates}
 use Rattle.template_match.specs.declared.choice.Choice.{Choice}
 use Rattle.template_match.specs.Asked.{AskedValue, side_asked}
 use Rattle.template_match.specs.Branches.{IsBranch, IsChoice, branch_of, TellsHolders, IsStuck}
+use Rattle.template_match.specs.Joins.{IsJoined}
+use Rattle.template_match.specs.JoinRows.{TellsRows}
 use Rattle.template_match.specs.Posed.{IsPosed, IsSought}
 use Rattle.template_match.specs.Problems.{Problem}
 use Rattle.template_match.specs.Ready.{is_ready}
-use Rattle.template_match.specs.Search.{sought, conjuncts_in, setting_in, is_open, saying, usable_saying, usable_link, usable_conjunct, usable_variable, extent_for, some_data, one_datum, objects_of, data_in}
+use Rattle.template_match.specs.Rows.{one_datum, cell_in, cells_in}
+use Rattle.template_match.specs.Settled.{IsTold}
+use Rattle.template_match.specs.Search.{sought, conjuncts_in, setting_in, is_open, saying, usable_saying, usable_link, usable_conjunct, usable_variable, extent_for, some_data, objects_of, data_in}
+use Rattle.template_match.proofs.CellLaws.{cell_among}
+use Rattle.template_match.proofs.JoinLaws.{row_to, row_before, row_at, numbered}
 use Rattle.template_match.proofs.ListLaws.{find_some, find_none}
 use Rattle.template_match.proofs.ProgressLaws.{link_named, partner_named, asked_named, saying_named, object_named}
 use Rattle.template_match.proofs.SearchLaws.{opened}
@@ -34,7 +43,7 @@ module _ (p : Problem) (a : Values) (posed : IsPosed p a) (places : length a ≡
       → ((b : Values) (d : Datum) → IsSought p a b → value_at b v ≡ Some d → Contains ds d) → IsBranch p a branch
   branch_by v ds branch is same named = subst (IsBranch p a) (sym same) (record { opens = is; named = named })
 
-  choice_by : (v : ℕ) (ds : List Datum) (c : Choice) → is_open p a v ≡ true → c.variable ≡ v → data_in (setting_in p) c.candidates ≡ ds → c.count ≡ length (data_in (setting_in p) c.candidates)
+  choice_by : (v : ℕ) (ds : List Datum) (c : Choice) → is_open p a v ≡ true → c.variable ≡ v → data_in (setting_in p) c.candidates ≡ ds → length (data_in (setting_in p) c.candidates) ≤ c.count
       → ((b : Values) (d : Datum) → IsSought p a b → value_at b v ≡ Some d → Contains ds d) → IsChoice p a c
   choice_by v ds c is variable stand size named = record {
     branch = record {
@@ -46,25 +55,24 @@ module _ (p : Problem) (a : Values) (posed : IsPosed p a) (places : length a ≡
 
   -- the slot of the object of a link
   pub slot_is : (l : Link) (o : Datum) (c : Choice) → Contains p.links l → is_open p a l.variable ≡ true → value_at a l.holder ≡ Some o → c.variable ≡ l.variable
-      → data_in (setting_in p) c.candidates ≡ some_data (held_at (setting_in p) o l.prop.0) → c.count ≡ length (data_in (setting_in p) c.candidates) → IsChoice p a c
+      → data_in (setting_in p) c.candidates ≡ some_data (held_at (setting_in p) o l.prop.0) → length (data_in (setting_in p) c.candidates) ≤ c.count → IsChoice p a c
   slot_is l o c within is at variable stand size =
       choice_by l.variable (some_data (held_at (setting_in p) o l.prop.0)) c is variable stand size
       (λ b d whole value. link_named p a b a posed whole (long b whole) (λ v e h. h) whole.partial.extends l within o at d value)
 
   -- the objects at whose property the value of a link's variable stands
   pub partner_is : (l : Link) (o : Datum) (k : Candidates) (c : Choice) → Contains p.links l → is_open p a l.holder ≡ true → value_at a l.variable ≡ Some o
-      → TellsHolders p l.holder l.prop.0 (Some o) k → c.variable ≡ l.holder → c.candidates ≡ k → c.count ≡ length (data_in (setting_in p) c.candidates) → IsChoice p a c
+      → TellsHolders p l.holder l.prop.0 (Some o) k → c.variable ≡ l.holder → c.candidates ≡ k → length (data_in (setting_in p) c.candidates) ≤ c.count → IsChoice p a c
   partner_is l o k c within is at tells variable candidates size =
       choice_by l.holder (data_in (setting_in p) k) c is variable (ap (data_in (setting_in p)) candidates) size
       (λ b d whole value. partner_named p a b a posed whole (long b whole) (λ v e h. h) whole.partial.extends l within (opened p a l.holder is).sought_is o at k tells d value)
 
-  -- those at whose property the value of an item's expression stands
-  pub asked_is : (t : AskedValue) (k : Candidates) (c : Choice) → Contains (side_asked p.side p.program p.rel) t → is_open p a t.holder ≡ true → is_ready a t.value ≡ true
-      → TellsHolders p t.holder t.prop.0 (datum_of (value_for p.program p.models t.value a)) k → c.variable ≡ t.holder → c.candidates ≡ k
-      → c.count ≡ length (data_in (setting_in p) c.candidates) → IsChoice p a c
-  asked_is t k c within is ready tells variable candidates size =
+  -- those in whose slot stands what is asked for
+  pub asked_is : (t : AskedValue) (k : Candidates) (c : Choice) → Contains (side_asked p.side p.program p.rel) t → is_open p a t.holder ≡ true → IsTold p a t k → c.variable ≡ t.holder → c.candidates ≡ k
+      → length (data_in (setting_in p) c.candidates) ≤ c.count → IsChoice p a c
+  asked_is t k c within is told variable candidates size =
       choice_by t.holder (data_in (setting_in p) k) c is variable (ap (data_in (setting_in p)) candidates) size
-      (λ b d whole value. asked_named p a b a posed whole (long b whole) (λ v e h. h) whole.partial.extends t within (opened p a t.holder is).sought_is ready k tells d value)
+      (λ b d whole value. asked_named p a b a posed whole (long b whole) (λ v e h. h) whole.partial.extends t within (opened p a t.holder is).sought_is k told d value)
 
   -- the value of the expression of a conjunct
   pub saying_is : (k : Conj) (v : ℕ) (e : Typed) (branch : Branch) → Contains (conjuncts_in p) k → usable_conjunct p a k ≡ true → saying k ≡ Some (v, e)
@@ -82,6 +90,22 @@ module _ (p : Problem) (a : Values) (posed : IsPosed p a) (places : length a ≡
       let both = and_parts (is_open p a v) (is_some (extent_for (slice_get p.rel.vars v))) found.1 in
       branch_by v (objects_of p.models (extent_for (slice_get p.rel.vars v))) branch both.0 same
       (λ b d whole value. object_named p a b a posed whole (long b whole) (λ v e h. h) whole.partial.extends v found.0 both.1 d value)
+
+  -- the data in a column of all rows in which the binding may stand
+  pub rows_is : (j : Join) (k v : ℕ) (numbers : List ℕ) (c : Choice) → Contains p.joins j → slice_get j.variables k ≡ Some (Some v) → is_open p a v ≡ true → TellsRows j a numbers
+      → c.variable ≡ v → data_in (setting_in p) c.candidates ≡ in_order (distinct (cells_in j.table.now k numbers)) → length (data_in (setting_in p) c.candidates) ≤ c.count
+      → IsChoice p a c
+  rows_is j k v numbers c within column is tells variable stand size =
+      choice_by v (in_order (distinct (cells_in j.table.now k numbers))) c is variable stand size (λ b d whole value. named b d whole value (whole.joined j within))
+    where
+      named : (b : Values) (d : Datum) → IsSought p a b → value_at b v ≡ Some d → IsJoined j b → Contains (in_order (distinct (cells_in j.table.now k numbers))) d
+      named b d whole value in_row =
+          let row = in_row.0 in
+          let r = numbered j.table.now row in_row.1 in
+          let cell = row_at j.variables b row k v in_row.2 column in
+          let same : cell.0 ≡ d = same_Some cell.0 d (sym cell.2 ∙ value) in
+          let told = tells r.0 row r.1 (row_before j.variables a b row whole.partial.extends (row_to j.variables b row in_row.2)) in
+          cell_among j.table.now k r.0 numbers d told (ap (cell_in k) r.1 ∙ cell.1 ∙ ap (λ x. Some x) same)
 
   -- a branch whose candidates are listed
   pub listed_is : (c : Choice) (branch : Branch) → IsChoice p a c → branch ≡ branch_of p c → IsBranch p a branch

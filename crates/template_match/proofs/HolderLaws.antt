@@ -1,9 +1,13 @@
 -- The objects at whose property a datum stands: the partners of an object at the opposite of the property, and the objects that hold a value.
-use Rattle.std.specs.Prelude.{◌≡◌, ◌↔◌, ℕ, Bool, true, false, IsTrue, IfSome, List, map, length, Option, None, Some, slice_get, Contains, if◌then◌else◌}
-use Rattle.std.proofs.Common.{refl, sym, ap, subst, ◌∙◌, arith}
-use Rattle.std.proofs.lemmas.Bool.{true≢false}
+use Rattle.std.specs.Prelude.{◌≡◌, ◌↔◌, ℕ, ◌<◌, Bool, true, false, IsTrue, IfSome, List, map, length, position, nat_eq, Option, None, Some, slice_get, Contains, if◌then◌else◌}
+use Rattle.std.specs.Option.{option_map}
+use Rattle.std.proofs.Common.{refl, sym, ap, subst, ◌∙◌, arith, get_or}
+use Rattle.std.proofs.lemmas.Bool.{true≢false, eqb-true}
+use Rattle.std.proofs.lemmas.List.Quantifiers.{position-Some}
 use Rattle.std.proofs.lemmas.List.{length-map}
-use Rattle.mof_metamodel.specs.Metamodels.{props_of, type_of, opposite_of}
+use Rattle.mof_metamodel.specs.Metamodels.{prop_count, props_of, type_of, opposite_of}
+use Rattle.mof_metamodel.specs.declared.desc.MetaDesc.{MetaDesc}
+use Rattle.mof_metamodel.proofs.PropLemmas.{prop_known}
 use Rattle.mof_metamodel.specs.declared.desc.ClassId.{ClassId}
 use Rattle.mof_metamodel.specs.declared.desc.PropId.{PropId}
 use Rattle.mof_metamodel.proofs.Facts.{contains_map}
@@ -111,7 +115,7 @@ value_among s m o p k v model c = by (is_class_type (type_of model.meta p)) c
 one_model : (a b : ModelData) → Some a ≡ Some b → a ≡ b
 one_model a b e = cc
 
-pub partners_back : (s : Setting) (m p q : ℕ) (o : ObjId) (model : ModelData) → slice_get s.models m ≡ Some model → Kept model → IsReferenceOf model o.0 q → opposite_of model.meta q ≡ Some p
+pub partners_back : (s : Setting) (m p q : ℕ) (o : ObjId) (model : ModelData) → slice_get s.models m ≡ Some model → Kept model → IsReferenceOf model o.0 q → opposite_of model.meta p ≡ Some q
     → (d : Datum) → has (held_at s d p) (Some (Obj m o)) ≡ true → Contains (some_data (held_by s m o.0 q)) d
 partners_back s m p q o model there kept reference opposite (Val k v) h = absurd (true≢false (sym h))
 partners_back s m p q o model there kept reference opposite (Obj k x) h =
@@ -119,16 +123,26 @@ partners_back s m p q o model there kept reference opposite (Obj k x) h =
     let among = object_among s k x.0 p m o stands.model stands.among in
     let same : stands.model ≡ model = one_model stands.model model (sym stands.there ∙ ap (slice_get s.models) among.0 ∙ there) in
     let linked : IsLinked model p x.0 o.0 = subst (λ (y : ModelData). Contains (partners_at y x.0 p) o.0) same among.1 in
-    let back : IsLinked model q o.0 x.0 = (kept.opposites q p o.0 x.0 opposite).1 linked in
+    let back : IsLinked model q o.0 x.0 = (kept.opposites p q x.0 o.0 opposite).0 linked in
     let listed : Contains (map (object_datum m) (partners_at model o.0 q)) (Obj m x) = contains_map (object_datum m) (partners_at model o.0 q) x.0 back in
     subst (λ (slot : Option (List Datum)). Contains (some_data slot) (Obj k x)) (held_partners s m o.0 q model (map (object_datum m) (partners_at model o.0 q)) there reference refl)
     (subst (λ n. Contains (map (object_datum m) (partners_at model o.0 q)) (Obj n x)) (sym among.0) listed)
 
 -- the same of a reference that was found, if one was
 pub back_told : (s : Setting) (m p : ℕ) (o : ObjId) (model : ModelData) (r : Option PropId) → slice_get s.models m ≡ Some model → Kept model → IfSome r (λ q. IsReferenceOf model o.0 q.0)
-    → IfSome r (λ q. opposite_of model.meta q.0 ≡ Some p) → IfSome r (λ q. (d : Datum) → has (held_at s d p) (Some (Obj m o)) ≡ true → Contains (some_data (held_by s m o.0 q.0)) d)
+    → IfSome r (λ q. opposite_of model.meta p ≡ Some q.0) → IfSome r (λ q. (d : Datum) → has (held_at s d p) (Some (Obj m o)) ≡ true → Contains (some_data (held_by s m o.0 q.0)) d)
 back_told s m p o model None there kept reference opposite = tt
 back_told s m p o model (Some q) there kept reference opposite = partners_back s m p q.0 o model there kept reference opposite
+
+-- a property that a class has is one of the metamodel
+pub placed_known : (desc : MetaDesc) (c p i : ℕ) → Some i ≡ position (nat_eq p) (props_of desc c) → p < prop_count desc
+placed_known desc c p i is =
+    let at = position-Some (nat_eq p) (props_of desc c) i p (sym is) in
+    prop_known desc c p (i, at.0, sym (eqb-true p (get_or (props_of desc c) i p) at.1))
+
+pub opposite_told : (r : Option PropId) (o : Option ℕ) → option_map (λ q. q.0) r ≡ o → IfSome r (λ q. o ≡ Some q.0)
+opposite_told None o is = tt
+opposite_told (Some q) o is = sym is
 
 -- ---- how many stand in a slot
 

@@ -12,8 +12,12 @@ pub mod SearchLaws
 pub mod OrderLaws
 pub mod BindingLaws
 pub mod PublicLaws
+pub mod JoinLaws
+pub mod CellLaws
 pub mod AskedLaws
+pub mod ComparedLaws
 pub mod HolderLaws
+pub mod SettledLaws
 pub mod ChoiceLaws
 pub mod MarkLaws
 pub mod OpenLaws

@@ -1,6 +1,7 @@
 -- In each binding that is looked for a variable has one of the values that a link, a conjunct, an item or its class gives it; and where none of
 -- these gives an open variable values, no binding is looked for.
 use Rattle.std.specs.Prelude.{◌≡◌, ◌⊎◌, ◌<◌, ℕ, zero, suc, Bool, true, false, ◌==◌, not, List, [], ◌∷◌, length, Option, None, Some, is_some, slice_get, Contains}
+use Rattle.std.specs.List.{flat_map}
 use Rattle.std.proofs.Common.{refl, sym, ap, subst, ◌∙◌, arith, inl, inr}
 use Rattle.std.proofs.lemmas.Bool.{and_parts, and_from, true≢false, eqb-true, eq-eqb, not-false}
 use Rattle.object_tables.specs.declared.value.ObjId.{ObjId}
@@ -28,12 +29,15 @@ use Rattle.template_match.specs.Sides.{clause_of, is_of_side}
 use Rattle.template_match.specs.Ready.{is_ready}
 use Rattle.template_match.specs.Links.{side_links}
 use Rattle.template_match.specs.Problems.{Problem}
-use Rattle.template_match.specs.Asked.{AskedValue, side_asked}
+use Rattle.template_match.specs.Asked.{Asker, AskedValue, domain_asked, conjunct_asked, side_asked}
 use Rattle.template_match.specs.Branches.{TellsHolders, IsStuck}
-use Rattle.template_match.specs.Search.{sought, conjuncts_in, setting_in, is_vacant, is_open, is_any_open, usable_saying, usable_conjunct, saying, extent_for, some_data, one_datum, objects_of, data_in}
+use Rattle.template_match.specs.Search.{sought, conjuncts_in, setting_in, is_vacant, is_open, is_any_open, usable_saying, usable_conjunct, saying, extent_for, some_data, objects_of, data_in}
+use Rattle.template_match.specs.Rows.{one_datum}
+use Rattle.template_match.specs.Settled.{asked_datum, is_settled, IsTold}
 use Rattle.template_match.specs.Posed.{HasValue, HasRoots, SeeksSource, Seeks, IsPosed, IsSought}
-use Rattle.template_match.proofs.ListLaws.{all_at, list_all_at, any_from}
-use Rattle.template_match.proofs.AskedLaws.{Stands, domains_ask}
+use Rattle.template_match.proofs.ListLaws.{all_append, all_at, list_all_at, any_from}
+use Rattle.template_match.proofs.AskedLaws.{is_asked_for, Stands, domains_ask}
+use Rattle.template_match.proofs.ComparedLaws.{clause_asks}
 use Rattle.template_match.proofs.LinkLaws.{Holds, domains_hold}
 use Rattle.template_match.proofs.NestedLaws.{alone_linked}
 use Rattle.template_match.proofs.ValueLaws.{some_datum, within_values, vacant_parts, vacant_from, ready_value, known_if}
@@ -118,7 +122,22 @@ module _ (p : Problem) (roots b a : Values) (posed : IsPosed p roots) (whole : I
   -- ---- what names the value of a variable
 
   asked_held : (t : AskedValue) → Contains (side_asked p.side p.program p.rel) t → Stands p.program p.models b t
-  asked_held t c = all_at (Stands p.program p.models b) (side_asked p.side p.program p.rel) t (domains_ask p.program p.models b p.side p.rel.domains parts.domains) c
+  asked_held t c =
+      let stand = Stands p.program p.models b in
+      let items = flat_map (domain_asked p.side p.program) p.rel.domains in
+      let clause = flat_map conjunct_asked (conjuncts_in p) in
+      all_at stand (side_asked p.side p.program p.rel) t
+      (all_append stand items clause (domains_ask p.program p.models b p.side p.rel.domains parts.domains) (clause_asks p.program p.models b (conjuncts_in p) parts.clause)) c
+
+  -- what is asked for and settled is the same in b
+  settled_same : (by : Asker) → is_settled p.program p.models a by ≡ true
+      → (is_asked_for p.program p.models b by ≡ true) × (asked_datum p.program p.models a by ≡ asked_datum p.program p.models b by)
+  settled_same (Asker.item e) h = (refl, ap datum_of (ready_value p.program p.models e a b long more h))
+  settled_same (Asker.condition e) h =
+      let both = and_parts (is_ready a e) (is_some (datum_of (value_for p.program p.models e a))) h in
+      let same = ap datum_of (ready_value p.program p.models e a b long more both.0) in
+      (sym (ap is_some same) ∙ both.1, same)
+  settled_same (Asker.equation v) h = let found = value_of (value_at a v) h in (refl, found.1 ∙ sym (more v found.0 found.1))
 
   -- the slot of the object of a link
   pub link_named : (l : Link) → Contains p.links l → (o : Datum) → value_at a l.holder ≡ Some o → (d : Datum) → value_at b l.variable ≡ Some d
@@ -146,14 +165,14 @@ module _ (p : Problem) (roots b a : Values) (posed : IsPosed p roots) (whole : I
       holder_fits l.holder l.prop.0 (Some o) c own tells holds.0 holds.1
       (sym (ap (has (held_at (setting p.program p.models) holds.0 l.prop.0)) (more l.variable o at)) ∙ holds.2) d value
 
-  -- those at whose property the value of an expression of an item stands
-  pub asked_named : (t : AskedValue) → Contains (side_asked p.side p.program p.rel) t → Contains (sought p) t.holder → is_ready a t.value ≡ true
-      → (c : Candidates) → TellsHolders p t.holder t.prop.0 (datum_of (value_for p.program p.models t.value a)) c → (d : Datum) → value_at b t.holder ≡ Some d
-      → Contains (data_in (setting_in p) c) d
-  asked_named t within own ready c tells d value =
-      let stands = asked_held t within in
-      holder_fits t.holder t.prop.0 (datum_of (value_for p.program p.models t.value a)) c own tells stands.0 stands.1
-      (ap (λ x. has (held_at (setting p.program p.models) stands.0 t.prop.0) (datum_of x)) (ready_value p.program p.models t.value a b long more ready) ∙ stands.2) d value
+  -- those in whose slot stands what is asked for
+  pub asked_named : (t : AskedValue) → Contains (side_asked p.side p.program p.rel) t → Contains (sought p) t.holder → (c : Candidates) → IsTold p a t c
+      → (d : Datum) → value_at b t.holder ≡ Some d → Contains (data_in (setting_in p) c) d
+  asked_named t within own c told d value =
+      let same = settled_same t.by told.settled in
+      let stands = asked_held t within same.0 in
+      holder_fits t.holder t.prop.0 (asked_datum p.program p.models a t.by) c own told.tells stands.0 stands.1
+      (ap (has (held_at (setting p.program p.models) stands.0 t.prop.0)) same.1 ∙ stands.2) d value
 
   -- the value of the expression of a conjunct
   pub saying_named : (c : Conj) (v : ℕ) (e : Typed) → Contains (conjuncts_in p) c → saying c ≡ Some (v, e) → is_ready a e ≡ true → (d : Datum) → value_at b v ≡ Some d

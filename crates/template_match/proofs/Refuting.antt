@@ -1,7 +1,7 @@
 -- Wrong answers that the definitions exclude, each on a small case: what the definition gives, and that it isn't what the wrong
 -- code would answer. A contract says that the code's result is what the definition gives, so it refuses that code.
-use Rattle.std.specs.Prelude.{◌≡◌, ◌⊎◌, ℕ, true, false, pos, [], ◌∷◌, codes, None, Some, Contains}
-use Rattle.std.proofs.Common.{refl, sym, ◌∙◌, arith, inl, inr}
+use Rattle.std.specs.Prelude.{◌≡◌, ◌⊎◌, ◌<◌, ℕ, true, false, pos, [], ◌∷◌, length, codes, None, Some, Contains}
+use Rattle.std.proofs.Common.{refl, sym, subst, ◌∙◌, arith, inl, inr}
 use Rattle.std.proofs.lemmas.Bool.{true≢false}
 use Rattle.mof_metamodel.proofs.Facts.{contains_first}
 use Rattle.std.specs.declared.cmp.Ordering.TheVariants.{Less, Greater}
@@ -14,13 +14,16 @@ use Rattle.qvtr_semantics.specs.Expressions.{setting}
 use Rattle.qvtr_semantics.specs.Templates.{Values, value_at, has}
 use Rattle.qvtr_semantics.specs.Bindings.{is_datum_for}
 use Rattle.qvtr_semantics.specs.SmallModels.{program, both, object_var}
+use Rattle.template_match.specs.declared.join.Join.{Join}
 use Rattle.template_match.specs.declared.side.Side.TheVariants.{Source}
 use Rattle.template_match.specs.Sides.{is_of_side, meets_side}
+use Rattle.template_match.specs.Joins.{IsRowFor, IsJoined}
 use Rattle.template_match.specs.Problems.{Problem}
 use Rattle.template_match.specs.Posed.{IsSought}
 use Rattle.template_match.specs.Search.{is_vacant}
 use Rattle.template_match.specs.Branches.{IsBranch, IsFound}
 use Rattle.template_match.specs.Order.{values_order}
+use Rattle.template_match.proofs.JoinLaws.{row_to, row_bound}
 
 abbrev number : ℕ → Datum
 number n = Val 0 (values.Int (pos n))
@@ -55,6 +58,24 @@ schema_domain = record { model = Some 1; marker = Enforce; root = 2; template = 
 -- a domain of the target among those of the source
 pub the_source_asks_the_target_domain : is_of_side Source program schema_domain ≡ true → ⊥
 the_source_asks_the_target_domain e = cc
+
+-- ---- joins: the variable 0 for the only column
+
+-- a row with another datum than the variable's
+pub each_row_is_for_a_binding : IsRowFor (Some 0 ∷ []) (Some (number 1) ∷ []) (number 2 ∷ []) → ⊥
+each_row_is_for_a_binding h = let e = row_to (Some 0 ∷ []) (Some (number 1) ∷ []) (number 2 ∷ []) h in cc
+
+-- a row for a variable that has no value
+pub no_value_stands_in_a_row : IsRowFor (Some 0 ∷ []) (None ∷ []) (number 1 ∷ []) → ⊥
+no_value_stands_in_a_row h = let e = row_bound (Some 0 ∷ []) (None ∷ []) (number 1 ∷ []) h in cc
+
+-- a row without the column
+pub a_row_is_cut_off : IsRowFor (Some 0 ∷ []) (Some (number 1) ∷ []) [] → ⊥
+a_row_is_cut_off h = h
+
+-- a table without rows
+pub no_row_is_asked_for : (j : Join) (b : Values) → j.table.now ≡ [] → IsJoined j b → ⊥
+no_row_is_asked_for j b none (row, (k, within, is), stands) = let l = subst (λ rows. k < length rows) none within in omega (arith, l)
 
 -- ---- the search
 

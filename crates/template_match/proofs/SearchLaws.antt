@@ -20,13 +20,15 @@ use Rattle.template_match.specs.declared.prepared.Prepared.{Prepared}
 use Rattle.template_match.specs.Sides.{meets_side}
 use Rattle.template_match.specs.Problems.{Problem}
 use Rattle.template_match.specs.Pruning.{may_meet}
-use Rattle.template_match.specs.Search.{sought, is_vacant, is_open, is_any_open, with_value, missing, tested}
+use Rattle.template_match.specs.Joins.{are_joined, may_joins}
+use Rattle.template_match.specs.Search.{sought, is_vacant, is_open, is_any_open, with_value, missing, fits, may_fit, tested}
 use Rattle.template_match.specs.Posed.{HasRoots, IsPosed, IsSought}
 use Rattle.template_match.specs.Prepared.{problem_in, IsPrepared}
 use Rattle.template_match.specs.Branches.{IsBranch, IsStuck, IsFound, IsFoundWith}
 use Rattle.template_match.proofs.ListLaws.{any_at, any_from}
 use Rattle.template_match.proofs.ValueLaws.{not_some, same_values, within_values, vacant_parts, vacant_from, same_place, other_place, some_missing, fewer_missing}
 use Rattle.template_match.proofs.SideLaws.{meets_parts, valued}
+use Rattle.template_match.proofs.JoinLaws.{all_joined_from, all_joined_to, all_may}
 use Rattle.template_match.proofs.PruneLaws.{not_dropped}
 use Rattle.template_match.proofs.ProgressLaws.{none_stuck}
 
@@ -110,6 +112,7 @@ module _ (p : Problem) (a b : Values) (v : ℕ) (d : Datum) (is : is_open p a v 
       extends = extended_still a b v d (opened p a v is).within whole.partial.extends at;
       no_others = λ w e h. by w e (whole.partial.no_others w e h);
     };
+    joined = whole.joined;
     meets = whole.meets;
   }
     where
@@ -125,6 +128,7 @@ module _ (p : Problem) (a b : Values) (v : ℕ) (d : Datum) (is : is_open p a v 
         extends = λ w e h. whole.partial.extends w e (extends_with a v d (opened p a v is).none w e h);
         no_others = λ w e h. by w e (whole.partial.no_others w e h);
       };
+      joined = whole.joined;
       meets = whole.meets;
     },
     whole.partial.extends v d (same_place a v d (opened p a v is).within),
@@ -161,16 +165,24 @@ closed p a b places none whole = same_values a b long (λ v. by v (value_at b v)
             found.1 ∙ sym (whole.partial.extends v found.0 found.1)
         there (inr r) = r ∙ sym e
 
-tested_sought : (p : Problem) (a b : Values) (m : Bool) → meets_side p.side (sought p) p.program p.models p.rel a ≡ m → length a ≡ length p.rel.vars → Contains (if m then a ∷ [] else []) b → IsSought p a b
+tested_sought : (p : Problem) (a b : Values) (m : Bool) → fits p a ≡ m → length a ≡ length p.rel.vars → Contains (if m then a ∷ [] else []) b → IsSought p a b
 tested_sought p a b true h places (zero, within, is) =
-    subst (IsSought p a) is (record { partial = record { places = places; extends = λ v d at. at; no_others = λ v d at. inr at }; meets = h })
+    let both = and_parts (are_joined p.joins a) (meets_side p.side (sought p) p.program p.models p.rel a) h in
+    subst (IsSought p a) is (record {
+      partial = record { places = places; extends = λ v d at. at; no_others = λ v d at. inr at };
+      joined = all_joined_from p.joins a both.0;
+      meets = both.1;
+    })
 tested_sought p a b true h places (suc k, within, is) = absurd (omega (arith, within))
 tested_sought p a b false h places (k, within, is) = absurd (omega (arith, within))
 
 sought_tested : (p : Problem) (a b : Values) → length a ≡ length p.rel.vars → is_any_open p a ≡ false → IsSought p a b → Contains (tested p a) b
 sought_tested p a b places none whole =
     subst (λ x. Contains (tested p x) b) (sym (closed p a b places none whole))
-    (subst (λ m. Contains (if m then b ∷ [] else []) b) (sym whole.meets) (contains_first b []))
+    (subst (λ m. Contains (if m then b ∷ [] else []) b) (sym fit) (contains_first b []))
+  where
+    fit : fits p b ≡ true
+    fit = and_from (are_joined p.joins b) (meets_side p.side (sought p) p.program p.models p.rel b) (all_joined_to p.joins b whole.joined) whole.meets
 
 pub tested_found : (p : Problem) (a : Values) (olds news : List Values) (x : Bool) → x ≡ is_any_open p a → x ≡ false → length a ≡ length p.rel.vars → news ≡ olds ++ tested p a → IsFound p a olds news
 tested_found p a olds news x is none places all b = (
@@ -180,7 +192,7 @@ tested_found p a olds news x is none places all b = (
   where
     by : Contains olds b ⊎ Contains (tested p a) b → Contains olds b ⊎ IsSought p a b
     by (inl c) = inl c
-    by (inr c) = inr (tested_sought p a b (meets_side p.side (sought p) p.program p.models p.rel a) refl places c)
+    by (inr c) = inr (tested_sought p a b (fits p a) refl places c)
 
     back : Contains olds b ⊎ IsSought p a b → Contains (olds ++ tested p a) b
     back (inl c) = Contains-append_left olds (tested p a) b c
@@ -198,9 +210,13 @@ nothing_found p a olds none b = (λ c. inl c, by)
 pub stopped_found : (p : Problem) (a : Values) (olds : List Values) (left : ℕ) (x : Bool) → x ≡ is_any_open p a → x ≡ true → missing a ≤ left → left ≡ 0 → IsFound p a olds olds
 stopped_found p a olds left x is some few no_more = nothing_found p a olds (λ b whole. none_left p a (sym is ∙ some) (subst (λ n. missing a ≤ n) no_more few))
 
-pub dropped_found : (p : Problem) (a : Values) (olds : List Values) (m : Bool) → length a ≡ length p.rel.vars → m ≡ may_meet p a → m ≡ false → IsFound p a olds olds
-dropped_found p a olds m places is against =
-    nothing_found p a olds (λ b whole. true≢false (sym (not_dropped p a b (places ∙ sym whole.partial.places) whole.partial.extends whole.meets) ∙ sym is ∙ against))
+pub dropped_found : (p : Problem) (a : Values) (olds : List Values) (m : Bool) → length a ≡ length p.rel.vars → m ≡ may_fit p a → m ≡ false → IsFound p a olds olds
+dropped_found p a olds m places is against = nothing_found p a olds (λ b whole. true≢false (sym (fit b whole) ∙ sym is ∙ against))
+  where
+    fit : (b : Values) → IsSought p a b → may_fit p a ≡ true
+    fit b whole =
+        and_from (may_joins p.joins a) (may_meet p a) (all_may p.joins a b whole.partial.extends whole.joined)
+        (not_dropped p a b (places ∙ sym whole.partial.places) whole.partial.extends whole.meets)
 
 pub stuck_found : (p : Problem) (a : Values) (olds : List Values) (x : Bool) → IsPosed p a → length a ≡ length p.rel.vars → x ≡ is_any_open p a → x ≡ true → IsStuck p a → IsFound p a olds olds
 stuck_found p a olds x posed places is some stuck =

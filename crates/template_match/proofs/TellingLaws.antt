@@ -34,7 +34,8 @@ use Rattle.qvtr_semantics.specs.Bindings.{are_one, conjunct_holds}
 use Rattle.qvtr_semantics.proofs.ExpressionLaws.{typed_is, node_of}
 use Rattle.ocl_eval.specs.OrderLaws.{same_decides}
 use Rattle.template_match.specs.Links.{variable_alone}
-use Rattle.template_match.specs.Search.{saying_by, saying_chain, saying_node, saying, some_data, one_datum}
+use Rattle.template_match.specs.Search.{saying_by, saying_chain, saying_node, saying, some_data}
+use Rattle.template_match.specs.Rows.{one_datum}
 use Rattle.template_match.proofs.ListLaws.{any_from}
 use Rattle.template_match.proofs.LinkLaws.{alone_value}
 
@@ -65,7 +66,7 @@ one_of (Some e) (Some f) h d is =
 
 -- ---- conditions `v = e`
 
-known_true : (x y : Out) → is_known_true (boolean_of (truth (equal x y))) ≡ true → is_known_true (equal x y) ≡ true
+pub known_true : (x y : Out) → is_known_true (boolean_of (truth (equal x y))) ≡ true → is_known_true (equal x y) ≡ true
 known_true x y h = by (equal x y) h
   where
     by : (o : Option Bool) → is_known_true (boolean_of (truth o)) ≡ true → is_known_true o ≡ true
@@ -98,7 +99,7 @@ module _ (program : Program) (models : List ModelData) (b : Values) where
   postfix_of = fold-TypedPostfix Called Meaning Meaning Operated Called (call_meaning (setting program models)) (node_meaning (setting program models) calls) typed_meaning infix_meaning postfix_meaning
 
   -- the value of a condition with one operator
-  chain_value : (c first : Typed) (l : TypedInfix) → out-Node c.node ≡ nodes.Chain first (l ∷ [])
+  pub chain_value : (c first : Typed) (l : TypedInfix) → out-Node c.node ≡ nodes.Chain first (l ∷ [])
       → value_for program models c b ≡ operated l.operator (value_for program models first b) (value_for program models l.right b)
   chain_value c first l is =
       let d : nodes.Node-F Call Node Typed TypedInfix TypedPostfix = nodes.Chain first (l ∷ []) in

@@ -1,5 +1,5 @@
 -- The next variable that gets a value, and the candidates for it, of which each binding that is looked for gives it one.
-use Rattle.std.specs.Prelude.{◌≡◌, ◌⊎◌, ◌↔◌, ℕ, true, false, List, Option, None, Some, length, slice_get, Contains}
+use Rattle.std.specs.Prelude.{◌≡◌, ◌⊎◌, ◌↔◌, ◌≤◌, ℕ, true, false, List, Option, None, Some, length, slice_get, Contains}
 use Rattle.qv_syntax.specs.declared.program.Var.{Var}
 use Rattle.qv_syntax.specs.declared.program.Conj.{Conj}
 use Rattle.qvtr_semantics.specs.declared.datum.Datum.{Datum}
@@ -22,10 +22,10 @@ pub record IsBranch (p : Problem) (a : Values) (branch : Branch) : Type 0 where
 abbrev pub branch_of : Problem → Choice → Branch
 branch_of p c = record { variable = c.variable; candidates = data_in (setting_in p) c.candidates }
 
--- the same where the candidates aren't listed yet, with their number
+-- the same where the candidates aren't listed yet, with what their number is at most
 pub record IsChoice (p : Problem) (a : Values) (c : Choice) : Type 0 where
   pub branch : IsBranch p a (branch_of p c)
-  pub size : c.count ≡ length (data_in (setting_in p) c.candidates)
+  pub size : length (data_in (setting_in p) c.candidates) ≤ c.count
 
 -- each value that the variable may have and at whose property the datum stands, if there is one, is among the candidates
 abbrev pub TellsHolders : Problem → ℕ → ℕ → Option Datum → Candidates → Type 0

@@ -13,6 +13,10 @@ pub mod Each
 pub mod Posed
 pub mod Prepared
 pub mod Branches
+pub mod Settled
 pub mod Marks
 pub mod Plans
 pub mod Sources
+pub mod Joins
+pub mod Rows
+pub mod JoinRows

@@ -14,6 +14,7 @@ use Rattle.template_match.specs.declared.side.Side.{Side}
 use Rattle.template_match.specs.declared.side.Side.TheVariants.{Source, Target}
 use Rattle.template_match.specs.Links.{side_links}
 use Rattle.qvtr_semantics.specs.Bindings.{Extends}
+use Rattle.template_match.specs.Joins.{AreJoined}
 use Rattle.template_match.specs.Sides.{meets_side}
 use Rattle.template_match.specs.Problems.{Problem}
 use Rattle.template_match.specs.Search.{sought}
@@ -58,4 +59,5 @@ pub record IsPartial (p : Problem) (roots a : Values) : Type 0 where
 -- a binding that is looked for
 pub record IsSought (p : Problem) (roots b : Values) : Type 0 where
   pub partial : IsPartial p roots b
+  pub joined : AreJoined p.joins b
   pub meets : meets_side p.side p.variables p.program p.models p.rel b ≡ true

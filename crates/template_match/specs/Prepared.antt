@@ -1,4 +1,4 @@
--- What a search has made ready once: for each variable whether it is sought, and what the items of its side ask by expressions.
+-- What a search has made ready once: for each variable whether it is sought, and what its side asks of slots.
 use Rattle.std.specs.Prelude.{◌≡◌, length}
 use Rattle.mof_metamodel.specs.Tables.{table}
 use Rattle.qvtr_semantics.specs.Objects.{is_number_among}

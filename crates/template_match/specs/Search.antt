@@ -1,6 +1,6 @@
 -- A search for the bindings of one side of a relation: one variable gets a value after another. The value of a variable is taken from a slot
--- of an object that has been chosen, from a conjunct that says what it is, from the objects at one of whose properties a value stands, or
--- from the objects of its class.
+-- of an object that has been chosen, from a conjunct that says what it is, from the objects at one of whose properties a value stands, from
+-- rows of tables, or from the objects of its class.
 use Rattle.std.specs.Prelude.{ℕ, Bool, true, false, ◌&&◌, List, [], ◌∷◌, map, Option, None, Some, is_some, slice_get, slice_set, if◌then◌else◌}
 use Rattle.std.specs.List.{list_any, sum_by}
 use Rattle.mof_metamodel.specs.declared.desc.ClassId.{ClassId}
@@ -21,6 +21,7 @@ use Rattle.qv_syntax.specs.declared.program.Conj.TheVariants as conjuncts
 use Rattle.qvtr_semantics.specs.declared.datum.Datum.{Datum}
 use Rattle.qvtr_semantics.specs.declared.datum.Datum.TheVariants.{Obj}
 use Rattle.qvtr_semantics.specs.declared.binding.Binding.{Binding}
+use Rattle.qvtr_semantics.specs.Data.{distinct, in_order}
 use Rattle.qvtr_semantics.specs.Objects.{Setting, is_number_among, held_by, object_datum, extent_of}
 use Rattle.qvtr_semantics.specs.Expressions.{setting}
 use Rattle.qvtr_semantics.specs.Templates.{Values, value_at}
@@ -28,6 +29,9 @@ use Rattle.template_match.specs.declared.link.Link.{Link}
 use Rattle.template_match.specs.declared.candidates.Candidates.{Candidates}
 use Rattle.template_match.specs.declared.candidates.Candidates.TheVariants as places
 use Rattle.template_match.specs.Problems.{Problem}
+use Rattle.template_match.specs.Joins.{are_joined, may_joins}
+use Rattle.template_match.specs.Rows.{cells_in}
+use Rattle.template_match.specs.Pruning.{may_meet}
 use Rattle.template_match.specs.Ready.{is_ready}
 use Rattle.template_match.specs.Links.{variable_alone}
 use Rattle.template_match.specs.Sides.{clause_of, meets_side}
@@ -103,10 +107,6 @@ abbrev pub some_data : Option (List Datum) → List Datum
 some_data None = []
 some_data (Some ds) = ds
 
-abbrev pub one_datum : Option Datum → List Datum
-one_datum None = []
-one_datum (Some d) = d ∷ []
-
 abbrev pub objects_in : ℕ → ClassId → Option ModelData → List Datum
 objects_in m class None = []
 objects_in m class (Some model) = map (object_datum m) (extent_of model class.0)
@@ -115,11 +115,13 @@ abbrev pub objects_of : List ModelData → Option (ℕ × ClassId) → List Datu
 objects_of models None = []
 objects_of models (Some x) = objects_in x.0 x.1 (slice_get models x.0)
 
--- where the candidates for a variable stand: nowhere, in a slot of an object, or they are the objects of a model that hold a value
+-- where the candidates for a variable stand: nowhere, in a slot of an object, they are the objects of a model that hold a value, or they stand
+-- in a column of rows, and each is taken once
 abbrev pub data_in : Setting → Candidates → List Datum
 data_in s places.Nowhere = []
 data_in s (places.Slot m o prop) = some_data (held_by s m o.0 prop.0)
 data_in s (places.Holders m holders) = map (λ h. Obj m h.object) holders.now
+data_in s (places.Rows table k numbers) = in_order (distinct (cells_in table.now k numbers.now))
 
 -- ---- bindings
 
@@ -134,9 +136,17 @@ is_missing (Some d) = 0
 abbrev pub missing : Values → ℕ
 missing a = sum_by is_missing a
 
--- the binding alone, if it meets the side
+-- the binding stands in a row of each join, and meets the side
+abbrev pub fits : Problem → Values → Bool
+fits p a = are_joined p.joins a && meets_side p.side p.variables p.program p.models p.rel a
+
+-- nothing that can be asked yet is against that
+abbrev pub may_fit : Problem → Values → Bool
+may_fit p a = may_joins p.joins a && may_meet p a
+
+-- the binding alone, if it is one
 abbrev pub tested : Problem → Values → List Values
-tested p a = if meets_side p.side p.variables p.program p.models p.rel a then a ∷ [] else []
+tested p a = if fits p a then a ∷ [] else []
 
 -- the values in bindings
 abbrev pub values_of : List Binding → List Values

@@ -1,10 +1,12 @@
-//! What the items of a side's templates ask by expressions that aren't a variable alone.
+//! What a side asks of the slots of objects: by the items of its templates whose expressions aren't a
+//! variable alone, and by its clause.
 ghost use Rattle.std.specs.Prelude.{◌≡◌, ◌++◌, [], map, OnOk, IfOk};
 ghost use Rattle.std.specs.List.{flat_map};
 ghost use Rattle.std.specs.Option.{option_map_or};
 ghost use Rattle.template_match.specs.Asked.{asked_values, own_asked, asked_in, asked_in_item, asked_in_value, domain_asked, side_asked};
 
-use crate::asked::Asked;
+use crate::asked::{Asked, AskedBy};
+use crate::comparing::add_clause_asked;
 use crate::expressions::variable_alone;
 use crate::side::Side;
 use crate::sides::is_of_side;
@@ -26,7 +28,7 @@ fn add_own<'a>(
         None => out.push(Asked {
             holder,
             prop,
-            value,
+            by: AskedBy::Item(value),
         }),
     }
 }
@@ -101,6 +103,22 @@ fn add_domain_asked<'a>(
 }
 
 /// What the templates of a side's domains ask.
+fn domains_asked<'a>(
+    alloc: Global,
+    side: Side,
+    program: &Program,
+    rel: &'a Rel,
+) -> Result<Seq<Asked<'a>>, NoMemory>
+    ensures { IfOk result (λ asked. asked_values asked ≡ flat_map (domain_asked side program.now) rel.now.domains) }
+{
+    let mut out = Seq::new(alloc);
+    for dom in rel.domains.as_slice() {
+        add_domain_asked(side, program, dom, &mut out)?;
+    }
+    Ok(out)
+}
+
+/// What a side's templates and its clause ask.
 pub(crate) fn side_asked<'a>(
     alloc: Global,
     side: Side,
@@ -109,9 +127,7 @@ pub(crate) fn side_asked<'a>(
 ) -> Result<Seq<Asked<'a>>, NoMemory>
     ensures { IfOk result (λ asked. asked_values asked ≡ side_asked side program.now rel.now) }
 {
-    let mut out = Seq::new(alloc);
-    for dom in rel.domains.as_slice() {
-        add_domain_asked(side, program, dom, &mut out)?;
-    }
+    let mut out = domains_asked(alloc, side, program, rel)?;
+    add_clause_asked(side, rel, &mut out)?;
     Ok(out)
 }

@@ -1,14 +1,16 @@
 //! The next variable, with its candidates listed.
-ghost use Rattle.std.specs.Prelude.{◌≡◌, true, false, map, slice_get, Contains, IfOk};
+ghost use Rattle.std.specs.Prelude.{◌≡◌, ◌++◌, true, false, map, slice_get, Contains, IfOk, OnOk};
 ghost use Rattle.std.specs.Option.{option_copied};
 ghost use Rattle.qvtr_semantics.specs.declared.datum.Datum.TheVariants.{Obj};
 ghost use Rattle.qvtr_semantics.specs.Expressions.{setting, value_for};
 ghost use Rattle.qvtr_semantics.specs.Outs.{datum_of};
 ghost use Rattle.qvtr_semantics.specs.Objects.{held_by};
 ghost use Rattle.qv_syntax.specs.declared.program.Conj.{Conj};
+ghost use Rattle.template_match.specs.declared.link.Link.{Link};
 ghost use Rattle.template_match.specs.Branches.{branch_of, IsNext};
 ghost use Rattle.template_match.specs.Prepared.{problem_in, IsPrepared};
-ghost use Rattle.template_match.specs.Search.{conjuncts_in, usable_conjunct, extent_for, some_data, one_datum, objects_in, objects_of, data_in};
+ghost use Rattle.template_match.specs.Rows.{one_datum, cells_in};
+ghost use Rattle.template_match.specs.Search.{conjuncts_in, usable_link, usable_conjunct, extent_for, some_data, objects_in, objects_of, data_in};
 ghost use Rattle.template_match.specs.Tasks.{problem_of};
 
 use crate::branch::Branch;
@@ -16,13 +18,16 @@ use crate::candidates::Candidates;
 use crate::choice::Choice;
 use crate::choosing::best_choice;
 use crate::expressions::saying;
+use crate::join_choosing::best_whole;
+use crate::match_table::MatchTable;
 use crate::opening::{extent_for, usable_conjunct, usable_variable};
 use crate::prepared::Prepared;
+use crate::row_order::cell_at;
 use crate::task::Task;
 use key_index::Holder;
 use mof_metamodel::{ClassId, NoMemory, PropId, Seq};
 use object_tables::ObjId;
-use ocl_eval::{datum_of, duplicate_datum, eval, extent_of, held_at};
+use ocl_eval::{datum_of, duplicate_datum, eval, extent_of, held_at, set_in_order};
 use qv_syntax::{Conj, Typed};
 use qvtr_semantics::{Binding, Datum};
 use std::alloc::Global;
@@ -64,6 +69,35 @@ fn holder_data(alloc: Global, model: u32, holders: &[Holder]) -> Result<Seq<Datu
     Ok(data)
 }
 
+/// Puts the datum behind others, if there is one.
+fn add_datum(alloc: Global, listed: &mut Seq<Datum>, datum: Option<&Datum>) -> Result<(), NoMemory>
+    ensures { OnOk result (listed.new ≡ listed.old ++ one_datum (option_copied datum.entry)) }
+{
+    match datum {
+        Some(datum) => {
+            listed.push(duplicate_datum(alloc, datum)?)?;
+            Ok(())
+        }
+        None => Ok(()),
+    }
+}
+
+/// The data in a column of rows.
+fn row_data(
+    alloc: Global,
+    table: &MatchTable,
+    column: usize,
+    numbers: &[usize],
+) -> Result<Seq<Datum>, NoMemory>
+    ensures { IfOk result (λ ds. ds ≡ cells_in table.now column numbers.now) }
+{
+    let mut data = Seq::new(alloc);
+    for number in numbers {
+        add_datum(alloc, &mut data, cell_at(table.rows(), column, *number))?;
+    }
+    Ok(data)
+}
+
 /// The candidates.
 fn data_in(task: &Task<'_, '_>, candidates: &Candidates<'_>) -> Result<Seq<Datum>, NoMemory>
     ensures { IfOk result (λ ds. ds ≡ data_in (setting task.now.program.now task.now.models.now) candidates.now) }
@@ -76,6 +110,11 @@ fn data_in(task: &Task<'_, '_>, candidates: &Candidates<'_>) -> Result<Seq<Datum
             prop,
         } => slot_data(task, *model, *object, *prop),
         Candidates::Holders { model, holders } => holder_data(task.alloc, *model, holders),
+        Candidates::Rows {
+            table,
+            column,
+            numbers,
+        } => Ok(set_in_order(row_data(task.alloc, table, *column, numbers)?)),
     }
 }
 
@@ -95,13 +134,8 @@ fn one_datum(alloc: Global, datum: Option<&Datum>) -> Result<Seq<Datum>, NoMemor
     ensures { IfOk result (λ ds. ds ≡ one_datum (option_copied datum.entry)) }
 {
     let mut data = Seq::new(alloc);
-    match datum {
-        Some(datum) => {
-            data.push(duplicate_datum(alloc, datum)?)?;
-            Ok(data)
-        }
-        None => Ok(data),
-    }
+    add_datum(alloc, &mut data, datum)?;
+    Ok(data)
 }
 
 /// The variable of `v = e`, with the value of `e`.
@@ -154,8 +188,27 @@ fn object_branch(task: &Task<'_, '_>, variable: u32) -> Result<Branch, NoMemory>
 
 // ---- the next variable
 
-/// The next variable, where no conjunct says what one is: one with few candidates, or else the first one for
-/// objects.
+/// The next variable, where neither a conjunct nor a value says what one is: one of a join, or else the first
+/// one for objects.
+fn branch_without_value(
+    prepared: &Prepared<'_, '_, '_>,
+    binding: &Binding,
+) -> Result<Option<Branch>, NoMemory>
+    requires prepared { IsPrepared prepared.now binding.now.values }
+    requires links { (l : Link) → Contains prepared.now.task.now.links.now l → usable_link (problem_in prepared.now) binding.now.values l ≡ false }
+    requires conjuncts { (c : Conj) → Contains (conjuncts_in (problem_in prepared.now)) c → usable_conjunct (problem_in prepared.now) binding.now.values c ≡ false }
+    ensures { IfOk result (IsNext (problem_in prepared.now) binding.now.values) }
+{
+    match best_whole(prepared, binding) {
+        Some(choice) => Ok(Some(chosen_branch(prepared.task, &choice)?)),
+        None => match usable_variable(prepared, binding) {
+            Some(variable) => Ok(Some(object_branch(prepared.task, variable)?)),
+            None => Ok(None),
+        },
+    }
+}
+
+/// The next variable, where no conjunct says what one is: one with few candidates, if a value tells any.
 fn branch_without_conjunct(
     prepared: &Prepared<'_, '_, '_>,
     binding: &Binding,
@@ -166,10 +219,7 @@ fn branch_without_conjunct(
 {
     match best_choice(prepared, binding)? {
         Some(choice) => Ok(Some(chosen_branch(prepared.task, &choice)?)),
-        None => match usable_variable(prepared, binding) {
-            Some(variable) => Ok(Some(object_branch(prepared.task, variable)?)),
-            None => Ok(None),
-        },
+        None => branch_without_value(prepared, binding),
     }
 }
 

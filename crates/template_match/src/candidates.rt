@@ -1,3 +1,4 @@
+use crate::match_table::MatchTable;
 use key_index::Holder;
 use mof_metamodel::PropId;
 use object_tables::ObjId;
@@ -17,5 +18,11 @@ pub(crate) enum Candidates<'a> {
     Holders {
         model: u32,
         holders: &'a [Holder],
+    },
+    /// The data in a column of the rows of these numbers.
+    Rows {
+        table: &'a MatchTable,
+        column: usize,
+        numbers: &'a [usize],
     },
 }

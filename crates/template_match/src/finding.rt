@@ -12,9 +12,11 @@ ghost use Rattle.template_match.specs.Prepared.{problem_in, IsPrepared};
 ghost use Rattle.template_match.specs.Search.{values_of, sought};
 ghost use Rattle.template_match.specs.Sources.{source_variables, NamesNoTarget, SourceWithoutTarget};
 ghost use Rattle.template_match.specs.Tasks.{problem_of};
+ghost use Rattle.template_match.specs.Joins.{AreJoined};
 
 use crate::asked::Asked;
 use crate::asking::side_asked;
+use crate::join::Join;
 use crate::marks::variable_marks;
 use crate::order::each_once;
 use crate::plan::Plan;
@@ -69,6 +71,10 @@ fn found(task: &Task<'_, '_>, roots: &Binding) -> Result<Seq<Binding>, NoMemory>
     found_with(task, asked.as_slice(), roots)
 }
 
+/// The most variables that a search gives values. It nests a call for each, of up to 2 KB, and the stack is memory:
+/// so many take 2 MB of it, beside visits to relations and the values of expressions.
+const MAX_SEARCHED: usize = 1_024;
+
 /// The bindings of a side, in order, each once.
 fn all_found(task: &Task<'_, '_>, roots: &Binding) -> Result<Seq<Binding>, NoMemory>
     requires posed { IsPosed (problem_of task.now) roots.now.values }
@@ -76,6 +82,9 @@ fn all_found(task: &Task<'_, '_>, roots: &Binding) -> Result<Seq<Binding>, NoMem
     ensures exact { IfOk result (λ bs. (b : Values) → Contains (values_of bs) b ↔ IsSought (problem_of task.now) roots.now.values b) }
     ensures sorted { IfOk result (λ bs. AllPairs (IsLess (sought (problem_of task.now))) (values_of bs)) }
 {
+    if task.variables.len() > MAX_SEARCHED {
+        return Err(NoMemory);
+    }
     let found = found(task, roots)?;
     Ok(each_once(task.variables, found))
 }
@@ -95,6 +104,25 @@ pub fn bindings(
         → Contains (values_of bs) b ↔ Source program.now models.now rel fixed.now.values b) }
     ensures sorted { IfOk result (λ bs. (rel : Rel) → IsPlanOf program.now plan.now.rel rel plan.now → AllPairs (IsLess rel.universal) (values_of bs)) }
 {
+    joined_bindings(alloc, program, plan, models, fixed, &[])
+}
+
+/// The same of these bindings alone that stand in a row of each join (QVT 1.3, section 7.10.2). The search takes
+/// values of open variables from the rows in which the values stand that others have.
+pub fn joined_bindings(
+    alloc: Global,
+    program: &Program,
+    plan: &Plan,
+    models: &Models<'_>,
+    fixed: &Binding,
+    joins: &[Join<'_>],
+) -> Result<Seq<Binding>, NoMemory>
+    requires meant { AreMeant program.now }
+    requires planned { (rel : Rel) × IsPlanOf program.now plan.now.rel rel plan.now × (length fixed.now.values ≡ length rel.vars) × HasPrimitives rel fixed.now.values }
+    ensures exact { IfOk result (λ bs. (rel : Rel) → IsPlanOf program.now plan.now.rel rel plan.now → (b : Values)
+        → Contains (values_of bs) b ↔ (Source program.now models.now rel fixed.now.values b × AreJoined joins.now b)) }
+    ensures sorted { IfOk result (λ bs. (rel : Rel) → IsPlanOf program.now plan.now.rel rel plan.now → AllPairs (IsLess rel.universal) (values_of bs)) }
+{
     let rel = &program.rels.as_slice()[plan.rel as usize];
     let task = Task {
         alloc,
@@ -104,6 +132,7 @@ pub fn bindings(
         rel,
         links: plan.source.as_slice(),
         variables: rel.universal.as_slice(),
+        joins,
     };
     all_found(&task, fixed)
 }
@@ -134,6 +163,7 @@ pub fn source_bindings(
         rel,
         links: plan.source.as_slice(),
         variables: variables.as_slice(),
+        joins: &[],
     };
     all_found(&task, fixed)
 }
@@ -162,6 +192,7 @@ pub fn target_bindings(
         rel,
         links: plan.target.as_slice(),
         variables: rel.existential.as_slice(),
+        joins: &[],
     };
     all_found(&task, b)
 }

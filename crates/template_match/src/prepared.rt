@@ -1,7 +1,7 @@
 use crate::asked::Asked;
 use crate::task::Task;
 
-/// A task, for each variable whether it is sought, and what the side's items ask by expressions.
+/// A task, for each variable whether it is sought, and what the side asks of slots.
 #[derive(Clone, Copy)]
 pub(crate) struct Prepared<'s, 'a, 'm> {
     pub(crate) task: &'s Task<'a, 'm>,

@@ -151,7 +151,7 @@ fn may_domains(task: &Task<'_, '_>, domains: &[Dom], binding: &Binding) -> Resul
 }
 
 /// Whether there is no first datum yet, or the two are one.
-fn may_be_one(one: Option<&Datum>, other: Option<&Datum>) -> bool
+pub(crate) fn may_be_one(one: Option<&Datum>, other: Option<&Datum>) -> bool
     ensures { result ≡ may_be_one (option_copied one.entry) (option_copied other.entry) }
 {
     match one {

@@ -1,11 +1,12 @@
-ghost use Rattle.std.specs.Prelude.{◌≡◌, ◌++◌, ◌≤◌, ◌+◌, false, OnOk};
+ghost use Rattle.std.specs.Prelude.{◌≡◌, ◌++◌, ◌≤◌, ◌+◌, false, IfOk, OnOk};
 ghost use Rattle.template_match.specs.Branches.{IsBranch, IsFound};
 ghost use Rattle.template_match.specs.Prepared.{problem_in, IsPrepared};
-ghost use Rattle.template_match.specs.Search.{is_any_open, missing, tested, values_of};
+ghost use Rattle.template_match.specs.Search.{is_any_open, missing, fits, may_fit, tested, values_of};
 ghost use Rattle.template_match.specs.Tasks.{problem_of};
 
 use crate::branch::Branch;
 use crate::branching::next_branch;
+use crate::joins::{are_joined, may_joins};
 use crate::meeting::meets;
 use crate::opening::is_any_open;
 use crate::prepared::Prepared;
@@ -15,7 +16,29 @@ use crate::values::{duplicate_binding, with_value};
 use mof_metamodel::{NoMemory, Seq};
 use qvtr_semantics::Binding;
 
-/// Puts the binding behind others, if it meets the side.
+/// Whether the binding meets the side, and stands in a row of each join.
+fn fits(task: &Task<'_, '_>, binding: &Binding) -> Result<bool, NoMemory>
+    ensures { IfOk result (λ b. b ≡ fits (problem_of task.now) binding.now.values) }
+{
+    if are_joined(task.joins, binding) {
+        meets(task, binding)
+    } else {
+        Ok(false)
+    }
+}
+
+/// Whether nothing that can be asked yet is against the binding, and there may be a row of each join for it.
+fn may_fit(task: &Task<'_, '_>, binding: &Binding) -> Result<bool, NoMemory>
+    ensures { IfOk result (λ b. b ≡ may_fit (problem_of task.now) binding.now.values) }
+{
+    if may_joins(task.joins, binding) {
+        may_meet(task, binding)
+    } else {
+        Ok(false)
+    }
+}
+
+/// Puts the binding behind others, if it is one that is looked for.
 fn add_tested(
     task: &Task<'_, '_>,
     binding: &Binding,
@@ -23,7 +46,7 @@ fn add_tested(
 ) -> Result<(), NoMemory>
     ensures { OnOk result (values_of found.new ≡ values_of found.old ++ tested (problem_of task.now) binding.now.values) }
 {
-    if meets(task, binding)? {
+    if fits(task, binding)? {
         found.push(duplicate_binding(task.alloc, binding)?)?;
     }
     Ok(())
@@ -47,7 +70,7 @@ pub(crate) fn search_from(
     if left == 0 {
         return Ok(());
     }
-    let allowed = may_meet(prepared.task, binding)?;
+    let allowed = may_fit(prepared.task, binding)?;
     if !allowed {
         return Ok(());
     }

@@ -1,11 +1,12 @@
+use crate::join::Join;
 use crate::link::Link;
 use crate::side::Side;
 use ocl_eval::Models;
 use qv_syntax::{Program, Rel};
 use std::alloc::Global;
 
-/// What is looked for: the bindings of a side of a relation, with the links of the side's templates and the
-/// variables that get values.
+/// What is looked for: the bindings of a side of a relation, with the links of the side's templates, the
+/// variables that get values, and the joins in whose rows they stand.
 #[derive(Clone, Copy)]
 pub(crate) struct Task<'a, 'm> {
     pub(crate) alloc: Global,
@@ -15,4 +16,5 @@ pub(crate) struct Task<'a, 'm> {
     pub(crate) rel: &'a Rel,
     pub(crate) links: &'a [Link],
     pub(crate) variables: &'a [u32],
+    pub(crate) joins: &'a [Join<'a>],
 }

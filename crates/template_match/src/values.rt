@@ -1,4 +1,4 @@
-ghost use Rattle.std.specs.Prelude.{◌≡◌, IfOk};
+ghost use Rattle.std.specs.Prelude.{◌≡◌, slice_get, IfOk};
 ghost use Rattle.std.specs.Option.{option_copied};
 ghost use Rattle.qvtr_semantics.specs.Templates.{value_at};
 ghost use Rattle.template_match.specs.Search.{with_value};
@@ -14,6 +14,16 @@ pub(crate) fn value_at(binding: &Binding, variable: u32) -> Option<&Datum>
 {
     match binding.values.as_slice().get(variable as usize) {
         Some(value) => value.as_ref(),
+        None => None,
+    }
+}
+
+/// The datum in a column of a row.
+pub(crate) fn datum_in(row: &[Datum], column: usize) -> Option<&Datum>
+    ensures { option_copied result ≡ slice_get row.now column }
+{
+    match row.get(column) {
+        Some(datum) => Some(datum),
         None => None,
     }
 }

@@ -1,4 +1,4 @@
-use Rattle.std.proofs.Common.{◌≡◌, ◌∙◌, ℕ, List, sym, ap, subst, length}
+use Rattle.std.proofs.Common.{◌≡◌, ◌∙◌, ℕ, List, [], sym, ap, subst, length}
 use Rattle.std.specs.Prelude.{◌↔◌, slice_index_or, Contains, AllPairs}
 use Rattle.std.proofs.lemmas.Option.{get_or_from_slice_get}
 use Rattle.std.proofs.lemmas.Result.{IfOk-weaker}
@@ -18,9 +18,9 @@ all_found-requires-clause-posed c =
     let plan = c.args.plan.now in
     let rel = c.index-as_slice-plan.result in
     let here : rel ≡ planned.0 = c.index-as_slice-plan.is ∙ ap (λ rels. slice_index_or rels plan.rel rel) c.as_slice.ensures ∙ get_or_from_slice_get c.args.program.now.rels plan.rel planned.0 rel planned.1.found in
-    subst (λ (vs : List ℕ). IsPosed (posing sides.Source c.args.program.now c.args.models.now rel c.as_slice-2.result.now vs) c.args.fixed.now.values) (sym (c.as_slice-3.ensures ∙ c.in_ok-variables.ensures))
-    (subst (λ (ls : List Link). IsPosed (posing sides.Source c.args.program.now c.args.models.now rel ls (source_variables c.args.program.now rel)) c.args.fixed.now.values) (sym c.as_slice-2.ensures)
-    (subst (λ (r : Rel). IsPosed (posing sides.Source c.args.program.now c.args.models.now r plan.source (source_variables c.args.program.now r)) c.args.fixed.now.values) (sym here)
+    subst (λ (vs : List ℕ). IsPosed (posing sides.Source c.args.program.now c.args.models.now rel c.as_slice-2.result.now vs []) c.args.fixed.now.values) (sym (c.as_slice-3.ensures ∙ c.in_ok-variables.ensures))
+    (subst (λ (ls : List Link). IsPosed (posing sides.Source c.args.program.now c.args.models.now rel ls (source_variables c.args.program.now rel) []) c.args.fixed.now.values) (sym c.as_slice-2.ensures)
+    (subst (λ (r : Rel). IsPosed (posing sides.Source c.args.program.now c.args.models.now r plan.source (source_variables c.args.program.now r) []) c.args.fixed.now.values) (sym here)
     (without_target_posed c.args.program.now c.args.models.now plan.rel planned.0 plan c.args.fixed.now.values c.requires.meant planned.1 planned.3 planned.4)))
 
 pub all_found-requires-clause-places : goal.all_found-requires-clause-places
@@ -41,8 +41,8 @@ returns-clause-exact c =
     (λ bs h of p b.
     let same : rel ≡ of = here ∙ one_relation c.args.program.now plan.rel planned.0 of plan planned.1 p in
     let met = without_target_is c.args.program.now c.args.models.now rel c.as_slice-2.result.now c.args.fixed.now.values b in
-    let back = subst (λ (vs : List ℕ). IsSought (posing sides.Source c.args.program.now c.args.models.now rel c.as_slice-2.result.now vs) c.args.fixed.now.values b) (c.as_slice-3.ensures ∙ c.in_ok-variables.ensures) in
-    let forth = subst (λ (vs : List ℕ). IsSought (posing sides.Source c.args.program.now c.args.models.now rel c.as_slice-2.result.now vs) c.args.fixed.now.values b) (sym (c.as_slice-3.ensures ∙ c.in_ok-variables.ensures)) in
+    let back = subst (λ (vs : List ℕ). IsSought (posing sides.Source c.args.program.now c.args.models.now rel c.as_slice-2.result.now vs []) c.args.fixed.now.values b) (c.as_slice-3.ensures ∙ c.in_ok-variables.ensures) in
+    let forth = subst (λ (vs : List ℕ). IsSought (posing sides.Source c.args.program.now c.args.models.now rel c.as_slice-2.result.now vs []) c.args.fixed.now.values b) (sym (c.as_slice-3.ensures ∙ c.in_ok-variables.ensures)) in
     subst (λ (r : Rel). Contains (values_of bs) b ↔ SourceWithoutTarget c.args.program.now c.args.models.now r c.args.fixed.now.values b) same
     (λ k. met.0 (back ((h b).0 k)), λ k. (h b).1 (forth (met.1 k))))
     c.all_found.ensures.exact

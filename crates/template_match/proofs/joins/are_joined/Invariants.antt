@@ -1,0 +1,7 @@
+use Rattle.std.proofs.Common.{◌≡◌, drop}
+use Rattle.std.specs.List.{list_all}
+use Rattle.template_match.specs.Joins.{is_joined}
+use Rattle.template_match.proofs.joins.are_joined.Given as goal
+
+abbrev pub invariant-loop-join : goal.invariant-loop-join
+invariant-loop-join l = list_all (λ j. is_joined j l.binding.values) (drop l.join-index l.joins) ≡ list_all (λ j. is_joined j l.binding.values) l.joins
