@@ -24,10 +24,10 @@ use Rattle.relation_calls.specs.Seen.{Seen, SeenBehind, AreClean, IsBad}
 use Rattle.relation_calls.specs.Faults.{IsFault}
 use Rattle.relation_calls.specs.Askable.{IsFormed}
 use Rattle.relation_calls.specs.Outcomes.{AreOutcomes, is_alone, is_partnered}
-use Rattle.relation_calls.specs.Founds.{IsFound}
+use Rattle.relation_calls.specs.Founds.{AreEnough, IsFound}
 use Rattle.relation_calls.specs.Visits.{IsChain}
 use Rattle.relation_calls.proofs.RefusalLaws.{fine, length_more, one_less}
-use Rattle.relation_calls.proofs.VisitLaws.{Chains, fault_in, clean_from, ByCalls, ByValues, ByTargets, ByBinding, split, join}
+use Rattle.relation_calls.proofs.VisitLaws.{Chains, fault_in, ByCalls, ByValues, ByTargets, ByBinding, split, join}
 use Rattle.relation_calls.proofs.OutcomeLaws.{holds_where, matches_where}
 
 -- a plan of the relation of that number is one by its own number
@@ -45,14 +45,17 @@ module _ (program : Program) (models : List ModelData) where
   -- ---- all bindings of a call
 
   module _ (upto : List RelationCall) (rel : Rel) (c : RelationCall) (bs : List Values) (is : slice_get program.rels c.rel ≡ Some rel)
-      (exact : (b : Values) → Contains bs b ↔ Source program models rel c.roots b) where
+      (enough : AreEnough program models rel c.roots bs) where
     pub clean_call : AreClean (ByValues (ByBinding program models upto rel) bs) → AreClean (Seen program models upto c)
-    clean_call = clean_from (ByValues (ByBinding program models upto rel) bs) (Seen program models upto c)
-        (λ chain seen. let (b, source, by) = split program models upto rel c chain is seen in (b, (exact b).1 source, by))
+    clean_call clean chain seen bad = let (b, source, by) = split program models upto rel c chain is seen in clean chain (b, among b source by, by) bad
+      where
+        among : (b : Values) → Source program models rel c.roots b → ByBinding program models upto rel b chain → Contains bs b
+        among b source (inl asked) = enough.asked b asked.0 chain source asked.1 asked.2 bad
+        among b source (inr partner) = enough.matched b source partner.0
 
     pub fault_call : (e : CallError) → IsFault (ByValues (ByBinding program models upto rel) bs) e → IsFault (Seen program models upto c) e
     fault_call = fault_in (ByValues (ByBinding program models upto rel) bs) (Seen program models upto c)
-        (λ chain h. let (b, has, by) = h in join program models upto rel c chain b is ((exact b).0 has) by)
+        (λ chain h. let (b, has, by) = h in join program models upto rel c chain b is (enough.only b has) by)
 
   -- ---- a call in a where clause
 
@@ -129,15 +132,8 @@ module _ (program : Program) (models : List ModelData) where
 
   -- ---- all that is found
 
-  pub all_sources : (rel : Rel) (roots : Values) (bs found : List Binding) → found ≡ bs → ((b : Values) → Contains (values_of bs) b ↔ Source program models rel roots b) → (b : Values)
-      → Contains (values_of found) b ↔ Source program models rel roots b
-  all_sources rel roots bs found same exact = subst (λ (xs : List Binding). (b : Values) → Contains (values_of xs) b ↔ Source program models rel roots b) (sym same) exact
-
-  pub found_all : (n : ℕ) (rel r : Rel) → rel ≡ r → (roots : Values) (bs found : List Binding) → found ≡ bs → (os : List Outcome) → ((b : Values) → Contains (values_of bs) b ↔ Source program models r roots b)
-      → AllPairs (IsLess r.universal) (values_of bs) → AreOutcomes program models n rel (values_of found) os → IsFound program models n r roots (record { bindings = bs; outcomes = os })
-  found_all n rel r one roots bs found same os exact sorted all =
-      record {
-        exact = exact;
-        sorted = sorted;
-        outcomes = subst (λ (x : Rel). AreOutcomes program models n x (values_of bs) os) one (subst (λ (xs : List Binding). AreOutcomes program models n rel (values_of xs) os) same all);
-      }
+  pub found_all : (n : ℕ) (rel r : Rel) → rel ≡ r → (roots : Values) (bs found : List Binding) → found ≡ bs → (os : List Outcome) → AreEnough program models rel roots (values_of bs)
+      → AllPairs (IsLess rel.universal) (values_of bs) → AreOutcomes program models n rel (values_of found) os → IsFound program models n r roots (record { bindings = bs; outcomes = os })
+  found_all n rel r one roots bs found same os enough sorted all =
+      subst (λ (x : Rel). IsFound program models n x roots (record { bindings = bs; outcomes = os })) one
+      (record { enough = enough; sorted = sorted; outcomes = subst (λ (xs : List Binding). AreOutcomes program models n rel (values_of xs) os) same all })

@@ -1,5 +1,5 @@
 -- Which binding fails first: of bindings in their order, the first that is alone is the least that fails.
-use Rattle.std.specs.Prelude.{◌≡◌, ◌⊎◌, ◌↔◌, ℕ, zero, suc, true, List, [], ◌∷◌, Option, None, Some, Contains, AllPairs, IsTrue}
+use Rattle.std.specs.Prelude.{◌≡◌, ◌⊎◌, ℕ, zero, suc, true, List, [], ◌∷◌, Option, None, Some, Contains, AllPairs, IsTrue}
 use Rattle.std.specs.Option.{option_map}
 use Rattle.std.specs.Ordering.{ordering_reverse, is_lt}
 use Rattle.std.specs.declared.cmp.Ordering.{Ordering}
@@ -26,7 +26,7 @@ use Rattle.template_match.proofs.PublicLaws.{one_source_or_less}
 use Rattle.relation_calls.specs.declared.outcome.Outcome.{Outcome}
 use Rattle.relation_calls.specs.declared.outcome.Outcome.TheVariants as outcomes
 use Rattle.relation_calls.specs.Outcomes.{IsOutcome, AreOutcomes, first_alone}
-use Rattle.relation_calls.specs.Founds.{IsLeastOf}
+use Rattle.relation_calls.specs.Founds.{AreEnough, IsLeastOf}
 use Rattle.relation_calls.specs.Seeds.{IsLeastFound}
 
 -- ---- the order is strict
@@ -107,7 +107,7 @@ module _ (program : Program) (models : List ModelData) (n : ℕ) (rel : Rel) whe
 
 -- ---- of those with the same roots
 
-module _ (program : Program) (models : List ModelData) (n : ℕ) (rel : Rel) (roots : Values) (bs : List Values) (os : List Outcome) (exact : (b : Values) → Contains bs b ↔ Source program models rel roots b)
+module _ (program : Program) (models : List ModelData) (n : ℕ) (rel : Rel) (roots : Values) (bs : List Values) (os : List Outcome) (enough : AreEnough program models rel roots bs)
     (sorted : AllPairs (IsLess rel.universal) bs) (outcomes_are : AreOutcomes program models n rel bs os)
   where
     -- a binding that meets the source and is alone
@@ -116,12 +116,12 @@ module _ (program : Program) (models : List ModelData) (n : ℕ) (rel : Rel) (ro
 
     -- the first that is alone is the least of them
     pub first_least : (o : Option Binding) → option_map (λ (b : Binding). b.values) o ≡ first_alone bs os → IsLeastFound rel.universal AloneHere o
-    first_least None e = λ b h. none_first program models n rel bs os outcomes_are (sym e) b ((exact b).1 h.0) h.1
+    first_least None e = λ b h. none_first program models n rel bs os outcomes_are (sym e) b (enough.matched b h.0 h.1.0) h.1
     first_least (Some b) e =
         let first = is_first program models n rel (IsLess rel.universal) bs os b.values sorted outcomes_are (sym e) in
         record {
-          among = ((exact b.values).0 first.among, first.alone);
-          least = λ c h less. elim (first.others c ((exact c).1 h.0) h.1) [
+          among = (enough.only b.values first.among, first.alone);
+          least = λ c h less. elim (first.others c (enough.matched c h.0 h.1.0) h.1) [
             | inl same ↦ let twice : IsLess rel.universal b.values b.values = subst (λ x. IsLess rel.universal x b.values) same less in less_twice rel.universal b.values b.values twice twice
             | inr later ↦ less_twice rel.universal c b.values less later
           ];

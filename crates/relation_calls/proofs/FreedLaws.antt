@@ -1,6 +1,6 @@
 -- A binding of a relation that meets its source with roots that a call gives, and its partner: with the values of the universal variables alone it
 -- meets the source with free roots, and its partner is the same.
-use Rattle.std.specs.Prelude.{◌≡◌, ◌⊎◌, ◌<◌, ◌≤◌, ◌+◌, ℕ, zero, suc, Bool, true, false, ◌&&◌, ◌||◌, ◌==◌, List, [], ◌∷◌, length, replicate, Option, None, Some, is_some, slice_get, slice_index_or, Contains, if◌then◌else◌}
+use Rattle.std.specs.Prelude.{◌≡◌, ◌⊎◌, ◌<◌, ◌≤◌, ◌+◌, ℕ, zero, suc, Bool, true, false, ◌&&◌, ◌||◌, ◌==◌, List, [], ◌∷◌, map, length, replicate, Option, None, Some, is_some, slice_get, slice_index_or, Contains, if◌then◌else◌}
 use Rattle.std.specs.List.{list_all, list_any}
 use Rattle.std.proofs.Common.{refl, sym, ap, subst, ◌∙◌, arith, inl, inr}
 use Rattle.std.proofs.lemmas.Bool.{eq-eqb, eqb-true, true≢false}
@@ -18,12 +18,12 @@ use Rattle.qv_syntax.specs.Parts.{Names}
 use Rattle.qv_syntax.specs.Relations.{IsSourceDomain, IsUniversal, OccursInTemplates, OccursInClause}
 use Rattle.qv_syntax.specs.Directions.{AreMeant, HasVariables}
 use Rattle.qvtr_semantics.specs.declared.datum.Datum.{Datum}
-use Rattle.qvtr_semantics.specs.Outs.{datum_of, boolean_of}
+use Rattle.qvtr_semantics.specs.Outs.{datum_of, boolean_of, all_given}
 use Rattle.qvtr_semantics.specs.Equality.{is_known_true}
 use Rattle.qvtr_semantics.specs.Expressions.{setting, value_for}
 use Rattle.qvtr_semantics.specs.Templates.{Values, value_at}
 use Rattle.qvtr_semantics.specs.Bindings.{is_model, is_value_for, have_values, is_target_domain, template_meets, source_meets, are_one, conjunct_holds, meets_source, Extends, Source, Target}
-use Rattle.qvtr_semantics.specs.Calls.{free}
+use Rattle.qvtr_semantics.specs.Calls.{free, call_with, call_of, calls_of}
 use Rattle.template_match.specs.declared.side.Side.TheVariants as sides
 use Rattle.template_match.specs.Ready.{is_known}
 use Rattle.template_match.proofs.ListLaws.{any_from, any_at, contains_later}
@@ -185,6 +185,33 @@ module _ (program : Program) (models : List ModelData) (meant : AreMeant program
           no_others = λ v d at. inl (kept_from rel.universal 0 b v v (omega arith) d at).0;
           meets = meets_kept ∙ source.meets;
         }
+
+    -- ---- its calls are the same
+
+    abbrev given_by : Values → Typed → Option Datum
+    given_by x e = datum_of (value_for program models e x)
+
+    args_kept : (args : List Typed) → ((e : Typed) → Contains args e → (v : ℕ) → Names e v → IsUniversal program rel v) → map (given_by freed) args ≡ map (given_by b) args
+    args_kept [] named = refl
+    args_kept (e ∷ es) named =
+        ap (λ x. x ∷ map (given_by freed) es) (ap datum_of (value_same e (named e (contains_first e es))))
+        ∙ ap (λ xs. given_by b e ∷ xs) (args_kept es (λ x c. named x (contains_later x e es c)))
+
+    call_kept : (called : ℕ) (args : List Typed) → Contains rel.whens (conjuncts.Call called args) → call_of program models freed called args ≡ call_of program models b called args
+    call_kept called args c =
+        ap (λ ds. call_with called (slice_get program.rels called) (all_given ds))
+        (args_kept args (λ e within v names. IsUniversal.when (OccursInClause.expression (conjuncts.Call called args) e c within names)))
+
+    calls_kept : (clause : List Conj) → ((x : Conj) → Contains clause x → Contains rel.whens x) → calls_of program models freed clause ≡ calls_of program models b clause
+    calls_kept [] within = refl
+    calls_kept (conjuncts.Cond e ∷ cs) within = calls_kept cs (λ x c. within x (contains_later x (conjuncts.Cond e) cs c))
+    calls_kept (conjuncts.Equation v e ∷ cs) within = calls_kept cs (λ x c. within x (contains_later x (conjuncts.Equation v e) cs c))
+    calls_kept (conjuncts.Call called args ∷ cs) within =
+        ap (λ x. x ∷ calls_of program models freed cs) (call_kept called args (within (conjuncts.Call called args) (contains_first (conjuncts.Call called args) cs)))
+        ∙ ap (λ xs. call_of program models b called args ∷ xs) (calls_kept cs (λ x c. within x (contains_later x (conjuncts.Call called args) cs c)))
+
+    pub freed_calls : calls_of program models freed rel.whens ≡ calls_of program models b rel.whens
+    freed_calls = calls_kept rel.whens (λ x c. c)
 
     -- ---- the partner is the same
 

@@ -168,11 +168,11 @@ module _ (program : Program) (models : List ModelData) where
   linked_behind upto d e names is linked calls = subst (λ u. IsLinked program models (u ++ e ∷ [])) (sym is) (linked_more upto d e linked calls)
 
   pub all_linked : (upto : List RelationCall) (rel : Rel) (c : RelationCall) (bs : List Values) → slice_get program.rels c.rel ≡ Some rel
-      → ((b : Values) → Contains bs b ↔ Source program models rel c.roots b) → ((d : RelationCall) → CallsWhere program models c d → IsLinked program models (upto ++ d ∷ []))
+      → ((b : Values) → Contains bs b → Source program models rel c.roots b) → ((d : RelationCall) → CallsWhere program models c d → IsLinked program models (upto ++ d ∷ []))
       → (b : Values) → Contains bs b → AllAsked (Match program models) (calls_of program models b rel.whens) → (g : Values) → Target program models rel b g
       → AreLinked program models upto (calls_of program models g rel.wheres)
-  all_linked upto rel c bs is exact linked b has whens g target d calls =
-      linked d (record { rel = rel; is = is; binding = b; source = record { source = (exact b).0 has; whens = whens }; partner = g; target = target; calls = calls })
+  all_linked upto rel c bs is only linked b has whens g target d calls =
+      linked d (record { rel = rel; is = is; binding = b; source = record { source = only b has; whens = whens }; partner = g; target = target; calls = calls })
 
   -- ---- answers
 

@@ -14,8 +14,11 @@ pub mod MemoLaws
 pub mod HeldLaws
 pub mod TemplateLaws
 pub mod FreedLaws
-pub mod LeafLaws
+pub mod MadeLaws
+pub mod CalmLaws
 pub mod SeedLaws
+pub mod JoinLaws
+pub mod TableLaws
 pub mod LeastLaws
 pub mod TopLaws
 pub mod Refuting

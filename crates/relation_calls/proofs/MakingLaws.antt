@@ -1,11 +1,12 @@
--- What roots and seeds get, one after another.
+-- What roots get, one after another.
 use Rattle.std.specs.Prelude.{◌≡◌, ◌≤◌, ℕ, List, [], ◌∷◌, length, drop, min, Option}
 use Rattle.std.proofs.Common.{refl}
 use Rattle.qv_syntax.specs.declared.program.Dom.{Dom}
+use Rattle.qv_syntax.specs.declared.typed.Typed.{Typed}
 use Rattle.qvtr_semantics.specs.declared.datum.Datum.{Datum}
 use Rattle.qvtr_semantics.specs.Templates.{Values}
 use Rattle.qvtr_semantics.specs.Calls.{with_roots}
-use Rattle.relation_calls.specs.Seeds.{with_arguments, seeded}
+use Rattle.relation_calls.specs.Tables.{with_arguments}
 use Rattle.relation_calls.proofs.ListLaws.{both_ended}
 
 none_given : (values : Values) (doms : List Dom) → with_roots values doms [] ≡ values
@@ -20,12 +21,6 @@ no_argument : (places : List (Option ℕ)) (doms : List Dom) → with_arguments 
 no_argument places [] = refl
 no_argument places (dom ∷ doms) = refl
 
-pub ended_arguments : (places : List (Option ℕ)) (doms : List Dom) (vs : List ℕ) (i : ℕ) → min (length doms) (length vs) ≤ i → with_arguments places (drop i doms) (drop i vs) ≡ places
-ended_arguments places doms vs i past = both_ended with_arguments places (λ ys. refl) (no_argument places) doms vs i past
-
-nothing_seeded : (values : Values) (os : List (Option ℕ)) → seeded values os [] ≡ values
-nothing_seeded values [] = refl
-nothing_seeded values (o ∷ os) = refl
-
-pub ended_seed : (values : Values) (os : List (Option ℕ)) (xs : Values) (i : ℕ) → min (length os) (length xs) ≤ i → seeded values (drop i os) (drop i xs) ≡ values
-ended_seed values os xs i past = both_ended seeded values (λ ys. refl) (nothing_seeded values) os xs i past
+pub ended_arguments : (places : List (Option ℕ)) (doms : List Dom) (args : List Typed) (i : ℕ) → min (length doms) (length args) ≤ i
+    → with_arguments places (drop i doms) (drop i args) ≡ places
+ended_arguments places doms args i past = both_ended with_arguments places (λ ys. refl) (no_argument places) doms args i past

@@ -1,5 +1,5 @@
 -- What a memo keeps: a new one has no answer, and one more answer that is true leaves all true.
-use Rattle.std.specs.Prelude.{◌≡◌, ℕ, Bool, true, false, List, Option, None, Some, slice_get}
+use Rattle.std.specs.Prelude.{◌≡◌, ℕ, Bool, true, false, List, Option, None, Some}
 use Rattle.std.specs.BTreeMap.{BTreeMap, get, IsEmpty, IsUnchanged, Updates, is_at}
 use Rattle.std.specs.Map.{lookup}
 use Rattle.std.specs.FinMap.{IsAntisymmetric, slice_cmp-IsAntisymmetric}
@@ -11,15 +11,16 @@ use Rattle.std.proofs.lemmas.Map.Views.{tells_apart}
 use Rattle.std.proofs.lemmas.Option.{same_Some}
 use Rattle.object_tables.specs.Models.{ModelData}
 use Rattle.qv_syntax.specs.declared.program.Program.{Program}
-use Rattle.qvtr_semantics.specs.declared.binding.Binding.{Binding}
+use Rattle.qvtr_semantics.specs.declared.datum.Datum.{Datum}
 use Rattle.qvtr_semantics.specs.Templates.{Values}
 use Rattle.qvtr_semantics.specs.Calls.{RelationCall}
 use Rattle.template_match.specs.OrderLaws.{optional_exact}
 use Rattle.relation_calls.specs.declared.memo.Answer.{Answer}
 use Rattle.relation_calls.specs.declared.memo.Memo.{Memo}
 use Rattle.relation_calls.specs.CallOrder.{roots_order, call_order}
-use Rattle.relation_calls.specs.Leaves.{is_leaf_there}
-use Rattle.relation_calls.specs.Memos.{IsMatching, IsHolding, AreListed, IsTold}
+use Rattle.relation_calls.specs.Calm.{IsHeightOf}
+use Rattle.relation_calls.specs.Tables.{IsTable}
+use Rattle.relation_calls.specs.Memos.{IsMatching, IsHolding, IsTold}
 
 -- ---- calls that tie are one
 
@@ -53,64 +54,76 @@ module _ {K X : Type 0} (order : K → K → Ordering) (exact : CmpEqualImpliesE
       by false same at = told d two at
 
 module _ (program : Program) (models : List ModelData) where
-  abbrev IsLeafAnswer : ℕ → Bool → Type 0
-  IsLeafAnswer number one = one ≡ is_leaf_there (slice_get program.rels number)
+  abbrev Matchings : BTreeMap RelationCall Bool → Type 0
+  Matchings = AllTold call_order one_call (IsMatching program models)
 
-  pub nothing_told : (memo : Memo) → IsEmpty memo.matching → IsEmpty memo.holding → IsEmpty memo.leaves → IsEmpty memo.listed → IsTold program models memo
-  nothing_told memo no_match no_hold no_leaf no_list =
+  abbrev Holdings : BTreeMap RelationCall Answer → Type 0
+  Holdings = AllTold call_order one_call (IsHolding program models)
+
+  abbrev Heights : BTreeMap ℕ (Option ℕ) → Type 0
+  Heights = AllTold nat_cmp exact_unsigned (IsHeightOf program)
+
+  abbrev Tables : BTreeMap ℕ (Option (List (List Datum))) → Type 0
+  Tables = AllTold nat_cmp exact_unsigned (IsTable program models)
+
+  pub nothing_told : (memo : Memo) → IsEmpty memo.matching → IsEmpty memo.holding → IsEmpty memo.heights → IsEmpty memo.tables → IsTold program models memo
+  nothing_told memo no_match no_hold no_height no_table =
       record {
         matching = none_told call_order one_call (IsMatching program models) memo.matching no_match;
         holding = none_told call_order one_call (IsHolding program models) memo.holding no_hold;
-        leaves = none_told nat_cmp exact_unsigned IsLeafAnswer memo.leaves no_leaf;
-        listed = none_told nat_cmp exact_unsigned (AreListed program models) memo.listed no_list;
+        heights = none_told nat_cmp exact_unsigned (IsHeightOf program) memo.heights no_height;
+        tables = none_told nat_cmp exact_unsigned (IsTable program models) memo.tables no_table;
       }
 
   -- what differs in one part alone
   module _ (old new : Memo) (told : IsTold program models old) where
-    same_matching : new.matching ≡ old.matching → AllTold call_order one_call (IsMatching program models) new.matching
-    same_matching same = subst (AllTold call_order one_call (IsMatching program models)) (sym same) told.matching
+    all_told : Matchings new.matching → Holdings new.holding → Heights new.heights → Tables new.tables → IsTold program models new
+    all_told matching holding heights tables = record { matching = matching; holding = holding; heights = heights; tables = tables }
 
-    same_holding : new.holding ≡ old.holding → AllTold call_order one_call (IsHolding program models) new.holding
-    same_holding same = subst (AllTold call_order one_call (IsHolding program models)) (sym same) told.holding
+    pub same_told : new.matching ≡ old.matching → new.holding ≡ old.holding → new.heights ≡ old.heights → new.tables ≡ old.tables → IsTold program models new
+    same_told match hold height table =
+        all_told (subst Matchings (sym match) told.matching) (subst Holdings (sym hold) told.holding) (subst Heights (sym height) told.heights) (subst Tables (sym table) told.tables)
 
-    same_leaves : new.leaves ≡ old.leaves → AllTold nat_cmp exact_unsigned IsLeafAnswer new.leaves
-    same_leaves same = subst (AllTold nat_cmp exact_unsigned IsLeafAnswer) (sym same) told.leaves
+    pub unchanged_matches : IsUnchanged old.matching new.matching → new.holding ≡ old.holding → new.heights ≡ old.heights → new.tables ≡ old.tables → IsTold program models new
+    unchanged_matches same hold height table =
+        all_told (still_told call_order one_call (IsMatching program models) old.matching new.matching same told.matching) (subst Holdings (sym hold) told.holding)
+        (subst Heights (sym height) told.heights) (subst Tables (sym table) told.tables)
 
-    same_listed : new.listed ≡ old.listed → AllTold nat_cmp exact_unsigned (AreListed program models) new.listed
-    same_listed same = subst (AllTold nat_cmp exact_unsigned (AreListed program models)) (sym same) told.listed
-
-    pub unchanged_matches : IsUnchanged old.matching new.matching → new.holding ≡ old.holding → new.leaves ≡ old.leaves → new.listed ≡ old.listed → IsTold program models new
-    unchanged_matches same hold leaf list =
-        record { matching = still_told call_order one_call (IsMatching program models) old.matching new.matching same told.matching; holding = same_holding hold; leaves = same_leaves leaf; listed = same_listed list }
-
-    pub more_matches : (c : RelationCall) (one : Bool) → Updates call_order old.matching new.matching c (Some one) → new.holding ≡ old.holding → new.leaves ≡ old.leaves → new.listed ≡ old.listed
+    pub more_matches : (c : RelationCall) (one : Bool) → Updates call_order old.matching new.matching c (Some one) → new.holding ≡ old.holding → new.heights ≡ old.heights → new.tables ≡ old.tables
         → IsMatching program models c one → IsTold program models new
-    more_matches c one updates hold leaf list is =
-        record { matching = more_told call_order one_call (IsMatching program models) old.matching new.matching c one updates told.matching is; holding = same_holding hold; leaves = same_leaves leaf; listed = same_listed list }
+    more_matches c one updates hold height table is =
+        all_told (more_told call_order one_call (IsMatching program models) old.matching new.matching c one updates told.matching is) (subst Holdings (sym hold) told.holding)
+        (subst Heights (sym height) told.heights) (subst Tables (sym table) told.tables)
 
-    pub unchanged_holds : IsUnchanged old.holding new.holding → new.matching ≡ old.matching → new.leaves ≡ old.leaves → new.listed ≡ old.listed → IsTold program models new
-    unchanged_holds same match leaf list =
-        record { matching = same_matching match; holding = still_told call_order one_call (IsHolding program models) old.holding new.holding same told.holding; leaves = same_leaves leaf; listed = same_listed list }
+    pub unchanged_holds : IsUnchanged old.holding new.holding → new.matching ≡ old.matching → new.heights ≡ old.heights → new.tables ≡ old.tables → IsTold program models new
+    unchanged_holds same match height table =
+        all_told (subst Matchings (sym match) told.matching) (still_told call_order one_call (IsHolding program models) old.holding new.holding same told.holding)
+        (subst Heights (sym height) told.heights) (subst Tables (sym table) told.tables)
 
-    pub more_holds : (c : RelationCall) (answer : Answer) → Updates call_order old.holding new.holding c (Some answer) → new.matching ≡ old.matching → new.leaves ≡ old.leaves → new.listed ≡ old.listed
+    pub more_holds : (c : RelationCall) (answer : Answer) → Updates call_order old.holding new.holding c (Some answer) → new.matching ≡ old.matching → new.heights ≡ old.heights → new.tables ≡ old.tables
         → IsHolding program models c answer → IsTold program models new
-    more_holds c answer updates match leaf list is =
-        record { matching = same_matching match; holding = more_told call_order one_call (IsHolding program models) old.holding new.holding c answer updates told.holding is; leaves = same_leaves leaf; listed = same_listed list }
+    more_holds c answer updates match height table is =
+        all_told (subst Matchings (sym match) told.matching) (more_told call_order one_call (IsHolding program models) old.holding new.holding c answer updates told.holding is)
+        (subst Heights (sym height) told.heights) (subst Tables (sym table) told.tables)
 
-    pub unchanged_leaves : IsUnchanged old.leaves new.leaves → new.matching ≡ old.matching → new.holding ≡ old.holding → new.listed ≡ old.listed → IsTold program models new
-    unchanged_leaves same match hold list =
-        record { matching = same_matching match; holding = same_holding hold; leaves = still_told nat_cmp exact_unsigned IsLeafAnswer old.leaves new.leaves same told.leaves; listed = same_listed list }
+    pub unchanged_heights : IsUnchanged old.heights new.heights → new.matching ≡ old.matching → new.holding ≡ old.holding → new.tables ≡ old.tables → IsTold program models new
+    unchanged_heights same match hold table =
+        all_told (subst Matchings (sym match) told.matching) (subst Holdings (sym hold) told.holding)
+        (still_told nat_cmp exact_unsigned (IsHeightOf program) old.heights new.heights same told.heights) (subst Tables (sym table) told.tables)
 
-    pub more_leaves : (number : ℕ) (one : Bool) → Updates nat_cmp old.leaves new.leaves number (Some one) → new.matching ≡ old.matching → new.holding ≡ old.holding → new.listed ≡ old.listed
-        → one ≡ is_leaf_there (slice_get program.rels number) → IsTold program models new
-    more_leaves number one updates match hold list is =
-        record { matching = same_matching match; holding = same_holding hold; leaves = more_told nat_cmp exact_unsigned IsLeafAnswer old.leaves new.leaves number one updates told.leaves is; listed = same_listed list }
+    pub more_heights : (number : ℕ) (height : Option ℕ) → Updates nat_cmp old.heights new.heights number (Some height) → new.matching ≡ old.matching → new.holding ≡ old.holding
+        → new.tables ≡ old.tables → IsHeightOf program number height → IsTold program models new
+    more_heights number height updates match hold table is =
+        all_told (subst Matchings (sym match) told.matching) (subst Holdings (sym hold) told.holding)
+        (more_told nat_cmp exact_unsigned (IsHeightOf program) old.heights new.heights number height updates told.heights is) (subst Tables (sym table) told.tables)
 
-    pub unchanged_lists : IsUnchanged old.listed new.listed → new.matching ≡ old.matching → new.holding ≡ old.holding → new.leaves ≡ old.leaves → IsTold program models new
-    unchanged_lists same match hold leaf =
-        record { matching = same_matching match; holding = same_holding hold; leaves = same_leaves leaf; listed = still_told nat_cmp exact_unsigned (AreListed program models) old.listed new.listed same told.listed }
+    pub unchanged_tables : IsUnchanged old.tables new.tables → new.matching ≡ old.matching → new.holding ≡ old.holding → new.heights ≡ old.heights → IsTold program models new
+    unchanged_tables same match hold height =
+        all_told (subst Matchings (sym match) told.matching) (subst Holdings (sym hold) told.holding) (subst Heights (sym height) told.heights)
+        (still_told nat_cmp exact_unsigned (IsTable program models) old.tables new.tables same told.tables)
 
-    pub more_lists : (number : ℕ) (gs : List Binding) → Updates nat_cmp old.listed new.listed number (Some gs) → new.matching ≡ old.matching → new.holding ≡ old.holding → new.leaves ≡ old.leaves
-        → AreListed program models number gs → IsTold program models new
-    more_lists number gs updates match hold leaf is =
-        record { matching = same_matching match; holding = same_holding hold; leaves = same_leaves leaf; listed = more_told nat_cmp exact_unsigned (AreListed program models) old.listed new.listed number gs updates told.listed is }
+    pub more_tables : (number : ℕ) (table : Option (List (List Datum))) → Updates nat_cmp old.tables new.tables number (Some table) → new.matching ≡ old.matching → new.holding ≡ old.holding
+        → new.heights ≡ old.heights → IsTable program models number table → IsTold program models new
+    more_tables number table updates match hold height is =
+        all_told (subst Matchings (sym match) told.matching) (subst Holdings (sym hold) told.holding) (subst Heights (sym height) told.heights)
+        (more_told nat_cmp exact_unsigned (IsTable program models) old.tables new.tables number table updates told.tables is)

@@ -72,7 +72,7 @@ module _ (program : Program) (models : List ModelData) (n : ℕ) (rel : Rel) whe
 
     pub none_alone : list_any is_alone found.outcomes ≡ false → HoldsSo
     none_alone none b m =
-        let (o, has, one) = outcome_at (values_of found.bindings) found.outcomes b is.outcomes ((is.exact b).1 m.source) in
+        let (o, has, one) = outcome_at (values_of found.bindings) found.outcomes b is.outcomes (is.enough.matched b m.source m.whens) in
         elim (matched_is b o one m.whens) [
           | inl alone ↦ absurd (true≢false (sym (any_at is_alone found.outcomes o alone.0 has) ∙ none))
           | inr partnered ↦ partnered.1
@@ -83,7 +83,7 @@ module _ (program : Program) (models : List ModelData) (n : ℕ) (rel : Rel) whe
         let (o, has, alone) = any_from is_alone found.outcomes some in
         let (b, there, one) = binding_at (values_of found.bindings) found.outcomes o is.outcomes has in
         let (matched, without) = alone_is b o one alone in
-        let (g, partner) = holds b (record { source = (is.exact b).0 there; whens = matched }) in
+        let (g, partner) = holds b (record { source = is.enough.only b there; whens = matched }) in
         without g partner
 
     holds_by : (some : Bool) → list_any is_alone found.outcomes ≡ some → IsTrue (not some) ↔ HoldsSo
@@ -110,9 +110,9 @@ module _ (program : Program) (models : List ModelData) (n : ℕ) (rel : Rel) whe
       λ h. let (o, has, partnered) = any_from is_partnered found.outcomes h in
           let (b, there, one) = binding_at (values_of found.bindings) found.outcomes o is.outcomes has in
           let (matched, g, partner) = partnered_is b o one partnered in
-          (b, g, record { source = (is.exact b).0 there; whens = matched }, partner),
+          (b, g, record { source = is.enough.only b there; whens = matched }, partner),
       λ h. let (b, g, m, partner) = h in
-          let (o, has, one) = outcome_at (values_of found.bindings) found.outcomes b is.outcomes ((is.exact b).1 m.source) in
+          let (o, has, one) = outcome_at (values_of found.bindings) found.outcomes b is.outcomes (is.enough.matched b m.source m.whens) in
           elim (matched_is b o one m.whens) [
             | inl alone ↦ absurd (alone.1 g partner)
             | inr partnered ↦ any_at is_partnered found.outcomes o partnered.0 has

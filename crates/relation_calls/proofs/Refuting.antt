@@ -1,24 +1,28 @@
 -- Wrong answers that the definitions exclude, each on a small case: what the definition gives, and that it isn't what the wrong
 -- code would answer. A contract says that the code's result is what the definition gives, so it refuses that code.
-use Rattle.std.specs.Prelude.{◌≡◌, ℕ, zero, suc, true, List, [], ◌∷◌, ◌++◌, codes, length, Option, None, Some, Contains}
+use Rattle.std.specs.Prelude.{◌≡◌, ℕ, zero, suc, List, [], ◌∷◌, ◌++◌, codes, length, Option, None, Some, slice_get, Contains}
 use Rattle.std.specs.Option.{option_map}
-use Rattle.std.proofs.Common.{refl, ap, arith}
+use Rattle.std.proofs.Common.{refl, sym, ap, subst, ◌∙◌, arith}
+use Rattle.std.proofs.lemmas.Option.{same_Some}
+use Rattle.qv_syntax.specs.declared.program.Rel.{Rel}
+use Rattle.qv_syntax.specs.Relations.{CallsIn}
 use Rattle.qvtr_semantics.specs.declared.limits.TheConstants.{MAX_CALLS}
 use Rattle.qvtr_semantics.specs.declared.datum.Datum.{Datum}
 use Rattle.qvtr_semantics.specs.declared.datum.Datum.TheVariants.{Obj, Val}
 use Rattle.qvtr_semantics.specs.declared.binding.Binding.{Binding}
 use Rattle.qvtr_semantics.specs.Templates.{Values, value_at}
 use Rattle.qvtr_semantics.specs.Bindings.{Source}
-use Rattle.qvtr_semantics.specs.Calls.{RelationCall, HoldsFor, Holds, free}
+use Rattle.qvtr_semantics.specs.Calls.{RelationCall, HoldsFor, Holds}
 use Rattle.qvtr_semantics.specs.Chains.{IsCyclic, IsDeep}
 use Rattle.qvtr_semantics.specs.Satisfaction.{Satisfied}
-use Rattle.qvtr_semantics.specs.SmallModels.{program, both, package_to_schema, class_to_table, two_schemas, one_only, b_alone, text, object, package_call, again, again_call}
+use Rattle.qvtr_semantics.specs.SmallModels.{program, both, package_to_schema, two_schemas, one_only, b_alone, text, object, package_call, again, again_call, looping, var, class}
 use Rattle.qvtr_semantics.proofs.RowAnswers.{IsThree, three_of, IsPackage, source_is, package_b_is_the_least}
 use Rattle.qvtr_semantics.proofs.WhereAnswers.{package_call_holds}
 use Rattle.relation_calls.specs.declared.outcome.Outcome.TheVariants as outcomes
-use Rattle.relation_calls.specs.Leaves.{is_leaf}
+use Rattle.relation_calls.specs.Calm.{IsCalm}
 use Rattle.relation_calls.specs.Outcomes.{first_alone}
-use Rattle.relation_calls.specs.Seeds.{arguments_of, seeded, lesser}
+use Rattle.relation_calls.specs.Seeds.{first_root, lesser}
+use Rattle.relation_calls.specs.Tables.{row_of}
 use Rattle.relation_calls.specs.Visits.{IsChain}
 
 -- ---- bindings and what comes of them
@@ -55,25 +59,33 @@ first_package_is_enough satisfied = satisfied 0 b_alone package_b_is_the_least.f
 pub unmatched_binding_is_named : first_alone (a_alone ∷ []) (outcomes.Unmatched ∷ []) ≡ Some a_alone → ⊥
 unmatched_binding_is_named e = cc
 
--- ---- seeds
+-- ---- calm relations
 
--- a relation that calls itself as one that calls none
-pub caller_as_leaf : is_leaf again ≡ true → ⊥
-caller_as_leaf e = cc
+calls_itself : (rel : Rel) → slice_get looping.rels 1 ≡ Some rel → CallsIn rel.wheres 1
+calls_itself rel found = subst (λ (r : Rel). CallsIn r.wheres 1) (same_Some again rel found) (var 0 (class 0 1) ∷ var 1 (class 1 1) ∷ [], (0, omega arith, refl))
 
-pub arguments_at_their_roots : arguments_of package_to_schema (2 ∷ 4 ∷ []) ≡ None ∷ Some 2 ∷ Some 4 ∷ []
-arguments_at_their_roots = refl
+-- a relation that calls itself as one that is calm
+pub caller_as_calm : (n number : ℕ) → IsCalm looping n number → number ≡ 1 → ⊥
+caller_as_calm _ number (IsCalm.calm n _ rel found wheres whens) is =
+    caller_as_calm n 1 (wheres 1 (calls_itself rel (ap (slice_get looping.rels) (sym is) ∙ found))) refl
 
--- the seed of the package b and the schema s1
-abbrev seed_of_b : Values
-seed_of_b = seeded (free class_to_table) (arguments_of package_to_schema (2 ∷ 4 ∷ [])) (text (codes "b") ∷ object 0 1 ∷ object 1 0 ∷ [])
+-- ---- seeds and joins
 
-pub package_and_schema_alone : seed_of_b ≡ None ∷ None ∷ object 0 1 ∷ None ∷ object 1 0 ∷ []
-package_and_schema_alone = refl
+-- the object of another model than the target's
+pub root_of_the_source : first_root program package_to_schema.domains ≡ Some 1
+root_of_the_source = refl
 
--- another package than that of the match
-pub seed_of_another_package : seed_of_b ≡ None ∷ None ∷ object 0 0 ∷ None ∷ object 1 0 ∷ [] → ⊥
-seed_of_another_package e = let apart : 1 ≡ 0 = ap (λ b. object_number (value_at b 2)) e in absurd (omega (arith, apart))
+-- the root of the target's domain
+pub root_of_the_target : first_root program package_to_schema.domains ≡ Some 2 → ⊥
+root_of_the_target e = let apart : 1 ≡ 2 = same_Some 1 2 e in absurd (omega (arith, apart))
+
+-- the data at the roots of a match of the package a and the schema s1
+pub row_of_a_match : row_of package_to_schema.domains (text (codes "a") ∷ object 0 0 ∷ object 1 0 ∷ []) ≡ Some (Obj 0 (record { 0 = 0 }) ∷ Obj 1 (record { 0 = 0 }) ∷ [])
+row_of_a_match = refl
+
+-- a row where a root has no value
+pub row_without_a_root : row_of package_to_schema.domains (text (codes "a") ∷ object 0 0 ∷ None ∷ []) ≡ None
+row_without_a_root = refl
 
 -- of two bindings the one that was found first, where the other one is less
 pub first_found_is_least : lesser (1 ∷ []) (Some (record { values = b_alone })) (Some (record { values = a_alone })) ≡ Some (record { values = b_alone }) → ⊥

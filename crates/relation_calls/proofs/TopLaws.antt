@@ -1,5 +1,5 @@
 -- A top relation whose bindings begin with seeds: what fails, and the chains that are reached, are those of all its bindings.
-use Rattle.std.specs.Prelude.{◌≡◌, ◌↔◌, AllPairs, ◌⊎◌, ◌≤◌, ◌<◌, ℕ, suc, List, [], ◌∷◌, ◌++◌, length, take, get_or, Option, None, Some, slice_get, Contains, MatchOption}
+use Rattle.std.specs.Prelude.{◌≡◌, AllPairs, ◌⊎◌, ◌≤◌, ◌<◌, ℕ, suc, List, [], ◌∷◌, ◌++◌, length, take, get_or, Option, None, Some, slice_get, Contains, MatchOption}
 use Rattle.std.specs.Option.{option_map}
 use Rattle.std.proofs.Common.{sym, ap, subst, ◌∙◌, inl, inr}
 use Rattle.std.proofs.lemmas.Bool.{true≢false}
@@ -10,10 +10,9 @@ use Rattle.qvtr_semantics.specs.declared.limits.TheConstants.{MAX_CALLS}
 use Rattle.object_tables.specs.Models.{ModelData}
 use Rattle.qv_syntax.specs.declared.program.Program.{Program}
 use Rattle.qv_syntax.specs.declared.program.Rel.{Rel}
-use Rattle.qvtr_semantics.specs.declared.datum.Datum.{Datum}
 use Rattle.qvtr_semantics.specs.declared.binding.Binding.{Binding}
-use Rattle.qvtr_semantics.specs.Templates.{Values, value_at}
-use Rattle.qvtr_semantics.specs.Bindings.{Extends, Source}
+use Rattle.qvtr_semantics.specs.Templates.{Values}
+use Rattle.qvtr_semantics.specs.Bindings.{Source}
 use Rattle.qvtr_semantics.specs.Calls.{RelationCall, SourceMatches, TargetHolds, Match, Holds, free}
 use Rattle.qvtr_semantics.specs.Satisfaction.{IsTop, Failing, IsLess}
 use Rattle.template_match.specs.Search.{values_of}
@@ -25,11 +24,11 @@ use Rattle.relation_calls.specs.Seen.{TopChain, AreClean}
 use Rattle.relation_calls.specs.Faults.{IsFault}
 use Rattle.relation_calls.specs.declared.outcome.Outcome.{Outcome}
 use Rattle.relation_calls.specs.Outcomes.{IsOutcome, AreOutcomes, first_alone}
-use Rattle.relation_calls.specs.Founds.{IsLeastOf}
-use Rattle.relation_calls.specs.Visits.{IsSourceBinding, left_of, SeenByAny}
+use Rattle.relation_calls.specs.Founds.{AreEnough, IsLeastOf}
+use Rattle.relation_calls.specs.Visits.{IsSourceBinding, left_of, SeenBy, SeenByAny}
 use Rattle.relation_calls.specs.Seeds.{AreSeeds, IsSeedOf, IsAloneFrom, IsAloneFromAny, SeenFrom, IsLeastFound, lesser}
 use Rattle.relation_calls.proofs.ChainLaws.{top_chains}
-use Rattle.relation_calls.proofs.FreedLaws.{nothing_free}
+use Rattle.relation_calls.proofs.SeedLaws.{seed_source, free_source}
 use Rattle.relation_calls.proofs.ListLaws.{before_or_last, all_taken}
 use Rattle.relation_calls.proofs.VisitLaws.{Chains, ByBinding, split, join, fault_in, clean_from, source_binding}
 use Rattle.relation_calls.proofs.FailingLaws.{first_least}
@@ -37,52 +36,28 @@ use Rattle.relation_calls.proofs.OutsideLaws.{call_at}
 use Rattle.relation_calls.proofs.LeastLaws.{lesser_least, least_same}
 use Rattle.relation_calls.proofs.StepLaws.{next_values}
 
--- ---- bindings that meet the source with the roots of a seed
-
-module _ (program : Program) (models : List ModelData) (rel : Rel) (f b : Values) where
-  pub seed_source : Extends f b → Source program models rel (free rel) b → Source program models rel f b
-  seed_source more source =
-      record {
-        places = source.places;
-        extends = more;
-        no_others = λ v d at. elim (source.no_others v d at) [
-          | inl has ↦ inl has
-          | inr never ↦ absurd (nothing_free (length rel.vars) v d never)
-        ];
-        meets = source.meets;
-      }
-
-  pub free_source : ((v : ℕ) (d : Datum) → value_at f v ≡ Some d → Contains rel.universal v) → Source program models rel f b → Source program models rel (free rel) b
-  free_source universal source =
-      record {
-        places = source.places;
-        extends = λ v d at. absurd (nothing_free (length rel.vars) v d at);
-        no_others = λ v d at. elim (source.no_others v d at) [
-          | inl has ↦ inl has
-          | inr own ↦ inl (universal v d own)
-        ];
-        meets = source.meets;
-      }
-
 -- ---- what is found with a seed
 
-module _ (v : Visit) (f : Values) (bs xs : List Binding) (same : xs ≡ bs) (exact : (b : Values) → Contains (values_of bs) b ↔ Source v.program.now v.models.now v.rel.now f b) where
+module _ (v : Visit) (f : Values) (bs xs : List Binding) (same : xs ≡ bs) (enough : AreEnough v.program.now v.models.now v.rel.now f (values_of bs)) where
   pub found_least : (sorted : AllPairs (IsLess v.rel.now.universal) (values_of bs)) (os zs : List Outcome) → AreOutcomes v.program.now v.models.now (left_of v) v.rel.now (values_of xs) os
       → (ys : List Binding) → ys ≡ bs → zs ≡ os → (o : Option Binding) → option_map (λ (b : Binding). b.values) o ≡ first_alone (values_of ys) zs → IsLeastFound v.rel.now.universal (IsAloneFrom v f) o
   found_least sorted os zs outcomes_are ys again alike o first =
-      first_least v.program.now v.models.now (left_of v) v.rel.now f (values_of bs) os exact sorted
+      first_least v.program.now v.models.now (left_of v) v.rel.now f (values_of bs) os enough sorted
       (subst (λ (ws : List Binding). AreOutcomes v.program.now v.models.now (left_of v) v.rel.now (values_of ws) os) same outcomes_are) o
       (first ∙ ap (λ (ws : List Binding). first_alone (values_of ws) zs) again ∙ ap (first_alone (values_of bs)) alike)
 
   found_source : (b : Values) → Contains (values_of xs) b → Source v.program.now v.models.now v.rel.now f b
-  found_source b has = (exact b).0 (subst (λ (ws : List Binding). Contains (values_of ws) b) same has)
+  found_source b has = enough.only b (subst (λ (ws : List Binding). Contains (values_of ws) b) same has)
 
   pub found_sources : (b : Values) → Contains (values_of xs) b → IsSourceBinding v.rel.now b
   found_sources b has = source_binding v.program.now v.models.now v.rel.now f b (found_source b has)
 
   pub found_clean : AreClean (SeenByAny v (values_of xs)) → AreClean (SeenFrom v f)
-  found_clean = clean_from (SeenByAny v (values_of xs)) (SeenFrom v f)
-      (λ chain h. (h.0, subst (λ (ws : List Binding). Contains (values_of ws) h.0) (sym same) ((exact h.0).1 h.1), h.2))
+  found_clean clean chain (b, source, by) bad = clean chain (b, subst (λ (ws : List Binding). Contains (values_of ws) b) (sym same) (among b source by), by) bad
+    where
+      among : (b : Values) → Source v.program.now v.models.now v.rel.now f b → SeenBy v b chain → Contains (values_of bs) b
+      among b source (inl asked) = enough.asked b asked.0 chain source asked.1 asked.2 bad
+      among b source (inr partner) = enough.matched b source partner.0
 
   pub found_fault : (e : CallError) → IsFault (SeenByAny v (values_of xs)) e → IsFault (SeenFrom v f) e
   found_fault = fault_in (SeenByAny v (values_of xs)) (SeenFrom v f) (λ chain h. (h.0, found_source h.0 h.1, h.2))
@@ -160,7 +135,7 @@ module _ (program : Program) (models : List ModelData) (number : ℕ) (rel : Rel
       let same : failing.rel ≡ rel = same_Some failing.rel rel (sym failing.top.is ∙ top.is) in
       let source : SourceMatches (Match program models) program models rel (free rel) b = subst (λ (r : Rel). SourceMatches (Match program models) program models r (free r) b) same failing.source in
       let alone : (g : Values) → ¬ TargetHolds (Holds program models) program models rel b g = subst (λ (r : Rel). (g : Values) → ¬ TargetHolds (Holds program models) program models r b g) same failing.alone in
-      let (f, has, more) = are.matched b source.source source.whens in
+      let (f, has, more) = are.all b source.source in
       (f, has, (seed_source program models rel f b more source.source, (source.whens, alone)))
 
   -- the least that is alone is the least that fails
@@ -177,10 +152,8 @@ module _ (program : Program) (models : List ModelData) (number : ℕ) (rel : Rel
   seen_from : (chain : List RelationCall) → TopChain program models topmost chain → FromAny chain
   seen_from chain h =
       let (b, source, by) = split program models [] rel topmost chain top.is ((top_chains program models topmost chain).0 h) in
-      elim by [
-        | inl asked ↦ (let (f, has, more) = are.asked b asked.0 chain source asked.1 asked.2 in (f, has, (b, seed_source program models rel f b more source, inl asked)))
-        | inr partner ↦ (let (f, has, more) = are.matched b source partner.0 in (f, has, (b, seed_source program models rel f b more source, inr partner)))
-      ]
+      let (f, has, more) = are.all b source in
+      (f, has, (b, seed_source program models rel f b more source, by))
 
   from_seen : (chain : List RelationCall) → FromAny chain → TopChain program models topmost chain
   from_seen chain (f, has, (b, source, by)) =

@@ -6,8 +6,8 @@ pub mod Outcomes
 pub mod Founds
 pub mod Visits
 pub mod CallOrder
+pub mod Calm
+pub mod Tables
 pub mod Memos
 pub mod Links
-pub mod Leaves
-pub mod Leads
 pub mod Seeds

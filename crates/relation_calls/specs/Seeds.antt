@@ -1,50 +1,50 @@
--- Values of some universal variables, a seed, with which a search for the bindings of a relation begins: those that a match of a called
--- relation gives the arguments of the call (QVT 1.3, section 7.10.2).
-use Rattle.std.specs.Prelude.{◌≡◌, ℕ, List, [], ◌∷◌, length, replicate, Option, None, Some, slice_set, Contains, MatchOption, if◌then◌else◌}
+-- Values of some universal variables, a seed, with which a search for the bindings of a relation begins: an object for the root of a domain
+-- of the source (QVT 1.3, section 7.10.1).
+use Rattle.std.specs.Prelude.{◌≡◌, ◌==◌, ℕ, Bool, true, false, not, List, [], ◌∷◌, length, Option, None, Some, Contains, MatchOption, if◌then◌else◌}
+use Rattle.std.specs.List.{list_any}
 use Rattle.std.specs.Ordering.{is_lt}
 use Rattle.object_tables.specs.Models.{ModelData}
 use Rattle.qv_syntax.specs.declared.program.Program.{Program}
 use Rattle.qv_syntax.specs.declared.program.Rel.{Rel}
 use Rattle.qv_syntax.specs.declared.program.Dom.{Dom}
+use Rattle.qv_syntax.specs.declared.program.Conj.{Conj}
+use Rattle.qv_syntax.specs.declared.program.Conj.TheVariants as conjuncts
 use Rattle.qvtr_semantics.specs.declared.datum.Datum.{Datum}
 use Rattle.qvtr_semantics.specs.declared.binding.Binding.{Binding}
 use Rattle.qvtr_semantics.specs.Templates.{Values, value_at}
-use Rattle.qvtr_semantics.specs.Bindings.{Source, Target, Extends}
-use Rattle.qvtr_semantics.specs.Calls.{RelationCall, AllAsked, Match, calls_of, free}
+use Rattle.qvtr_semantics.specs.Bindings.{Source, Extends}
+use Rattle.qvtr_semantics.specs.Calls.{RelationCall, free}
 use Rattle.qvtr_semantics.specs.Satisfaction.{IsLess}
 use Rattle.template_match.specs.Order.{binding_order}
 use Rattle.template_match.specs.Posed.{HasPrimitives}
 use Rattle.relation_calls.specs.declared.visit.Visit.{Visit}
 use Rattle.relation_calls.specs.declared.outcome.Outcome.TheVariants as outcomes
-use Rattle.relation_calls.specs.Seen.{Seen}
 use Rattle.relation_calls.specs.Outcomes.{IsOutcome}
 use Rattle.relation_calls.specs.Visits.{left_of, SeenBy}
 
--- ---- from matches
+-- ---- from the objects of a domain
 
--- for each variable of the called relation the variable that the call gives it as a root, as `with_roots` gives it values
-abbrev pub with_arguments : List (Option ℕ) → List Dom → List ℕ → List (Option ℕ)
-with_arguments places [] vs = places
-with_arguments places doms [] = places
-with_arguments places (dom ∷ doms) (v ∷ vs) = with_arguments (slice_set places dom.root (Some v)) doms vs
+abbrev pub is_without_model : Option ℕ → Bool
+is_without_model None = true
+is_without_model (Some model) = false
 
-abbrev pub arguments_of : Rel → List ℕ → List (Option ℕ)
-arguments_of called vs = with_arguments (replicate (length called.vars) None) called.domains vs
+-- a relation with a primitive domain can't be asked without a value for it
+abbrev pub has_primitive : Rel → Bool
+has_primitive rel = list_any (λ (dom : Dom). is_without_model dom.model) rel.domains
 
--- a variable gets a value, where there are both
-abbrev pub given : Values → Option ℕ → Option Datum → Values
-given values (Some v) (Some d) = slice_set values v (Some d)
-given values o x = values
+abbrev pub is_call : Conj → Bool
+is_call (conjuncts.Call number args) = true
+is_call c = false
 
--- the variables get the values that stand at their places
-abbrev pub seeded : Values → List (Option ℕ) → Values → Values
-seeded values [] xs = values
-seeded values (o ∷ os) [] = values
-seeded values (o ∷ os) (x ∷ xs) = seeded (given values o x) os xs
+-- the domain is one of another model than the target's
+abbrev pub is_of_source : Program → Option ℕ → Bool
+is_of_source program None = false
+is_of_source program (Some model) = not (model == program.target)
 
--- the partner of one of the bindings
-abbrev pub IsPartnerOf : Program → List ModelData → Rel → List Values → Values → Type 0
-IsPartnerOf program models rel bs g = (b : Values) × Contains bs b × Target program models rel b g
+-- the root of the first such domain
+abbrev pub first_root : Program → List Dom → Option ℕ
+first_root program [] = None
+first_root program (dom ∷ domains) = if is_of_source program dom.model then Some dom.root else first_root program domains
 
 -- ---- for a search
 
@@ -52,14 +52,11 @@ IsPartnerOf program models rel bs g = (b : Values) × Contains bs b × Target pr
 abbrev pub HasSeed : List Values → Values → Type 0
 HasSeed seeds b = (f : Values) × Contains seeds f × Extends f b
 
--- Seeds give values to universal variables alone. A binding that meets the source begins with one of them where its calls match, and where
--- a chain is come to by one of its calls.
+-- seeds give values to universal variables alone, and each binding that meets the source begins with one of them
 pub record AreSeeds (program : Program) (models : List ModelData) (rel : Rel) (seeds : List Values) : Type 0 where
   pub places : (f : Values) → Contains seeds f → length f ≡ length rel.vars
   pub universal : (f : Values) (v : ℕ) (d : Datum) → Contains seeds f → value_at f v ≡ Some d → Contains rel.universal v
-  pub matched : (b : Values) → Source program models rel (free rel) b → AllAsked (Match program models) (calls_of program models b rel.whens) → HasSeed seeds b
-  pub asked : (b : Values) (d : RelationCall) (chain : List RelationCall) → Source program models rel (free rel) b → Contains (calls_of program models b rel.whens) (Some d)
-      → Seen program models [] d chain → HasSeed seeds b
+  pub all : (b : Values) → Source program models rel (free rel) b → HasSeed seeds b
 
 -- a seed of a relation with which a search can begin
 pub record IsSeedOf (rel : Rel) (f : Values) : Type 0 where

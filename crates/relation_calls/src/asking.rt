@@ -20,6 +20,7 @@ use crate::call_key::{CallKey, key_of};
 use crate::chain::{calls_left, longer_chain};
 use crate::error::CallError;
 use crate::found::Found;
+use crate::joins::enough_bindings;
 use crate::making::calls_of;
 use crate::memo::{Answer, Memo};
 use crate::name::CallName;
@@ -30,7 +31,7 @@ use ocl_eval::Models;
 use qv_syntax::Program;
 use qvtr_semantics::Binding;
 use std::alloc::Global;
-use template_match::{bindings, plan_of, target_bindings};
+use template_match::{plan_of, target_bindings};
 
 // ---- calls in when clauses
 
@@ -188,7 +189,8 @@ fn called_anew(visit: &Visit<'_, '_>, memo: &mut Memo, name: &CallName) -> Resul
     Ok(!is_any_alone(found.outcomes.as_slice()))
 }
 
-/// The same. The answer is kept under the key of the call, with as many calls as may still be made within one another.
+/// The same. The answer is kept under the key of the call, with as many calls as may still be made within
+/// one another.
 #[cycle(asking)]
 fn called_kept(
     visit: &Visit<'_, '_>,
@@ -212,7 +214,8 @@ fn called_kept(
     Ok(holds)
 }
 
-/// Whether a relation holds that is called. An answer that is kept is taken where the chains that begin with the call have room.
+/// Whether a relation holds that is called. An answer that is kept is taken where the chains that begin with
+/// the call have room.
 #[cycle(asking)]
 fn called(visit: &Visit<'_, '_>, memo: &mut Memo, name: &CallName) -> Result<bool, CallError>
     requires visit { IsVisit visit.now }
@@ -379,8 +382,44 @@ pub(crate) fn outcomes_of(
     Ok(outcomes)
 }
 
-/// The bindings that meet the source of a relation with these roots, and what comes of them. `upto` is the chain that ends with this call,
-/// or empty.
+/// The bindings that meet the source of a relation with these roots, and what comes of them: but for some
+/// one of whose calls in the when clause doesn't match. `upto` is the chain that ends with this call, or
+/// empty.
+#[cycle(asking)]
+fn explore_within(
+    alloc: Global,
+    program: &Program,
+    models: &Models<'_>,
+    memo: &mut Memo,
+    upto: &[CallName],
+    name: &CallName,
+) -> Result<Found, CallError>
+    requires formed { IsFormed program.now }
+    requires askable { IsAskable program.now (call_named name.now) }
+    requires told { IsTold program.now models.now memo.old }
+    requires chain { IsChain (chain_named upto.now) }
+    requires linked { (d : RelationCall) → CallsWhere program.now models.now (call_named name.now) d → IsLinked program.now models.now (chain_named upto.now ++ d ∷ []) }
+    ensures value { IfOk result (λ found. (rel : Rel) → slice_get program.now.rels name.now.rel ≡ Some rel
+        → IsFound program.now models.now (MAX_CALLS - length (chain_named upto.now)) rel name.now.roots.values found) }
+    ensures clean { IfOk result (λ _. AreClean (Seen program.now models.now (chain_named upto.now) (call_named name.now))) }
+    ensures fault { IfErr result (IsFault (Seen program.now models.now (chain_named upto.now) (call_named name.now))) }
+    ensures told { IsTold program.now models.now memo.new }
+{
+    let plan = plan_of(alloc, program, name.rel)?;
+    let visit = Visit {
+        alloc,
+        program,
+        models,
+        rel: &program.rels.as_slice()[name.rel as usize],
+        plan: &plan,
+        upto,
+    };
+    let bindings = enough_bindings(&visit, memo, &name.roots)?;
+    let outcomes = outcomes_of(&visit, memo, bindings.as_slice())?;
+    Ok(Found { bindings, outcomes })
+}
+
+/// The same, as one of the visits within one another.
 #[cycle(asking)]
 pub(crate) fn explore(
     alloc: Global,
@@ -401,16 +440,8 @@ pub(crate) fn explore(
     ensures fault { IfErr result (IsFault (Seen program.now models.now (chain_named upto.now) (call_named name.now))) }
     ensures told { IsTold program.now models.now memo.new }
 {
-    let plan = plan_of(alloc, program, name.rel)?;
-    let bindings = bindings(alloc, program, &plan, models, &name.roots)?;
-    let visit = Visit {
-        alloc,
-        program,
-        models,
-        rel: &program.rels.as_slice()[name.rel as usize],
-        plan: &plan,
-        upto,
-    };
-    let outcomes = outcomes_of(&visit, memo, bindings.as_slice())?;
-    Ok(Found { bindings, outcomes })
+    memo.enter()?;
+    let found = explore_within(alloc, program, models, memo, upto, name);
+    memo.leave();
+    found
 }

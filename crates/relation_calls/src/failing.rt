@@ -14,12 +14,13 @@ ghost use Rattle.relation_calls.specs.Seeds.{IsSeedOf, IsAloneFrom, IsAloneFromA
 
 use crate::asking::outcomes_of;
 use crate::error::CallError;
+use crate::joins::enough_bindings;
 use crate::memo::Memo;
 use crate::outcome::first_alone;
 use crate::seeds::seeds_for;
 use crate::visit::Visit;
 use qvtr_semantics::Binding;
-use template_match::{binding_order, bindings};
+use template_match::binding_order;
 
 /// The least binding without a partner of those that begin with a seed, meet the source and whose calls
 /// match.
@@ -37,7 +38,7 @@ fn first_from(
     ensures fault { IfErr result (IsFault (SeenFrom visit.now seed.now.values)) }
     ensures told { IsTold visit.now.program.now visit.now.models.now memo.new }
 {
-    let bs = bindings(visit.alloc, visit.program, visit.plan, visit.models, seed)?;
+    let bs = enough_bindings(visit, memo, seed)?;
     let outcomes = outcomes_of(visit, memo, bs.as_slice())?;
     Ok(first_alone(visit.alloc, bs.as_slice(), outcomes.as_slice())?)
 }
@@ -98,6 +99,6 @@ pub(crate) fn least_failing(
     ensures fault { IfErr result (IsFault (TopChain visit.now.program.now visit.now.models.now (record { rel = visit.now.plan.now.rel; roots = free visit.now.rel.now }))) }
     ensures told { IsTold visit.now.program.now visit.now.models.now memo.new }
 {
-    let seeds = seeds_for(visit, memo)?;
+    let seeds = seeds_for(visit)?;
     least_from(visit, memo, seeds.as_slice())
 }

@@ -1,23 +1,30 @@
-//! Calls between relations (QVT 1.3, sections 7.3 and 7.10.2): a call in a when clause asks for a match, one in a where clause that the
-//! called relation holds for its roots. Every call that a binding makes is asked, also where the answer is clear without it, so that a
-//! chain of calls that comes back to one of its calls, or has more than `MAX_CALLS`, is refused whatever the answer would be. Answers are
-//! kept in a `Memo`: a match is looked for once, and whether a call in a where clause holds at most once for each length of a chain that
-//! ends with it, so the time doesn't grow with the number of paths of calls.
-//! A top relation whose when clause calls only relations that call none begins with the matches of one of
-//! them: the bindings of one match are held at a time, and the values of other variables are looked for alone.
+//! Calls between relations (QVT 1.3, sections 7.3 and 7.10.2): a call in a when clause asks for a match, one
+//! in a where clause that the called relation holds for its roots. Every call that a binding makes is asked,
+//! also where the answer is clear without it, so that a chain of calls that comes back to one of its calls,
+//! or has more than `MAX_CALLS`, is refused whatever the answer would be. Answers are kept in a `Memo`: a
+//! match is looked for once, and whether a call in a where clause holds at most once for each length of a
+//! chain that ends with it, so the time doesn't grow with the number of paths of calls. The bindings of a
+//! relation are joined with the matches of the relations that its when clause calls, where all of these are
+//! calm: by their calls no chain that is refused is come to, so a binding that stands in no match needn't be
+//! looked at. The data at the roots of the matches of a calm relation are kept as a table, which is given up
+//! beyond four rows an object. A top relation whose when clause calls others is looked at for one object of
+//! its source after another: what is found for one is let go before the next. A visit within a visit takes
+//! the stack, so at most `MAX_NESTED` stand within one another; one more is answered as want of memory.
 #![tactic(auto)]
 
 mod asking;
 mod call_key;
 mod calls;
+mod calm;
 mod chain;
 mod copying;
 mod error;
 mod failing;
 mod found;
+mod joins;
 mod laws;
-mod leading;
 mod making;
+mod matches;
 mod memo;
 mod name;
 mod outcome;

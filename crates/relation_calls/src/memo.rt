@@ -1,19 +1,19 @@
-ghost use Rattle.std.specs.Prelude.{◌≡◌, ◌≤◌, ◌<◌, ℕ, List, None, Some, Bool, IfSome, OnOk, OnErr, slice_get};
-ghost use Rattle.std.specs.Option.{option_copied};
+ghost use Rattle.std.specs.Prelude.{◌≡◌, ◌≤◌, ◌<◌, ℕ, List, None, Some, IfSome, OnOk, OnErr};
 ghost use Rattle.std.specs.Ordering.{nat_cmp};
 ghost use Rattle.std.specs.BTreeMap.{get, IsUnchanged, Updates};
 ghost use Rattle.object_tables.specs.Models.{ModelData};
 ghost use Rattle.qv_syntax.specs.declared.program.Program.{Program};
 ghost use Rattle.relation_calls.specs.declared.memo.Answer.{Answer};
 ghost use Rattle.relation_calls.specs.CallOrder.{call_order};
-ghost use Rattle.relation_calls.specs.Leaves.{is_leaf_there};
-ghost use Rattle.relation_calls.specs.Memos.{IsMatching, IsHolding, AreListed, IsTold};
+ghost use Rattle.relation_calls.specs.Calm.{IsHeightOf};
+ghost use Rattle.relation_calls.specs.Tables.{IsTable};
+ghost use Rattle.relation_calls.specs.Memos.{IsMatching, IsHolding, IsTold};
 
 use crate::call_key::CallKey;
-use mof_metamodel::{NoMemory, Seq};
-use qvtr_semantics::Binding;
+use mof_metamodel::NoMemory;
 use std::alloc::Global;
 use std::collections::BTreeMap;
+use template_match::MatchTable;
 
 /// Whether a call holds, and how many calls a chain has at most that begins with it.
 #[derive(Drop)]
@@ -22,15 +22,23 @@ pub(crate) struct Answer {
     pub(crate) height: usize,
 }
 
+/// The greatest number of visits to relations within one another. Each takes not quite 2 KB of the stack,
+/// which is memory of 8 MB that other searches share: one visit more is answered as want of it.
+const MAX_NESTED: u32 = 1024;
+
 /// Answers to calls of one program over one state of its models: whether a call that was asked for a match
-/// matches, and whether one in a where clause holds. It also keeps whether a relation calls none, and all
-/// matches of some that do so. A look-up takes the logarithm of their number.
+/// matches, and whether one in a where clause holds. It also keeps which relations are calm, and tables of
+/// the matches of some. A look-up takes the logarithm of their number.
 #[derive(Drop)]
 pub struct Memo {
     matching: BTreeMap<CallKey, bool>,
     holding: BTreeMap<CallKey, Answer>,
-    leaves: BTreeMap<u32, bool>,
-    listed: BTreeMap<u32, Seq<Binding>>,
+    /// Of a relation a number of calls that its chains don't exceed, none where none is known.
+    heights: BTreeMap<u32, Option<usize>>,
+    /// Of a relation the table of its matches, none where it was given up.
+    tables: BTreeMap<u32, Option<MatchTable>>,
+    /// How many visits are under way.
+    nested: u32,
 }
 
 impl Memo {
@@ -41,8 +49,9 @@ impl Memo {
         Memo {
             matching: BTreeMap::new(alloc),
             holding: BTreeMap::new(alloc),
-            leaves: BTreeMap::new(alloc),
-            listed: BTreeMap::new(alloc),
+            heights: BTreeMap::new(alloc),
+            tables: BTreeMap::new(alloc),
+            nested: 0,
         }
     }
 
@@ -66,7 +75,8 @@ impl Memo {
         Ok(())
     }
 
-    /// Whether the call holds, if an answer is kept by which no chain that begins with the call has more than `left` calls.
+    /// Whether the call holds, if an answer is kept by which no chain that begins with the call has more
+    /// than `left` calls.
     pub(crate) fn kept_hold(&self, call: &CallKey, left: usize) -> Option<bool>
         ensures kept { IfSome result (λ holds. (height : ℕ) × (height ≤ left) × (get call_order self.now.holding call.now ≡ Some (record { holds = holds; height = height }))) }
         ensures none { result ≡ None → (answer : Answer) → get call_order self.now.holding call.now ≡ Some answer → left < answer.height }
@@ -91,40 +101,67 @@ impl Memo {
         Ok(())
     }
 
-    /// Whether the relation of the number calls none, if that is kept.
-    pub(crate) fn kept_leaf(&self, number: u32) -> Option<bool>
-        ensures { result ≡ get nat_cmp self.now.leaves number }
+    /// A number of calls that the chains of the relation don't exceed, or that none is known, if that is
+    /// kept.
+    pub(crate) fn kept_height(&self, number: u32) -> Option<Option<usize>>
+        ensures { result ≡ get nat_cmp self.now.heights number }
     {
-        match self.leaves.get(&number) {
-            Some(one) => Some(*one),
+        match self.heights.get(&number) {
+            Some(height) => Some(*height),
             None => None,
         }
     }
 
-    /// Keeps whether the relation of the number calls none.
-    pub(crate) fn keep_leaf(&mut self, number: u32, one: bool) -> Result<(), NoMemory>
-        ensures kept { OnOk result (Updates nat_cmp self.old.leaves self.new.leaves number (Some one)) }
-        ensures unchanged { OnErr result (IsUnchanged self.old.leaves self.new.leaves) }
-        ensures told { (program : Program) (models : List ModelData) → IsTold program models self.old → one ≡ is_leaf_there (slice_get program.rels number) → IsTold program models self.new }
+    /// Keeps a number of calls that the chains of the relation don't exceed, or that none is known.
+    pub(crate) fn keep_height(&mut self, number: u32, height: Option<usize>) -> Result<(), NoMemory>
+        ensures told { (program : Program) (models : List ModelData) → IsTold program models self.old → IsHeightOf program number height → IsTold program models self.new }
     {
-        self.leaves.insert(number, one)?;
+        self.heights.insert(number, height)?;
         Ok(())
     }
 
-    /// The matches of the relation of the number, if they are kept.
-    pub(crate) fn kept_matches(&self, number: u32) -> Option<&Seq<Binding>>
-        ensures { option_copied result ≡ get nat_cmp self.now.listed number }
-    {
-        self.listed.get(&number)
+    /// Whether a table of the relation's matches was made or given up.
+    pub(crate) fn has_table(&self, number: u32) -> bool {
+        self.tables.contains_key(&number)
     }
 
-    /// Keeps the matches of the relation of the number.
-    pub(crate) fn keep_matches(&mut self, number: u32, gs: Seq<Binding>) -> Result<(), NoMemory>
-        ensures kept { OnOk result (Updates nat_cmp self.old.listed self.new.listed number (Some gs)) }
-        ensures unchanged { OnErr result (IsUnchanged self.old.listed self.new.listed) }
-        ensures told { (program : Program) (models : List ModelData) → IsTold program models self.old → AreListed program models number gs → IsTold program models self.new }
+    /// The table of the relation's matches, if one is kept.
+    pub(crate) fn table(&self, number: u32) -> Option<&MatchTable>
+        ensures { IfSome result (λ table. get nat_cmp self.now.tables number ≡ Some (Some table.now)) }
     {
-        self.listed.insert(number, gs)?;
+        match self.tables.get(&number) {
+            Some(table) => table.as_ref(),
+            None => None,
+        }
+    }
+
+    /// Keeps the table of the relation's matches, or that it was given up.
+    pub(crate) fn keep_table(
+        &mut self,
+        number: u32,
+        table: Option<MatchTable>,
+    ) -> Result<(), NoMemory>
+        ensures told { (program : Program) (models : List ModelData) → IsTold program models self.old → IsTable program models number table → IsTold program models self.new }
+    {
+        self.tables.insert(number, table)?;
         Ok(())
+    }
+
+    /// Begins a visit within those that are under way.
+    pub(crate) fn enter(&mut self) -> Result<(), NoMemory>
+        ensures told { (program : Program) (models : List ModelData) → IsTold program models self.old → IsTold program models self.new }
+    {
+        if self.nested >= MAX_NESTED {
+            return Err(NoMemory);
+        }
+        self.nested += 1;
+        Ok(())
+    }
+
+    /// Ends the visit that was begun last.
+    pub(crate) fn leave(&mut self)
+        ensures told { (program : Program) (models : List ModelData) → IsTold program models self.old → IsTold program models self.new }
+    {
+        self.nested = self.nested.saturating_sub(1);
     }
 }

@@ -31,7 +31,9 @@ use Rattle.relation_calls.proofs.OutsideLaws.{match_chains_clean, match_chains_f
 use Rattle.relation_calls.proofs.RefusalLaws.{no_chain, length_more}
 use Rattle.relation_calls.proofs.VisitLaws.{source_binding}
 use Rattle.relation_calls.proofs.HeldLaws.{linked_first, linked_behind, all_linked, kept_holding, taken_value, taken_clean}
-use Rattle.relation_calls.proofs.AskingLaws.{planned_at, clean_call, fault_call, refused_fault, called_clean, called_fault, called_value, match_value, partner_value, partner_seen, unmatched_clean, matched_clean, visited, all_sources, found_all}
+use Rattle.relation_calls.proofs.AskingLaws.{planned_at, clean_call, fault_call, refused_fault, called_clean, called_fault, called_value, match_value, partner_value, partner_seen, unmatched_clean, matched_clean, visited, found_all}
+use Rattle.relation_calls.proofs.JoinLaws.{enough_in}
+use Rattle.template_match.specs.Posed.{HasPrimitives}
 use Rattle.relation_calls.proofs.asking.+asking.Goals as goal
 
 pub all_match-loop-call-init : goal.all_match-loop-call-init
@@ -210,16 +212,8 @@ is_partner-all_hold-requires t c =
 
 -- ---- a visit
 
-pub explore-plan_of-requires : goal.explore-plan_of-requires
-explore-plan_of-requires t c = slice_get_within c.args.program.now.rels c.args.name.now.rel c.requires.askable.rel c.requires.askable.found
-
-pub explore-bindings-requires-clause-meant : goal.explore-bindings-requires-clause-meant
-explore-bindings-requires-clause-meant t c = c.requires.formed.1.relations
-
-pub explore-bindings-requires-clause-planned : goal.explore-bindings-requires-clause-planned
-explore-bindings-requires-clause-planned t c =
-    let a = c.requires.askable in
-    (a.rel, planned_at c.args.program.now c.args.name.now.rel a.rel c.in_ok-plan.plan c.in_ok-plan.ensures a.found, a.places, a.primitives)
+pub explore_within-plan_of-requires : goal.explore_within-plan_of-requires
+explore_within-plan_of-requires t c = slice_get_within c.args.program.now.rels c.args.name.now.rel c.requires.askable.rel c.requires.askable.found
 
 pub has_partner-target_bindings-requires-clause-meant : goal.has_partner-target_bindings-requires-clause-meant
 has_partner-target_bindings-requires-clause-meant t c = c.requires.visit.formed.1.relations
@@ -589,64 +583,76 @@ outcomes_of-loop-b-preserved t c =
 
 -- ---- a visit of a relation
 
-pub explore-bounds-as_slice-name : goal.explore-bounds-as_slice-name
-explore-bounds-as_slice-name t c =
+pub explore_within-bounds-as_slice-name : goal.explore_within-bounds-as_slice-name
+explore_within-bounds-as_slice-name t c =
     let a = c.requires.askable in
     subst (λ (rs : List Rel). c.args.name.now.rel < length rs) (sym c.as_slice.ensures) (slice_get_within c.args.program.now.rels c.args.name.now.rel a.rel a.found)
 
-pub explore-outcomes_of-requires : goal.explore-outcomes_of-requires
-explore-outcomes_of-requires t c =
+pub explore_within-enough_bindings-requires : goal.explore_within-enough_bindings-requires
+explore_within-enough_bindings-requires t c =
+    let a = c.requires.askable in
+    let rel = c.index-as_slice-name.result in
+    let is = visited c.args.program.now c.args.name.now.rel a.rel rel c.as_slice.result.now c.as_slice.ensures a.found c.index-as_slice-name.is in
+    let same : a.rel ≡ rel = same_Some a.rel rel (sym a.found ∙ is) in
+    record {
+      visit = record { formed = c.requires.formed; planned = planned_at c.args.program.now c.args.name.now.rel rel c.in_ok-plan.plan c.in_ok-plan.ensures is; chain = c.requires.chain };
+      told = c.requires.told;
+      places = subst (λ (r : Rel). length c.args.name.now.roots.values ≡ length r.vars) same a.places;
+      primitives = subst (λ (r : Rel). HasPrimitives r c.args.name.now.roots.values) same a.primitives;
+    }
+
+pub explore_within-outcomes_of-requires : goal.explore_within-outcomes_of-requires
+explore_within-outcomes_of-requires t c =
     let a = c.requires.askable in
     let rel = c.index-as_slice-name.result in
     let is = visited c.args.program.now c.args.name.now.rel a.rel rel c.as_slice.result.now c.as_slice.ensures a.found c.index-as_slice-name.is in
     let planned = planned_at c.args.program.now c.args.name.now.rel rel c.in_ok-plan.plan c.in_ok-plan.ensures is in
-    let level = ap stratum_in is in (
+    let level = ap stratum_in is in
+    let enough = enough_in c.args.program.now c.args.models.now rel c.args.name.now.roots.values (values_of c.in_ok-bindings.bindings) (values_of c.as_slice-2.result.now)
+    (ap values_of c.as_slice-2.ensures) c.in_ok-bindings.ensures.enough in (
       omega (arith, c.decreases, level),
       (
         record { formed = c.requires.formed; planned = planned; chain = c.requires.chain },
         (
-          c.requires.told,
+          c.in_ok-bindings.ensures.told,
           (
-            λ b has. source_binding c.args.program.now c.args.models.now rel c.args.name.now.roots.values b
-                ((c.in_ok-bindings.ensures.exact rel planned b).0 (subst (λ (bs : List Binding). Contains (values_of bs) b) c.as_slice-2.ensures has)),
-            all_linked c.args.program.now c.args.models.now (chain_named c.args.upto.now) rel (call_named c.args.name.now) (values_of c.as_slice-2.result.now) is
-                (all_sources c.args.program.now c.args.models.now rel c.args.name.now.roots.values c.in_ok-bindings.bindings c.as_slice-2.result.now c.as_slice-2.ensures (c.in_ok-bindings.ensures.exact rel planned))
+            λ b has. source_binding c.args.program.now c.args.models.now rel c.args.name.now.roots.values b (enough.only b has),
+            all_linked c.args.program.now c.args.models.now (chain_named c.args.upto.now) rel (call_named c.args.name.now) (values_of c.as_slice-2.result.now) is enough.only
                 c.requires.linked,
           ),
         ),
       ),
     )
 
-pub explore-returns-in_err-outcomes-clause-fault : goal.explore-returns-in_err-outcomes-clause-fault
-explore-returns-in_err-outcomes-clause-fault t c =
+pub explore_within-returns-in_err-outcomes-clause-fault : goal.explore_within-returns-in_err-outcomes-clause-fault
+explore_within-returns-in_err-outcomes-clause-fault t c =
     let a = c.requires.askable in
     let rel = c.index-as_slice-name.result in
     let is = visited c.args.program.now c.args.name.now.rel a.rel rel c.as_slice.result.now c.as_slice.ensures a.found c.index-as_slice-name.is in
-    let planned = planned_at c.args.program.now c.args.name.now.rel rel c.in_ok-plan.plan c.in_ok-plan.ensures is in
-    let exact = all_sources c.args.program.now c.args.models.now rel c.args.name.now.roots.values c.in_ok-bindings.bindings c.as_slice-2.result.now c.as_slice-2.ensures (c.in_ok-bindings.ensures.exact rel planned) in
+    let enough = enough_in c.args.program.now c.args.models.now rel c.args.name.now.roots.values (values_of c.in_ok-bindings.bindings) (values_of c.as_slice-2.result.now)
+    (ap values_of c.as_slice-2.ensures) c.in_ok-bindings.ensures.enough in
     let e = c.in_err-outcomes.field-0.0 in
     let p = err_from_is_err_and c.from_residual-in_err-outcomes.result c.from_residual-in_err-outcomes.ensures.1 in
     ends_with (IsFault (Seen c.args.program.now c.args.models.now (chain_named c.args.upto.now) (call_named c.args.name.now))) c.from_residual-in_err-outcomes.result e p.0 p.1 (cc p.2)
-    (fault_call c.args.program.now c.args.models.now (chain_named c.args.upto.now) rel (call_named c.args.name.now) (values_of c.as_slice-2.result.now) is exact e c.in_err-outcomes.ensures.fault)
+    (fault_call c.args.program.now c.args.models.now (chain_named c.args.upto.now) rel (call_named c.args.name.now) (values_of c.as_slice-2.result.now) is enough e c.in_err-outcomes.ensures.fault)
 
-pub explore-returns-clause-clean : goal.explore-returns-clause-clean
-explore-returns-clause-clean t c =
+pub explore_within-returns-clause-clean : goal.explore_within-returns-clause-clean
+explore_within-returns-clause-clean t c =
     let a = c.requires.askable in
     let rel = c.index-as_slice-name.result in
     let is = visited c.args.program.now c.args.name.now.rel a.rel rel c.as_slice.result.now c.as_slice.ensures a.found c.index-as_slice-name.is in
-    let planned = planned_at c.args.program.now c.args.name.now.rel rel c.in_ok-plan.plan c.in_ok-plan.ensures is in
-    let exact = all_sources c.args.program.now c.args.models.now rel c.args.name.now.roots.values c.in_ok-bindings.bindings c.as_slice-2.result.now c.as_slice-2.ensures (c.in_ok-bindings.ensures.exact rel planned) in
-    clean_call c.args.program.now c.args.models.now (chain_named c.args.upto.now) rel (call_named c.args.name.now) (values_of c.as_slice-2.result.now) is exact c.in_ok-outcomes.ensures.clean
+    let enough = enough_in c.args.program.now c.args.models.now rel c.args.name.now.roots.values (values_of c.in_ok-bindings.bindings) (values_of c.as_slice-2.result.now)
+    (ap values_of c.as_slice-2.ensures) c.in_ok-bindings.ensures.enough in
+    clean_call c.args.program.now c.args.models.now (chain_named c.args.upto.now) rel (call_named c.args.name.now) (values_of c.as_slice-2.result.now) is enough c.in_ok-outcomes.ensures.clean
 
-pub explore-returns-clause-value : goal.explore-returns-clause-value
-explore-returns-clause-value t c =
+pub explore_within-returns-clause-value : goal.explore_within-returns-clause-value
+explore_within-returns-clause-value t c =
     let a = c.requires.askable in
     let rel = c.index-as_slice-name.result in
     let is = visited c.args.program.now c.args.name.now.rel a.rel rel c.as_slice.result.now c.as_slice.ensures a.found c.index-as_slice-name.is in
     λ r there.
-    let planned = planned_at c.args.program.now c.args.name.now.rel r c.in_ok-plan.plan c.in_ok-plan.ensures there in
     found_all c.args.program.now c.args.models.now (MAX_CALLS - length (chain_named c.args.upto.now)) rel r (same_Some rel r (sym is ∙ there)) c.args.name.now.roots.values c.in_ok-bindings.bindings
-    c.as_slice-2.result.now c.as_slice-2.ensures c.in_ok-outcomes.outcomes (c.in_ok-bindings.ensures.exact r planned) (c.in_ok-bindings.ensures.sorted r planned) c.in_ok-outcomes.ensures.value
+    c.as_slice-2.result.now c.as_slice-2.ensures c.in_ok-outcomes.outcomes c.in_ok-bindings.ensures.enough c.in_ok-bindings.ensures.sorted c.in_ok-outcomes.ensures.value
 
 -- ---- partners are made by the last call of the chain
 

@@ -61,8 +61,11 @@ decreases-outcome_of l = 4000 * l.visit.now.rel.now.stratum + 20 * (129 - length
 abbrev pub decreases-outcomes_of : goal.decreases-outcomes_of
 decreases-outcomes_of l = 4000 * l.visit.now.rel.now.stratum + 20 * (129 - length l.visit.now.upto.now) + 10
 
+abbrev pub decreases-explore_within : goal.decreases-explore_within
+decreases-explore_within l = 4000 * stratum_of l.program.now l.name.now.rel + 20 * (129 - length l.upto.now) + 11
+
 abbrev pub decreases-explore : goal.decreases-explore
-decreases-explore l = 4000 * stratum_of l.program.now l.name.now.rel + 20 * (129 - length l.upto.now) + 11
+decreases-explore l = 4000 * stratum_of l.program.now l.name.now.rel + 20 * (129 - length l.upto.now) + 12
 
 -- ---- loops: of the parts so far
 

@@ -6,16 +6,10 @@ use Rattle.relation_calls.proofs.HeldLaws.{linked_first}
 use Rattle.relation_calls.proofs.TopLaws.{found_least, found_sources, found_clean, found_fault}
 use Rattle.relation_calls.proofs.failing.first_from.Goals as goal
 
-pub bindings-requires-clause-meant : goal.bindings-requires-clause-meant
-bindings-requires-clause-meant c = c.requires.visit.formed.1.relations
-
-pub bindings-requires-clause-planned : goal.bindings-requires-clause-planned
-bindings-requires-clause-planned c = (c.args.visit.now.rel.now, c.requires.visit.planned, c.requires.seed.places, c.requires.seed.primitives)
-
 pub outcomes_of-requires-clause-sources : goal.outcomes_of-requires-clause-sources
 outcomes_of-requires-clause-sources c =
     let v = c.args.visit.now in
-    found_sources v c.args.seed.now.values c.in_ok-bs.bs c.as_slice.result.now c.as_slice.ensures (c.in_ok-bs.ensures.exact v.rel.now c.requires.visit.planned)
+    found_sources v c.args.seed.now.values c.in_ok-bs.bs c.as_slice.result.now c.as_slice.ensures c.in_ok-bs.ensures.enough
 
 pub outcomes_of-requires-clause-linked : goal.outcomes_of-requires-clause-linked
 outcomes_of-requires-clause-linked c = λ b has all g target d calls.
@@ -27,16 +21,16 @@ returns-in_err-outcomes-clause-fault c =
     let e = c.in_err-outcomes.field-0.0 in
     let p = err_from_is_err_and c.from_residual-in_err-outcomes.result c.from_residual-in_err-outcomes.ensures.1 in
     ends_with (IsFault (SeenFrom v c.args.seed.now.values)) c.from_residual-in_err-outcomes.result e p.0 p.1 (cc p.2)
-    (found_fault v c.args.seed.now.values c.in_ok-bs.bs c.as_slice.result.now c.as_slice.ensures (c.in_ok-bs.ensures.exact v.rel.now c.requires.visit.planned) e c.in_err-outcomes.ensures.fault)
+    (found_fault v c.args.seed.now.values c.in_ok-bs.bs c.as_slice.result.now c.as_slice.ensures c.in_ok-bs.ensures.enough e c.in_err-outcomes.ensures.fault)
 
 pub returns-clause-value : goal.returns-clause-value
 returns-clause-value c =
     let v = c.args.visit.now in
-    found_least v c.args.seed.now.values c.in_ok-bs.bs c.as_slice.result.now c.as_slice.ensures (c.in_ok-bs.ensures.exact v.rel.now c.requires.visit.planned)
-    (c.in_ok-bs.ensures.sorted v.rel.now c.requires.visit.planned) c.in_ok-outcomes.outcomes c.as_slice-3.result.now c.in_ok-outcomes.ensures.value
+    found_least v c.args.seed.now.values c.in_ok-bs.bs c.as_slice.result.now c.as_slice.ensures c.in_ok-bs.ensures.enough
+    c.in_ok-bs.ensures.sorted c.in_ok-outcomes.outcomes c.as_slice-3.result.now c.in_ok-outcomes.ensures.value
     c.as_slice-2.result.now c.as_slice-2.ensures c.as_slice-3.ensures c.in_ok-first_alone.field-0 c.in_ok-first_alone.ensures
 
 pub returns-clause-clean : goal.returns-clause-clean
 returns-clause-clean c =
     let v = c.args.visit.now in
-    found_clean v c.args.seed.now.values c.in_ok-bs.bs c.as_slice.result.now c.as_slice.ensures (c.in_ok-bs.ensures.exact v.rel.now c.requires.visit.planned) c.in_ok-outcomes.ensures.clean
+    found_clean v c.args.seed.now.values c.in_ok-bs.bs c.as_slice.result.now c.as_slice.ensures c.in_ok-bs.ensures.enough c.in_ok-outcomes.ensures.clean

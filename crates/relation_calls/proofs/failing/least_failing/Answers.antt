@@ -20,13 +20,13 @@ use Rattle.relation_calls.proofs.failing.least_failing.Goals as goal
 pub least_from-requires-clause-seeds : goal.least_from-requires-clause-seeds
 least_from-requires-clause-seeds c =
     let v = c.args.visit.now in
-    let are = subst (λ (bs : List Binding). AreSeeds v.program.now v.models.now v.rel.now (values_of bs)) (sym c.as_slice.ensures) c.in_ok-seeds.ensures.value in
+    let are = subst (λ (bs : List Binding). AreSeeds v.program.now v.models.now v.rel.now (values_of bs)) (sym c.as_slice.ensures) c.in_ok-seeds.ensures in
     top_seeds v.program.now v.models.now v.plan.now.rel v.rel.now c.requires.top (values_of c.as_slice.result.now) are
 
 pub returns-clause-value : goal.returns-clause-value
 returns-clause-value c =
     let v = c.args.visit.now in
-    let are = subst (λ (bs : List Binding). AreSeeds v.program.now v.models.now v.rel.now (values_of bs)) (sym c.as_slice.ensures) c.in_ok-seeds.ensures.value in
+    let are = subst (λ (bs : List Binding). AreSeeds v.program.now v.models.now v.rel.now (values_of bs)) (sym c.as_slice.ensures) c.in_ok-seeds.ensures in
     let all : left_of v ≡ MAX_CALLS = ap (λ (ns : List CallName). MAX_CALLS - length (chain_named ns)) c.requires.first in
     IfOk-weaker c.least_from.result (IsLeastFound v.rel.now.universal (IsAloneFromAny v (values_of c.as_slice.result.now)))
     (λ found. MatchOption found ((b : Values) → ¬ Failing v.program.now v.models.now v.plan.now.rel b) (λ b. IsLeastOf v.program.now v.models.now v.plan.now.rel b.values))
@@ -35,7 +35,7 @@ returns-clause-value c =
 pub returns-clause-clean : goal.returns-clause-clean
 returns-clause-clean c =
     let v = c.args.visit.now in
-    let are = subst (λ (bs : List Binding). AreSeeds v.program.now v.models.now v.rel.now (values_of bs)) (sym c.as_slice.ensures) c.in_ok-seeds.ensures.value in
+    let are = subst (λ (bs : List Binding). AreSeeds v.program.now v.models.now v.rel.now (values_of bs)) (sym c.as_slice.ensures) c.in_ok-seeds.ensures in
     let none : upto_of v ≡ [] = ap chain_named c.requires.first in
     IfOk-weaker c.least_from.result (λ o. AreClean (SeenFromAny v (values_of c.as_slice.result.now)))
     (λ o. AreClean (TopChain v.program.now v.models.now (record { rel = v.plan.now.rel; roots = free v.rel.now })))
@@ -44,7 +44,7 @@ returns-clause-clean c =
 pub returns-clause-fault : goal.returns-clause-fault
 returns-clause-fault c =
     let v = c.args.visit.now in
-    let are = subst (λ (bs : List Binding). AreSeeds v.program.now v.models.now v.rel.now (values_of bs)) (sym c.as_slice.ensures) c.in_ok-seeds.ensures.value in
+    let are = subst (λ (bs : List Binding). AreSeeds v.program.now v.models.now v.rel.now (values_of bs)) (sym c.as_slice.ensures) c.in_ok-seeds.ensures in
     let none : upto_of v ≡ [] = ap chain_named c.requires.first in
     IfErr-weaker c.least_from.result (IsFault (SeenFromAny v (values_of c.as_slice.result.now)))
     (IsFault (TopChain v.program.now v.models.now (record { rel = v.plan.now.rel; roots = free v.rel.now })))

@@ -1,8 +1,0 @@
-use Rattle.std.proofs.Common.{◌≡◌, drop}
-use Rattle.std.specs.List.{list_any}
-use Rattle.qv_syntax.specs.declared.program.Dom.{Dom}
-use Rattle.relation_calls.specs.Leads.{is_without_model}
-use Rattle.relation_calls.proofs.leading.has_primitive.Given as goal
-
-abbrev pub invariant-loop-dom : goal.invariant-loop-dom
-invariant-loop-dom l = list_any (λ (dom : Dom). is_without_model dom.model) (drop l.dom-index l.rel.domains) ≡ list_any (λ (dom : Dom). is_without_model dom.model) l.rel.domains
