@@ -11,7 +11,7 @@ What a document says is found by its marks:
   example's own README in a copy of its folder), with the program in reach as `qvtr`.
 - A block ```sh needs the toolchain and isn't run.
 - A block behind `<!-- file PATH -->` is that file, or lines of it that follow each other.
-- A table behind `<!-- values -->` has expressions with their values. Each is a case of crates/evaluation_cases, and
+- A table behind `<!-- values -->` has expressions with their values. Each is a case of crates/expression_cases, and
   is asked of the program.
 - A table behind `<!-- refused KIND -->` has texts that are refused, with what is printed: the inside of a
   transformation (KIND `script`), a whole script (`text`), a model (`model`), or what stands in a metamodel
@@ -233,12 +233,12 @@ def rows_behind(mark, text):
 
 
 def check_values(faults, path, text, program):
-    cases = set(read('crates/evaluation_cases/stdout').split('\n'))
+    cases = set(read('crates/expression_cases/stdout').split('\n'))
     for expression, value, *_ in rows_behind('values', text):
         where = f'{path}: {expression}'
         faults.done += 1
         if f'value {expression} => {value}' not in cases:
-            faults.say(where, 'is no case of crates/evaluation_cases with this value')
+            faults.say(where, 'is no case of crates/expression_cases with this value')
         if program:
             faults.compare(where, 'yes\n', answer(program, value_script(expression, value)))
 

@@ -337,7 +337,7 @@ How to read it:
 2. `CheckAnswer` and `ConvertAnswer`: the steps of a check and of a conversion, one definition a step.
 3. What a check means, in `qvtr_semantics`: `Satisfaction`, `Calls`, `Bindings`, `Templates`, and then
    `Expressions`.
-4. Which files are models: `Markup` (`xmi_text`), `Content` and `FirstFault` (`xmi_profile`), `Files`
+4. Which files are models: `Markup` (`xmi_text`), `Content` and `FirstFault` (`model_assembly`), `Files`
    (`model_files`).
 5. Which texts are scripts: `Tokens` (`ql_lex`), `Grammar` (`ocl_parser` and `qvtr_parser`), `Resolutions` and
    `Faults` (`script_scopes`), `HasType` (`ocl_types`).

@@ -7,8 +7,8 @@ use std::alloc::Global;
 /// The greatest number of objects of which what takes the square of their number is looked at.
 pub(crate) const FEW: u32 = 1_000;
 
-/// Prints the first breach of a model, as `Lower c.name` or `ContainmentCycle c`, or `valid`. In a small model both calls that
-/// find it are compared.
+/// Prints the first breach of a model, as `Lower c.name` or `ContainmentCycle c`, or `valid`. In a small
+/// model both calls that find it are compared.
 pub(crate) fn print_first_breach(
     alloc: Global,
     pen: &mut Pen,

@@ -22,7 +22,8 @@ pub(crate) fn add_row(
     Ok(())
 }
 
-/// Links the first objects of a model each to the one that is so many numbers further on, if it is one of them.
+/// Links the first objects of a model each to the one that is so many numbers further on, if it is one of
+/// them.
 pub(crate) fn link_row(
     editor: &mut Editor<'_>,
     p: PropId,

@@ -68,7 +68,8 @@ fn is_mirrored_from(model: &Model<'_>, a: ObjId) -> bool
     true
 }
 
-/// Whether for any two objects and any reference the calls on both ends agree on whether the objects are linked.
+/// Whether for any two objects and any reference the calls on both ends agree on whether the objects are
+/// linked.
 pub(crate) fn is_mirrored(model: &Model<'_>) -> bool {
     for a in 0..model.end() {
         if model.is_live(ObjId(a)) && !is_mirrored_from(model, ObjId(a)) {

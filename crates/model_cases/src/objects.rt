@@ -5,8 +5,9 @@ use mof_metamodel::{EnumId, MetaModel, PropId};
 use object_tables::{Model, ObjId, Value};
 use std::alloc::Global;
 
-/// What the reading calls say of the objects of a model, a line for each in the order of their numbers: identifier, class, container
-/// with the property, and what stands at each property at which something stands, in class order.
+/// What the reading calls say of the objects of a model, a line for each in the order of their numbers:
+/// identifier, class, container with the property, and what stands at each property at which something
+/// stands, in class order.
 pub(crate) fn print_objects(alloc: Global, pen: &mut Pen, model: &Model<'_>) {
     for o in 0..model.end() {
         if model.is_live(ObjId(o)) {

@@ -5,9 +5,10 @@ use case_texts::Pen;
 use mof_metamodel::{ClassId, EnumId, MetaModel, Prop, PropId, PropType};
 use std::alloc::Global;
 
-/// What the reading calls say of a metamodel. Its name stands first, and then a line for each class: whether it is abstract, its
-/// name, its superclasses behind `<`, the classes that it conforms to behind `is`, and its properties in class order behind `has`.
-/// Lines for the properties that it owns follow, in the form of a description with all bounds, and at the end the enumerations.
+/// What the reading calls say of a metamodel. Its name stands first, and then a line for each class: whether
+/// it is abstract, its name, its superclasses behind `<`, the classes that it conforms to behind `is`, and
+/// its properties in class order behind `has`. Lines for the properties that it owns follow, in the form of a
+/// description with all bounds, and at the end the enumerations.
 pub(crate) fn print_metamodel(alloc: Global, pen: &mut Pen, meta: &MetaModel) {
     pen.put(meta.name());
     for c in 0..meta.class_count() {

@@ -132,7 +132,8 @@ fn number(word: &str) -> Result<u32, Refusal> {
     word.parse().ok().ok_or(Refusal::NoCommand)
 }
 
-/// `row Node n 200000`: adds so many objects, with identifiers of a word and a number of eight digits from 0 on.
+/// `row Node n 200000`: adds so many objects, with identifiers of a word and a number of eight digits from 0
+/// on.
 fn row(alloc: Global, editor: &mut Editor<'_>, c: &Command<'_>) -> Result<(), Refusal> {
     let class = class_named(editor.model(), c.object)?;
     add_row(alloc, editor, class, c.prop, number(c.rest)?)

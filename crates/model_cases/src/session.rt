@@ -31,16 +31,17 @@ impl<'m> Session<'m> {
 
     /// What is answered to a command:
     ///
-    /// - `add Class c`, `set c name 'x,'y`, `link c uses d`, `unlink c uses d`, `order c uses e,d` and `delete c` are edits, and
-    ///   so are `row`, `chain` and `ring` (of many objects). Their answer is `ok`, or why the edit is not made. After each the
-    ///   links of a small model are compared at both ends.
-    /// - `show c` prints an object, `objects` all of them, `incoming c` the links to it that have no name there, `number c` its number, `depth c` its depth, `greatest` the greatest
-    ///   depth, `validity` the first breach, `cycle` the least object on a cycle, `count` how many are live of how many that
-    ///   were added.
-    /// - `new` begins with an empty model, `copy` puts the model aside and goes on with a copy, `other` changes to the one that
-    ///   was put aside.
-    /// - `metamodel` prints the metamodel, `named x` the class and the enumeration of a name, `property C x` a property of a
-    ///   class with its bounds and its opposite.
+    /// - `add Class c`, `set c name 'x,'y`, `link c uses d`, `unlink c uses d`, `order c uses e,d` and
+    ///   `delete c` are edits, and so are `row`, `chain` and `ring` (of many objects). Their answer is `ok`,
+    ///   or why the edit is not made. After each the links of a small model are compared at both ends.
+    /// - `show c` prints an object, `objects` all of them, `incoming c` the links to it that have no name
+    ///   there, `number c` its number, `depth c` its depth, `greatest` the greatest depth, `validity` the
+    ///   first breach, `cycle` the least object on a cycle, `count` how many are live of how many that were
+    ///   added.
+    /// - `new` begins with an empty model, `copy` puts the model aside and goes on with a copy, `other`
+    ///   changes to the one that was put aside.
+    /// - `metamodel` prints the metamodel, `named x` the class and the enumeration of a name, `property C x`
+    ///   a property of a class with its bounds and its opposite.
     pub(crate) fn answer(&mut self, alloc: Global, line: &str) -> Result<Text, NoMemory> {
         let mut pen = Pen::new(alloc)?;
         or_drop!(self.print_answer(alloc, &mut pen, &words(line)); pen);

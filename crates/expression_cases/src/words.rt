@@ -1,4 +1,0 @@
-/// A yes or a no.
-pub fn yes_or_no(holds: bool) -> &'static str {
-    if holds { "yes" } else { "no" }
-}

@@ -1,5 +1,0 @@
-use Rattle.std.proofs.Common.{◌≡◌}
-use Rattle.markup_cases.proofs.reading.drain.Given as goal
-
-abbrev pub invariant-marks : goal.invariant-marks
-invariant-marks l = l.reader.finished ≡ l.fn.reader.finished
