@@ -10,6 +10,7 @@
 //! | `repair SCRIPT TARGET NAME=FILE..` | what a repair of the target makes, changes and deletes, and each object of it, or what stands against it, by the plain account |
 //! | `enforce SCRIPT TARGET NAME=FILE..` | the same by `enforce_mode`, and whether the account is the same |
 //! | `size SCRIPT TARGET NAME=FILE..` | the same without the account, and in place of the objects their number |
+//! | `bindings N SEED Left=FILE Right=FILE` | how many bindings of N random scripts over random models of two metamodels were compared with those that trying all finds, and their verdicts, with the first trial whole that ends in another way, or a single one |
 //! | `random N SEED SCRIPT TARGET NAME=FILE..` | how N repairs of random models end, with the first one whole that the account ends in another way, or a single one |
 //!
 //! A refusal is printed with the entries that it names. In a TEXT `%` and two hexadecimal digits are a byte, and `%[3 ab]` is `ababab`. Lines
@@ -17,20 +18,33 @@
 #![tactic(auto)]
 
 mod asking;
+mod binding_comparisons;
+mod binding_tally;
+mod binding_trials;
 mod comparing;
 mod dice;
+mod draft;
+mod draft_expressions;
 mod drawing;
 mod enforcing;
 mod entries;
 mod files;
 mod inputs;
 mod outcomes;
+mod plain_calls;
+mod plain_error;
+mod plain_reading;
+mod plain_search;
+mod plain_values;
+mod random_relations;
 mod small;
 mod tally;
 mod terms;
 mod trials;
 
 use asking::answer;
+use binding_trials::put_binding_trials;
+use case_texts::Pen;
 use files::CaseFiles;
 use mof_metamodel::{NoMemory, Text};
 use outcomes::{Demanded, Made, Question, Shown};
@@ -59,6 +73,17 @@ fn random(files: &CaseFiles, words: &str) -> Result<Text, NoMemory> {
     answer(files, rest, trials)
 }
 
+/// How trials of random scripts end, by words `N SEED` before the files of their metamodels.
+fn random_bindings(files: &CaseFiles, words: &str) -> Result<Text, NoMemory> {
+    let (count, rest) = words.split_once(' ').unwrap_or((words, ""));
+    let (seed, pairs) = rest.split_once(' ').unwrap_or((rest, ""));
+    let mut pen = Pen::new(files.alloc)?;
+    let count = count.parse().unwrap_or(0);
+    let seed = seed.parse().unwrap_or(0);
+    put_binding_trials(&mut pen, files, pairs, count, seed)?;
+    pen.written()
+}
+
 /// The answer to a verb, if it asks for something.
 fn asked(files: &CaseFiles, verb: &str, words: &str) -> Result<Option<Text>, NoMemory> {
     match shown_by(verb) {
@@ -71,6 +96,7 @@ fn asked(files: &CaseFiles, verb: &str, words: &str) -> Result<Option<Text>, NoM
 fn answered(files: &mut CaseFiles, line: &str) -> Result<Option<Text>, NoMemory> {
     match line.split_once(' ') {
         Some(("random", words)) => Ok(Some(random(files, words)?)),
+        Some(("bindings", words)) => Ok(Some(random_bindings(files, words)?)),
         Some(("file", rest)) => {
             files.add(rest)?;
             Ok(None)
