@@ -46,7 +46,8 @@ def of_each(count, source, body):
 
 def chain(kind, operation, count):
     """A collection to which one element after another is brought."""
-    return asked(f'{kind}{{0}}' + ''.join(f'->{operation}({i})' for i in range(count)) + '->notEmpty()')
+    element = f'{kind}{{%d}}' if operation == 'union' else '%d'
+    return asked(f'{kind}{{0}}' + ''.join(f'->{operation}({element % i})' for i in range(count)) + '->notEmpty()')
 
 
 CASES = [(f'{n} variables and items', many_variables(n), model('')) for n in (100, 200)] + [
@@ -59,6 +60,7 @@ CASES = [(f'{n} variables and items', many_variables(n), model('')) for n in (10
     for n in (5000, 10000)
     for kind, operation in (
         ('Sequence', 'including'), ('Set', 'including'), ('OrderedSet', 'including'), ('Bag', 'including'),
+        ('Sequence', 'union'), ('Set', 'union'), ('OrderedSet', 'union'), ('Bag', 'union'),
         ('OrderedSet', 'append'), ('Sequence', 'prepend'))
 ]
 

@@ -100,6 +100,49 @@ def callers(count):
     return script, [classes(names(count)), classes(names(count)), tables(['n0'])]
 
 
+def script_of(relations):
+    return 'transformation T (uml : Cls, rdb : Rdb) {\n' + '\n'.join(relations) + '\n}\n'
+
+
+PACKAGE = ('top relation PackageToSchema { n : String; checkonly domain uml p : Package {name = n};'
+           'checkonly domain rdb s : Schema {name = n}; }')
+CLASS = ('top relation ClassToTable { n : String; checkonly domain uml c : Class {owner = p : Package {}, name = n};'
+         'checkonly domain rdb t : Table {schema = s : Schema {}, name = n}; when { PackageToSchema(p, s); } %s }')
+ATTRIBUTE = ('top relation AttributeToColumn { n : String; checkonly domain uml a : Attr {owner = c : Class {}, name = n};'
+             'checkonly domain rdb k : Column {table = t : Table {}, name = n}; when { ClassToTable(c, t); } }')
+USE = ('top relation UseToTables { u : Table; checkonly domain uml c : Class {uses = d : Class {}};'
+       'checkonly domain rdb t : Table {}; when { ClassToTable(c, t); ClassToTable(d, u); } }')
+
+
+def one_attribute(count):
+    """An attribute in each class; and each class uses the next."""
+    return lambda i: f'<attrs xmi:id="a{i}" name="a{i}"/><uses xmi:idref="c{(i + 1) % count}"/>'
+
+
+def one_column(i):
+    return f'<columns xmi:id="k{i}" name="a{i}"/>'
+
+
+def calls_of_calls(count):
+    script = script_of([PACKAGE, CLASS % '', ATTRIBUTE])
+    return script, [classes(names(count), one_attribute(count)), tables(names(count), one_column)]
+
+
+def two_calls(count):
+    script = script_of([PACKAGE, CLASS % 'where { Same(c, t); }', USE,
+                        'relation Same { n : String; checkonly domain uml c : Class {name = n}; checkonly domain rdb t : Table {name = n}; }'])
+    return script, [classes(names(count), one_attribute(count)), tables(names(count), one_column)]
+
+
+def each_with_each(count):
+    """Packages and schemas of which each matches each, and a relation that calls this."""
+    packages = HEAD % 'Cls' + ''.join(f'<m:Package xmi:id="p{i}" name="p{i}"/>\n' for i in range(count)) + FOOT
+    schemas = HEAD % 'Rdb' + ''.join(f'<m:Schema xmi:id="s{i}" name="s{i}"/>\n' for i in range(count)) + FOOT
+    script = script_of(['relation Any { checkonly domain uml p : Package {}; checkonly domain rdb s : Schema {}; }',
+                        'top relation R { checkonly domain uml p : Package {}; checkonly domain rdb s : Schema {}; when { Any(p, s); } }'])
+    return script, [packages, schemas]
+
+
 SHAPES = [
     ('one class of n attributes', wide, (2000, 4000, 8000)),
     ('n columns of one table, by name', listed, (2000, 4000, 8000)),
@@ -108,8 +151,11 @@ SHAPES = [
     ('n classes and tables, by name', by_name, (5000, 10000, 20000)),
     ('two sources of n classes, by name', joined(2), (2000, 4000, 8000)),
     ('three sources of n classes, by name', joined(3), (2000, 4000, 8000)),
-    ('two sources of n classes, by a condition', condition, (250, 500, 1000)),
+    ('two sources of n classes, by a condition', condition, (2000, 4000, 8000)),
     ('n x n callers of one relation', callers, (100, 200, 400)),
+    ('n attributes, a when call of a relation with a when call', calls_of_calls, (2000, 4000, 8000)),
+    ('n classes, two when calls of a relation with calls', two_calls, (2000, 4000, 8000)),
+    ('n packages and schemas, each with each, called', each_with_each, (250, 500, 1000)),
 ]
 
 
