@@ -263,8 +263,11 @@ def files_of(crate, folder, ending):
 
 
 def wrapped(first, text, indent='  '):
-    return textwrap.wrap(text, width=100, initial_indent=first, subsequent_indent=indent, break_long_words=False,
-                         break_on_hyphens=False)
+    """The text in lines of at most 100 bytes, as which tools count what isn't ASCII."""
+    padded = ''.join(c + '\0' * (len(c.encode()) - 1) for c in text)
+    lines = textwrap.wrap(padded, width=100, initial_indent=first, subsequent_indent=indent, break_long_words=False,
+                          break_on_hyphens=False)
+    return [line.replace('\0', '') for line in lines]
 
 
 def quoted(names):
