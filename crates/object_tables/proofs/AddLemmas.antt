@@ -1,21 +1,18 @@
--- A new object, other values of an object, and identifiers by their bytes.
-use Rattle.std.proofs.Common.{◌≡◌, ◌≢◌, ℕ, ◌+◌, ◌<◌, ◌≤◌, ◌^◌, ◌⊎◌, zero, suc, List, [], ◌∷◌, ◌++◌, length, get_or, map, replicate, refl, ap, sym, ◌∙◌, arith, subst, Option, Some, None, Bool, true, false, cond, inl, inr}
-use Rattle.std.specs.Prelude.{Contains, option_map, is_some, count_by, encode_utf8_all, Result, Ok, Err, IfOk, IfErr}
+-- A new object, other values of an object, and how objects are found.
+use Rattle.std.proofs.Common.{◌≡◌, ◌≢◌, ℕ, ◌+◌, ◌<◌, ◌≤◌, ◌^◌, ◌⊎◌, zero, suc, List, [], ◌∷◌, ◌++◌, length, get_or, map, replicate, refl, ap, sym, ◌∙◌, arith, subst, Option, Some, None, true, false, cond, inl, inr, rules}
+use Rattle.std.specs.Prelude.{Contains, IsSome, IfSome, IfNone, chars, option_map, is_some, count_by, encode_utf8_all, Result, Ok, Err, IfOk, IfErr}
 use Rattle.object_tables.specs.declared.limit.TheConstants.{MAX_OBJECTS}
 use Rattle.object_tables.specs.declared.limit.TheConstants.{MAX_ADDED}
 use Rattle.object_tables.specs.declared.fault.AddFault.{AddFault}
 use Rattle.object_tables.specs.declared.fault.AddFault.TheVariants as faults
 use Rattle.object_tables.specs.AddFaults.{IsAddFault}
-use Rattle.std.specs.Str.{bytes_eq}
-use Rattle.std.specs.Map.{update}
-use Rattle.std.specs.Cmp.Lexicographic.{bytes_decides}
 use Rattle.std.proofs.lemmas.Bool.{cases_lt, cases_eq}
 use Rattle.std.proofs.lemmas.List.{length-map, map-append, get_or_past, get_or_append_left, get_or_push, length-replicate, length_push, get_or-replicate}
 use Rattle.std.proofs.lemmas.List.Sums.{sum_by_push, sum_by-cons}
-use Rattle.std.proofs.lemmas.Str.{encodes_same}
 use Rattle.mof_metamodel.specs.declared.desc.MetaDesc.{MetaDesc}
 use Rattle.mof_metamodel.specs.Metamodels.{class_count, props_of, class_at as meta_class}
 use Rattle.object_tables.specs.declared.tables.Named.{Named}
+use Rattle.object_tables.specs.declared.value.ObjId.{ObjId}
 use Rattle.object_tables.specs.declared.value.Value.{Value}
 use Rattle.object_tables.specs.Lists.{update_at}
 use Rattle.object_tables.specs.Rows.{Row, Place, row_at, joined_at, no_row, no_place, with_values, fresh_row}
@@ -23,7 +20,7 @@ use Rattle.object_tables.specs.Objects.{object_of, object_from, slot_of}
 use Rattle.object_tables.specs.Models.{ModelData, id_at, added, HasId, IsFull, IsAddable, live_count, with_values as model_values}
 use Rattle.object_tables.specs.Tied.{near, named_in, class_in, IsShaped, IsTied}
 use Rattle.object_tables.proofs.ListLemmas.{get_or-update_at_same, get_or-update_at_other, update_at_past}
-use Rattle.object_tables.proofs.ModelLemmas.{seen, id_seen, class_named}
+use Rattle.object_tables.proofs.ModelLemmas.{seen, class_named}
 use Rattle.object_tables.proofs.EditLemmas.{tied-alike, alike-with_place, row-with_place, seen-with_place}
 
 -- ---- other values
@@ -44,11 +41,11 @@ joined-with_values rows o k i j values =
           ]
     ]
 
-pub tied-values : (meta : MetaDesc) (rows new : List Row) (number : List ℕ → Option ℕ) (live o k : ℕ) (values : List Value) → IsTied meta rows number live
-    → new ≡ with_values rows o k values → IsTied meta new number live
-tied-values meta rows new number live o k values t e =
-    subst (λ rs. IsTied meta rs number live) (sym e)
-    (tied-alike meta rows (with_values rows o k values) number live t (alike-with_place rows o k _)
+pub tied-values : (meta : MetaDesc) (rows new : List Row) (finds : List ℕ → ℕ → Type 0) (live o k : ℕ) (values : List Value) → IsTied meta rows finds live
+    → new ≡ with_values rows o k values → IsTied meta new finds live
+tied-values meta rows new finds live o k values t e =
+    subst (λ rs. IsTied meta rs finds live) (sym e)
+    (tied-alike meta rows (with_values rows o k values) finds live t (alike-with_place rows o k _)
     (λ i c p x hc hp hx. t.far_ends i c p x hc hp (subst (λ xs. Contains xs x) (joined-with_values rows o k i (near meta c p) values) hx))
     (λ i c m x hc lm hx. t.near_ends i c m x hc lm (subst (λ xs. Contains xs x) (joined-with_values rows o k i m values) hx)))
 
@@ -61,67 +58,22 @@ seen-values meta rows new v o c p k values e hc ek en =
 
 -- ---- identifiers
 
--- the same look-up
-pub tied-number : (meta : MetaDesc) (rows : List Row) (number number' : List ℕ → Option ℕ) (live : ℕ) → ((bytes : List ℕ) → number' bytes ≡ number bytes) → IsTied meta rows number live → IsTied meta rows number' live
-tied-number meta rows number number' live h t = record {
+some_of : {X : Type 0} (x : Option X) (y : X) → x ≡ Some y → IsSome x
+some_of None y e = absurd cc
+some_of (Some z) y e = search rules
+
+-- live objects are found as before
+pub tied-found : (meta : MetaDesc) (rows : List Row) (finds finds' : List ℕ → ℕ → Type 0) (live : ℕ)
+    → ((bytes : List ℕ) (o : ℕ) → IsSome (named_in rows o) → finds bytes o → finds' bytes o) → IsTied meta rows finds live → IsTied meta rows finds' live
+tied-found meta rows finds finds' live h t = record {
   well = t.well;
   few = t.few;
   count = t.count;
   shaped = t.shaped;
   far_ends = t.far_ends;
   near_ends = t.near_ends;
-  numbered = λ o n e. h (encode_utf8_all n.id) ∙ t.numbered o n e;
-  named = λ bytes o e. t.named bytes o (sym (h bytes) ∙ e);
+  found = λ o n e. h (encode_utf8_all n.id) o (some_of (named_in rows o) n e) (t.found o n e);
 }
-
--- an identifier that no object has isn't found
-pub not_found : (meta : MetaDesc) (rows : List Row) (v : ModelData) (number : List ℕ → Option ℕ) (live : ℕ) (id : List ℕ) → IsTied meta rows number live → seen meta rows ≡ v → (HasId v id → ⊥) → number (encode_utf8_all id) ≡ None
-not_found meta rows v number live id t e h = of_option (number (encode_utf8_all id)) refl where
-  same_id : (o : ℕ) (x : Option Named) → option_map (λ n. encode_utf8_all n.id) x ≡ Some (encode_utf8_all id) → option_map (λ n. n.id) x ≡ Some id
-  same_id o None g = absurd cc
-  same_id o (Some n) g = let w : encode_utf8_all n.id ≡ encode_utf8_all id = cc in ap Some (encodes_same n.id id w)
-
-  of_option : (x : Option ℕ) → number (encode_utf8_all id) ≡ x → x ≡ None
-  of_option None g = refl
-  of_option (Some o) g = absurd (h (o, ap (λ m. id_at m o) (sym e) ∙ id_seen meta rows o ∙ same_id o (named_in rows o) (t.named (encode_utf8_all id) o g)))
-
-pub is_found : (meta : MetaDesc) (rows : List Row) (v : ModelData) (number : List ℕ → Option ℕ) (live : ℕ) (id : List ℕ) → IsTied meta rows number live → seen meta rows ≡ v → is_some (number (encode_utf8_all id)) ≡ true → HasId v id
-is_found meta rows v number live id t e h = of_option (number (encode_utf8_all id)) refl h where
-  same_id : (o : ℕ) (x : Option Named) → option_map (λ n. encode_utf8_all n.id) x ≡ Some (encode_utf8_all id) → option_map (λ n. n.id) x ≡ Some id
-  same_id o None g = absurd cc
-  same_id o (Some n) g = let w : encode_utf8_all n.id ≡ encode_utf8_all id = cc in ap Some (encodes_same n.id id w)
-
-  of_option : (x : Option ℕ) → number (encode_utf8_all id) ≡ x → is_some x ≡ true → HasId v id
-  of_option None g w = absurd cc
-  of_option (Some o) g w = (o, ap (λ m. id_at m o) (sym e) ∙ id_seen meta rows o ∙ same_id o (named_in rows o) (t.named (encode_utf8_all id) o g))
-
-pub is_absent : (meta : MetaDesc) (rows : List Row) (v : ModelData) (number : List ℕ → Option ℕ) (live : ℕ) (id : List ℕ) → IsTied meta rows number live → seen meta rows ≡ v → is_some (number (encode_utf8_all id)) ≡ false → HasId v id → ⊥
-is_absent meta rows v number live id t e h (o, g) =
-    let (n, en, ei) = named_of (named_in rows o) (sym (ap (λ m. id_at m o) (sym e) ∙ id_seen meta rows o) ∙ g) in
-    let w : is_some (number (encode_utf8_all id)) ≡ true = ap (λ b. is_some (number (encode_utf8_all b))) (sym ei) ∙ ap is_some (t.numbered o n en) in cc
-  where
-    named_of : (x : Option Named) → option_map (λ n. n.id) x ≡ Some id → (n : Named) × (x ≡ Some n) × (n.id ≡ id)
-    named_of None g = absurd cc
-    named_of (Some n) g = (n, refl, cc)
-
-pub update_cases : (number : List ℕ → Option ℕ) (bytes cs : List ℕ) (w : Option ℕ)
-    → ((bytes ≡ cs) × (update bytes_eq number bytes w cs ≡ w)) ⊎ ((bytes ≢ cs) × (update bytes_eq number bytes w cs ≡ number cs))
-update_cases number bytes cs w = by_test (bytes_eq bytes cs) refl where
-  by_test : (b : Bool) → bytes_eq bytes cs ≡ b → ((bytes ≡ cs) × (cond b w (number cs) ≡ w)) ⊎ ((bytes ≢ cs) × (cond b w (number cs) ≡ number cs))
-  by_test true h = inl ((bytes_decides bytes cs).0 h, refl)
-  by_test false h = inr ((λ e. let z : true ≡ false = sym ((bytes_decides bytes cs).1 e) ∙ h in cc), refl)
-
--- put in and taken out again
-pub number_restored : (number : List ℕ → Option ℕ) (number' number'' : List ℕ → Option ℕ) (bytes bytes' : List ℕ) (o : ℕ) → number bytes ≡ None → bytes' ≡ bytes
-    → ((cs : List ℕ) → number' cs ≡ update bytes_eq number bytes (Some o) cs) → ((cs : List ℕ) → number'' cs ≡ update bytes_eq number' bytes' None cs)
-    → (cs : List ℕ) → number'' cs ≡ number cs
-number_restored number number' number'' bytes bytes' o none same put taken cs = elim (update_cases number' bytes' cs None) [
-  | inl (e, w) ↦ taken cs ∙ w ∙ sym (ap number (sym e ∙ same) ∙ none)
-  | inr (ne, w) ↦ elim (update_cases number bytes cs (Some o)) [
-    | inl (e, w') ↦ absurd (ne (same ∙ e))
-    | inr (ne', w') ↦ taken cs ∙ w ∙ put cs ∙ w'
-  ]
-]
 
 -- ---- a new object
 
@@ -156,16 +108,16 @@ fresh-joined named n k = elim (cases_lt k n) [
   | inr le ↦ ap (λ p. p.joined) (get_or_past (replicate n no_place) k no_place (omega (arith, length-replicate n no_place)))
 ]
 
-pub tied-add : (meta : MetaDesc) (rows new : List Row) (number number' : List ℕ → Option ℕ) (live live' : ℕ) (named : Named) (n : ℕ) → IsTied meta rows number live
+pub tied-add : (meta : MetaDesc) (rows new : List Row) (finds finds' : List ℕ → ℕ → Type 0) (live live' : ℕ) (named : Named) (n : ℕ) → IsTied meta rows finds live
     → new ≡ rows ++ fresh_row named n ∷ [] → live' ≡ live + 1
     → length rows < MAX_ADDED → named.class < class_count meta → (meta_class meta named.class).is_abstract ≡ false → n ≡ suc (suc (length (props_of meta named.class))) → n < 2 ^ 32
-    → number (encode_utf8_all named.id) ≡ None
-    → ((cs : List ℕ) → number' cs ≡ update bytes_eq number (encode_utf8_all named.id) (Some (length rows)) cs)
-    → IsTied meta new number' live'
-tied-add meta rows new number number' live live' named n t en el few class concrete count small none put =
+    → finds' (encode_utf8_all named.id) (length rows)
+    → ((bytes : List ℕ) (o : ℕ) → IsSome (named_in rows o) → finds bytes o → finds' bytes o)
+    → IsTied meta new finds' live'
+tied-add meta rows new finds finds' live live' named n t en el few class concrete count small here kept =
     let x : Row = fresh_row named n in
     let rows' : List Row = rows ++ x ∷ [] in
-    subst (λ rs. IsTied meta rs number' live') (sym en) (record {
+    subst (λ rs. IsTied meta rs finds' live') (sym en) (record {
       well = t.well;
       few = (let l = length_push rows x in omega arith);
       count = el ∙ ap (λ k. k + 1) t.count ∙ sym (sum_by_push (λ r. cond (is_some r.named) 1 0) rows x);
@@ -206,34 +158,13 @@ tied-add meta rows new number number' live live' named n t en el few class concr
                 let none_there : Contains {X = ℕ × ℕ} [] e = subst (λ (xs : List (ℕ × ℕ)). Contains xs e) gone he in
                 let l = none_there.1 in absurd (omega arith))
           ];
-      numbered = λ o m e. elim (named_cases rows x o m e) [
-        | inl (l, w) ↦ elim (update_cases number (encode_utf8_all named.id) (encode_utf8_all m.id) (Some (length rows))) [
-          | inl (eb, u) ↦ (let z : number (encode_utf8_all m.id) ≡ None = ap number (sym eb) ∙ none in let y : number (encode_utf8_all m.id) ≡ Some o = t.numbered o m w in absurd cc)
-          | inr (nb, u) ↦ put (encode_utf8_all m.id) ∙ u ∙ t.numbered o m w
-        ]
+      found = λ o m e. elim (named_cases rows x o m e) [
+        | inl (l, w) ↦ kept (encode_utf8_all m.id) o (some_of (named_in rows o) m w) (t.found o m w)
         | inr (eo, w) ↦ (
             let em : named ≡ m = cc in
-            elim (update_cases number (encode_utf8_all named.id) (encode_utf8_all m.id) (Some (length rows))) [
-              | inl (eb, u) ↦ put (encode_utf8_all m.id) ∙ u ∙ ap Some (sym eo)
-              | inr (nb, u) ↦ absurd (nb (ap (λ z. encode_utf8_all z.id) em))
-            ])
-      ];
-      named = λ bytes o e. elim (update_cases number (encode_utf8_all named.id) bytes (Some (length rows))) [
-        | inl (eb, u) ↦ (
-            let w : Some (length rows) ≡ Some o = sym u ∙ sym (put bytes) ∙ e in
-            let eo : length rows ≡ o = cc in
-            ap (λ z. option_map (λ n. encode_utf8_all n.id) (named_in rows' z)) (sym eo) ∙ ap (λ r. option_map (λ n. encode_utf8_all n.id) r.named) (row-new rows x) ∙ ap Some eb)
-        | inr (nb, u) ↦ (
-            let w : number bytes ≡ Some o = sym u ∙ sym (put bytes) ∙ e in
-            let old = t.named bytes o w in
-            let l : o < length rows = below o (named_in rows o) refl bytes old in
-            ap (λ r. option_map (λ n. encode_utf8_all n.id) r.named) (row-old rows x o l) ∙ old)
+            subst (λ (z : Named). finds' (encode_utf8_all z.id) o) em (subst (λ (z : ℕ). finds' (encode_utf8_all named.id) z) (sym eo) here))
       ];
     })
-  where
-    below : (o : ℕ) (y : Option Named) → named_in rows o ≡ y → (bytes : List ℕ) → option_map (λ n. encode_utf8_all n.id) y ≡ Some bytes → o < length rows
-    below o None ey bytes g = absurd cc
-    below o (Some m) ey bytes g = named_below rows o m ey
 
 map-replicate : {X Y : Type 0} (f : X → Y) (n : ℕ) (x : X) → map f (replicate n x) ≡ replicate n (f x)
 map-replicate f zero x = refl
@@ -262,48 +193,47 @@ count_seen (r ∷ rows) =
     ∙ ap (λ k. cond (is_some r.named) 1 0 + k) (count_seen rows)
     ∙ sym (sum_by-cons (λ r. cond (is_some r.named) 1 0) r rows)
 
-pub full_from : (meta : MetaDesc) (rows : List Row) (v : ModelData) (number : List ℕ → Option ℕ) (live : ℕ) → IsTied meta rows number live → seen meta rows ≡ v
+pub full_from : (meta : MetaDesc) (rows : List Row) (v : ModelData) (finds : List ℕ → ℕ → Type 0) (live : ℕ) → IsTied meta rows finds live → seen meta rows ≡ v
     → (MAX_OBJECTS ≤ live) ⊎ (MAX_ADDED ≤ length rows) → IsFull v
-full_from meta rows v number live t e h =
+full_from meta rows v finds live t e h =
     let el : live ≡ live_count v = t.count ∙ sym (count_seen rows) ∙ ap live_count e in
     let en : length rows ≡ length v.objects = sym (length-map rows object_of) ∙ ap (λ m. length m.objects) e in
     elim h [ inl a ↦ inl (subst (λ (z : ℕ). MAX_OBJECTS ≤ z) el a) | inr b ↦ inr (omega arith) ]
 
-pub room_from : (meta : MetaDesc) (rows : List Row) (v : ModelData) (number : List ℕ → Option ℕ) (live : ℕ) → IsTied meta rows number live → seen meta rows ≡ v
+pub room_from : (meta : MetaDesc) (rows : List Row) (v : ModelData) (finds : List ℕ → ℕ → Type 0) (live : ℕ) → IsTied meta rows finds live → seen meta rows ≡ v
     → live < MAX_OBJECTS → length rows < MAX_ADDED → IsFull v → ⊥
-room_from meta rows v number live t e l m h =
+room_from meta rows v finds live t e l m h =
     let el : live ≡ live_count v = t.count ∙ sym (count_seen rows) ∙ ap live_count e in
     let en : length rows ≡ length v.objects = sym (length-map rows object_of) ∙ ap (λ m. length m.objects) e in
     elim h [ inl a ↦ (let a' : MAX_OBJECTS ≤ live = subst (λ (z : ℕ). MAX_OBJECTS ≤ z) (sym el) a in absurd (omega arith)) | inr b ↦ absurd (omega arith) ]
 
 -- a model that isn't full has room for a live object
-pub below_full : (meta : MetaDesc) (rows : List Row) (v : ModelData) (number : List ℕ → Option ℕ) (live : ℕ) → IsTied meta rows number live → seen meta rows ≡ v → (IsFull v → ⊥) → live < MAX_OBJECTS
-below_full meta rows v number live t e h =
+pub below_full : (meta : MetaDesc) (rows : List Row) (v : ModelData) (finds : List ℕ → ℕ → Type 0) (live : ℕ) → IsTied meta rows finds live → seen meta rows ≡ v → (IsFull v → ⊥) → live < MAX_OBJECTS
+below_full meta rows v finds live t e h =
     let el : live ≡ live_count v = t.count ∙ sym (count_seen rows) ∙ ap live_count e in
     elim (cases_lt live MAX_OBJECTS) [ inl l ↦ l | inr le ↦ absurd (h (inl (subst (λ (z : ℕ). MAX_OBJECTS ≤ z) el le))) ]
 
 -- how many objects a model shows
-pub live_seen : (meta : MetaDesc) (rows : List Row) (v : ModelData) (number : List ℕ → Option ℕ) (live : ℕ) → IsTied meta rows number live → seen meta rows ≡ v → live_count v ≡ live
-live_seen meta rows v number live t e = sym (t.count ∙ sym (count_seen rows) ∙ ap live_count e)
+pub live_seen : (meta : MetaDesc) (rows : List Row) (v : ModelData) (finds : List ℕ → ℕ → Type 0) (live : ℕ) → IsTied meta rows finds live → seen meta rows ≡ v → live_count v ≡ live
+live_seen meta rows v finds live t e = sym (t.count ∙ sym (count_seen rows) ∙ ap live_count e)
 
 few_from : (meta : MetaDesc) (rows : List Row) (v : ModelData) → seen meta rows ≡ v → (IsFull v → ⊥) → length rows < MAX_ADDED
 few_from meta rows v e h =
     let en : length rows ≡ length v.objects = sym (length-map rows object_of) ∙ ap (λ m. length m.objects) e in
     elim (cases_lt (length rows) MAX_ADDED) [ inl l ↦ l | inr le ↦ absurd (h (inr (omega arith))) ]
 
-pub tied-enter : (meta : MetaDesc) (rows new : List Row) (v : ModelData) (number number' : List ℕ → Option ℕ) (live live' class n o : ℕ) (id bytes : List ℕ) → IsTied meta rows number live → seen meta rows ≡ v
+pub tied-enter : (meta : MetaDesc) (rows new : List Row) (v : ModelData) (finds finds' : List ℕ → ℕ → Type 0) (live live' class n o : ℕ) (id bytes : List ℕ) → IsTied meta rows finds live → seen meta rows ≡ v
     → IsAddable v class id → class < class_count v.meta → n ≡ suc (suc (length (props_of v.meta class))) → n < 2 ^ 32
     → new ≡ rows ++ fresh_row (record { class = class; id = id }) n ∷ [] → live' ≡ live + 1 → bytes ≡ encode_utf8_all id → o ≡ length rows
-    → ((cs : List ℕ) → number' cs ≡ update bytes_eq number bytes (Some o) cs)
-    → IsTied meta new number' live'
-tied-enter meta rows new v number number' live live' class n o id bytes t e a hc hn small en el eb eo put =
+    → finds' bytes o → ((bytes : List ℕ) (o : ℕ) → IsSome (named_in rows o) → finds bytes o → finds' bytes o)
+    → IsTied meta new finds' live'
+tied-enter meta rows new v finds finds' live live' class n o id bytes t e a hc hn small en el eb eo here kept =
     let em : v.meta ≡ meta = ap (λ x. x.meta) (sym e) in
-    tied-add meta rows new number number' live live' (record { class = class; id = id }) n t en el (few_from meta rows v e a.room)
+    tied-add meta rows new finds finds' live live' (record { class = class; id = id }) n t en el (few_from meta rows v e a.room)
     (subst (λ (m : MetaDesc). class < class_count m) em hc)
     (ap (λ m. (meta_class m class).is_abstract) (sym em) ∙ a.concrete)
     (hn ∙ ap (λ m. suc (suc (length (props_of m class)))) em) small
-    (not_found meta rows v number live id t e a.new)
-    (λ cs. put cs ∙ ap (λ b. update bytes_eq number b (Some o) cs) eb ∙ ap (λ z. update bytes_eq number (encode_utf8_all id) (Some z) cs) eo)
+    (subst (λ (z : ℕ). finds' (encode_utf8_all id) z) eo (subst (λ b. finds' b o) eb here)) kept
 
 pub seen-enter : (meta : MetaDesc) (rows new : List Row) (v : ModelData) (class n o : ℕ) (id : List ℕ) → seen meta rows ≡ v
     → n ≡ suc (suc (length (props_of v.meta class))) → new ≡ rows ++ fresh_row (record { class = class; id = id }) n ∷ [] → o ≡ length rows
@@ -314,16 +244,21 @@ seen-enter meta rows new v class n o id e hn en eo =
       seen-add meta rows new v (record { class = class; id = id }) n e en (hn ∙ ap (λ m. suc (suc (length (props_of m class)))) em),
     )
 
-pub tied-given_up : (meta : MetaDesc) (rows new : List Row) (v : ModelData) (number number' number'' : List ℕ → Option ℕ) (live o : ℕ) (id bytes bytes' : List ℕ) → IsTied meta rows number live → seen meta rows ≡ v
-    → (HasId v id → ⊥) → new ≡ rows → bytes ≡ encode_utf8_all id → bytes' ≡ encode_utf8_all id
-    → ((cs : List ℕ) → number' cs ≡ update bytes_eq number bytes (Some o) cs) → ((cs : List ℕ) → number'' cs ≡ update bytes_eq number' bytes' None cs)
-    → IsTied meta new number'' live
-tied-given_up meta rows new v number number' number'' live o id bytes bytes' t e h en eb eb' put taken =
-    subst (λ rs. IsTied meta rs number'' live) (sym en)
-    (tied-number meta rows number number'' live
-    (number_restored number number' number'' bytes bytes' o (ap number eb ∙ not_found meta rows v number live id t e h) (eb' ∙ sym eb) put taken) t)
+pub tied-given_up : (meta : MetaDesc) (rows new : List Row) (finds finds' : List ℕ → ℕ → Type 0) (live : ℕ) → IsTied meta rows finds live → new ≡ rows
+    → ((bytes : List ℕ) (o : ℕ) → IsSome (named_in rows o) → finds bytes o → finds' bytes o) → IsTied meta new finds' live
+tied-given_up meta rows new finds finds' live t en kept = subst (λ rs. IsTied meta rs finds' live) (sym en) (tied-found meta rows finds finds' live kept t)
 
 -- ---- causes
+
+-- an identifier that is found is had by an object
+pub is_found : (r : Option ObjId) (v : ModelData) (id bytes : List ℕ) → IfSome r (λ o. id_at v o.0 ≡ Some (chars bytes)) → chars bytes ≡ id → is_some r ≡ true → HasId v id
+is_found None v id bytes h e t = absurd cc
+is_found (Some o) v id bytes h e t = (o.0, h ∙ ap Some e)
+
+-- and one that isn't found is had by none
+pub is_absent : (r : Option ObjId) (v : ModelData) (id bytes : List ℕ) → IfNone r ((o : ℕ) → id_at v o ≢ Some (chars bytes)) → chars bytes ≡ id → is_some r ≡ false → HasId v id → ⊥
+is_absent None v id bytes h e t (o, g) = h o (g ∙ ap Some (sym e))
+is_absent (Some x) v id bytes h e t d = absurd cc
 
 pub if_ok_any : {T E : Type 0} (r : Result T E) (P : Type 0) → P → IfOk r (λ _. P)
 if_ok_any (Ok x) P p = p

@@ -46,10 +46,10 @@ not_whole m o q a p r k h f e c =
 pub place_known : (meta : MetaDesc) (rows : List Row) (v : ModelData) (o q place : ℕ) → seen meta rows ≡ v → IsPlaceOf v o q place → q < prop_count meta
 place_known meta rows v o q place e s = prop_known meta s.class q (has_seen meta rows v o q s.class s.class e s.class_is s.class_is s.has)
 
-pub place_within : (meta : MetaDesc) (rows : List Row) (number : List ℕ → Option ℕ) (live o q place : ℕ) (v : ModelData) → IsTied meta rows number live → seen meta rows ≡ v → IsPlaceOf v o q place → place < length (row_at rows o).places
-place_within meta rows number live o q place v t e s =
+pub place_within : (meta : MetaDesc) (rows : List Row) (finds : List ℕ → ℕ → Type 0) (live o q place : ℕ) (v : ModelData) → IsTied meta rows finds live → seen meta rows ≡ v → IsPlaceOf v o q place → place < length (row_at rows o).places
+place_within meta rows finds live o q place v t e s =
     subst (λ (k : ℕ). k < length (row_at rows o).places) (ap (λ m. near m s.class q) (same_meta meta rows v e) ∙ sym s.place_is)
-    (near-within meta rows o s.class q (placed_seen meta rows number live o s.class v t e s.class_is) (has_seen meta rows v o q s.class s.class e s.class_is s.class_is s.has))
+    (near-within meta rows o s.class q (placed_seen meta rows finds live o s.class v t e s.class_is) (has_seen meta rows v o q s.class s.class e s.class_is s.class_is s.has))
 
 pub place_partners : (meta : MetaDesc) (rows : List Row) (v : ModelData) (o q place : ℕ) → seen meta rows ≡ v → IsPlaceOf v o q place → partners_at v o q ≡ map (λ x. x.0) (joined_at rows o place)
 place_partners meta rows v o q place e s =
@@ -109,10 +109,10 @@ far-zero props (Some q) n h = by_test (nat_lt (index_of props q) (length props))
   by_test true e = absurd (omega arith)
   by_test false e = e
 
-pub nameless_place : (meta : MetaDesc) (rows : List Row) (number : List ℕ → Option ℕ) (live o : ℕ) (v : ModelData) → IsTied meta rows number live → seen meta rows ≡ v → IsLive v o → 0 < length (row_at rows o).places
-nameless_place meta rows number live o v t e l =
+pub nameless_place : (meta : MetaDesc) (rows : List Row) (finds : List ℕ → ℕ → Type 0) (live o : ℕ) (v : ModelData) → IsTied meta rows finds live → seen meta rows ≡ v → IsLive v o → 0 < length (row_at rows o).places
+nameless_place meta rows finds live o v t e l =
     let (c, hc) = live_class v o l in
-    let places : length (row_at rows o).places ≡ suc (suc (length (props_of meta c))) = (placed_seen meta rows number live o c v t e hc).places in
+    let places : length (row_at rows o).places ≡ suc (suc (length (props_of meta c))) = (placed_seen meta rows finds live o c v t e hc).places in
     omega arith
 
 -- what the first nameless place is joined to is the place of a property by which the object is contained
@@ -124,9 +124,9 @@ pub record IsNamelessContainer (v : ModelData) (o a place : ℕ) : Type 0 where
   pub place_is : place ≡ near v.meta class prop
   pub contained : IsContainedIn v o a prop
 
-pub nameless_found : (meta : MetaDesc) (rows : List Row) (number : List ℕ → Option ℕ) (live o a place : ℕ) (rest : List (ℕ × ℕ)) (v : ModelData) → IsTied meta rows number live → IsMutual rows → seen meta rows ≡ v → IsLive v o
+pub nameless_found : (meta : MetaDesc) (rows : List Row) (finds : List ℕ → ℕ → Type 0) (live o a place : ℕ) (rest : List (ℕ × ℕ)) (v : ModelData) → IsTied meta rows finds live → IsMutual rows → seen meta rows ≡ v → IsLive v o
     → joined_at rows o 0 ≡ (a, place) ∷ rest → IsNamelessContainer v o a place
-nameless_found meta rows number live o a place rest v t both e l first =
+nameless_found meta rows finds live o a place rest v t both e l first =
     let (c, hc) = live_class v o l in
     let there : Contains (joined_at rows o 0) (a, place) = subst (λ (xs : List (ℕ × ℕ)). Contains xs (a, place)) (sym first) (0, omega arith, refl) in
     let f = t.near_ends o c 0 (a, place) (class_of_rows meta rows v o c e hc) (omega arith) there in
@@ -160,9 +160,9 @@ nameless_prop v o a place c props d s hc same =
     ap (λ n. (get_or props n d).0) at ∙ sym (get_or-map (λ p. p.0) props i d d.0 short) ∙ ap (λ xs. get_or xs i d.0) same ∙ index-found (props_of v.meta c) s.prop d.0 within in
     (omega arith, omega arith, subst (IsContainedIn v o a) (sym number) s.contained)
 
-pub nameless_none : (meta : MetaDesc) (rows : List Row) (number : List ℕ → Option ℕ) (live o a p : ℕ) (v : ModelData) → IsTied meta rows number live → IsMutual rows → seen meta rows ≡ v → Kept v
+pub nameless_none : (meta : MetaDesc) (rows : List Row) (finds : List ℕ → ℕ → Type 0) (live o a p : ℕ) (v : ModelData) → IsTied meta rows finds live → IsMutual rows → seen meta rows ≡ v → Kept v
     → joined_at rows o 0 ≡ [] → opposite_of v.meta p ≡ None → IsContainedIn v o a p → ⊥
-nameless_none meta rows number live o a p v t both e k none alone h =
+nameless_none meta rows finds live o a p v t both e k none alone h =
     let r = linked_reference v p a o (sound_of v k) h.linked in
     let em : meta ≡ v.meta = same_meta meta rows v e in
     let hp : Contains (props_of meta r.class) p = has_seen meta rows v a p r.class r.class e r.class_is r.class_is r.has in

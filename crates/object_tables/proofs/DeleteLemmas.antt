@@ -1,8 +1,6 @@
 -- A deletion: the places of an object are cleared one after another, and then its number has no object.
 use Rattle.std.proofs.Common.{◌≡◌, ◌≢◌, ℕ, ◌+◌, ◌-◌, ◌<◌, ◌≤◌, zero, suc, List, [], ◌∷◌, length, get_or, map, filter, drop, refl, ap, sym, ◌∙◌, arith, subst, Option, Some, None, Bool, true, false, cond, not, inl, inr, eq-eqb, rules}
-use Rattle.std.specs.Prelude.{Contains, option_map, is_some, count_by, encode_utf8_all, IsSome, ◌==◌, ◌&&◌, nat_lt}
-use Rattle.std.specs.Str.{bytes_eq}
-use Rattle.std.specs.Map.{update}
+use Rattle.std.specs.Prelude.{Contains, option_map, is_some, count_by, IsSome, ◌==◌, ◌&&◌, nat_lt}
 use Rattle.std.proofs.lemmas.Bool.{cases_lt, cases_eq, eqb-true, ne_eqb, lt-ltb}
 use Rattle.std.proofs.lemmas.List.{length-map, get_or_past, drop-map, ext_get_or, get_or-drop, length-drop, get_or_default}
 use Rattle.std.proofs.lemmas.List.Sums.{sum_by-cons}
@@ -16,7 +14,6 @@ use Rattle.object_tables.specs.Tied.{near, named_in, class_in, IsTied}
 use Rattle.object_tables.proofs.ListLemmas.{length-update_at, get_or-update_at_same, get_or-update_at_other, Contains-filter, filter-map_all, map-same_all, Contains-cons}
 use Rattle.object_tables.proofs.ModelLemmas.{seen, class_named, live_class, class_of_rows}
 use Rattle.object_tables.proofs.EditLemmas.{IsAlike, alike-with_place, alike-trans}
-use Rattle.object_tables.proofs.AddLemmas.{update_cases}
 
 get_or-map_same : {X Y : Type 0} (f : X → Y) (xs : List X) (i : ℕ) (d : X) → get_or (map f xs) i (f d) ≡ f (get_or xs i d)
 get_or-map_same f [] i d = refl
@@ -185,17 +182,16 @@ filter-test p (y ∷ ys) x c = by_test (λ d. filter-test p ys x d) (p y) refl c
   by_test rest true h (suc k, l, e) = rest (k, omega arith, e)
   by_test rest false h d = rest d
 
-pub tied-delete : (meta : MetaDesc) (rows new : List Row) (number number' : List ℕ → Option ℕ) (live live' o : ℕ) (n : Named) (bytes : List ℕ) → IsTied meta rows number live → IsRanged rows
-    → named_in rows o ≡ Some n → new ≡ removed rows o → live' + 1 ≡ live → bytes ≡ encode_utf8_all n.id
-    → ((cs : List ℕ) → number' cs ≡ update bytes_eq number bytes None cs) → IsTied meta new number' live'
-tied-delete meta rows new number number' live live' o n bytes t ranged en e el eb taken =
+pub tied-delete : (meta : MetaDesc) (rows new : List Row) (finds : List ℕ → ℕ → Type 0) (live live' o : ℕ) (n : Named) → IsTied meta rows finds live → IsRanged rows
+    → named_in rows o ≡ Some n → new ≡ removed rows o → live' + 1 ≡ live → IsTied meta new finds live'
+tied-delete meta rows new finds live live' o n t ranged en e el =
     let rows' : List Row = removed rows o in
     let size : ℕ = length (row_at rows o).places in
     let below : o < length rows = named_below rows o n en in
     let gone : named_in rows' o ≡ None = removed-gone rows o below in
     let other : (i : ℕ) (m : Named) → named_in rows' i ≡ Some m → i ≢ o = (λ i m h q. let w : named_in rows' o ≡ Some m = ap (named_in rows') (sym q) ∙ h in let z : Some m ≡ None = sym w ∙ gone in cc) in
     let kept : (i : ℕ) → i ≢ o → named_in rows' i ≡ named_in rows i = (λ i ne. ap (λ r. r.named) (row-removed rows o i ne)) in
-    subst (λ rs. IsTied meta rs number' live') (sym e) (record {
+    subst (λ rs. IsTied meta rs finds live') (sym e) (record {
       well = t.well;
       few = (let l = length-removed rows o in let f = t.few in omega arith);
       count = (let a = (alike-cleared rows o size).count in
@@ -221,24 +217,7 @@ tied-delete meta rows new number number' live live' o n bytes t ranged en e el e
           let f = t.near_ends i c k x hc' lk old in
           let apart : x.0 ≢ o = stays-other o size x (filter-test (stays o size) (joined_at rows i k) x hx') (λ q. subst (λ (z : ℕ). x.1 < length (row_at rows z).places) q (ranged i k x old)) in
           record { class = f.class; class_is = ap (option_map (λ n. n.class)) (kept x.0 apart) ∙ f.class_is; prop = f.prop; has = f.has; place = f.place; back = f.back });
-      numbered = λ i m h. (
-          let ne = other i m h in
-          let hm : named_in rows i ≡ Some m = sym (kept i ne) ∙ h in
-          elim (update_cases number bytes (encode_utf8_all m.id) None) [
-            | inl (q, u) ↦ (let a : number bytes ≡ Some o = ap number eb ∙ t.numbered o n en in let b : number bytes ≡ Some i = ap number q ∙ t.numbered i m hm in let w : Some i ≡ Some o = sym b ∙ a in absurd (ne (let z : i ≡ o = cc in z)))
-            | inr (nq, u) ↦ taken (encode_utf8_all m.id) ∙ u ∙ t.numbered i m hm
-          ]);
-      named = λ bs i h. elim (update_cases number bytes bs None) [
-        | inl (q, u) ↦ (let w : Some i ≡ None = sym h ∙ taken bs ∙ u in absurd cc)
-        | inr (nq, u) ↦ (
-            let hn : number bs ≡ Some i = sym u ∙ sym (taken bs) ∙ h in
-            let old = t.named bs i hn in
-            elim (cases_eq i o) [
-              | inl q ↦ (let w : Some (encode_utf8_all n.id) ≡ Some bs = sym (ap (option_map (λ n. encode_utf8_all n.id)) en) ∙ ap (λ z. option_map (λ n. encode_utf8_all n.id) (named_in rows z)) (sym q) ∙ old in
-                  let z : encode_utf8_all n.id ≡ bs = cc in absurd (nq (eb ∙ z)))
-              | inr ne ↦ ap (option_map (λ n. encode_utf8_all n.id)) (kept i ne) ∙ old
-            ])
-      ];
+      found = λ i m h. t.found i m (sym (kept i (other i m h)) ∙ h);
     })
   where
     named_below : (rows : List Row) (o : ℕ) (n : Named) → named_in rows o ≡ Some n → o < length rows
@@ -305,19 +284,14 @@ seen-delete meta rows new v o n e ranged en below er =
           ∙ sym (get_or-update_at_other (map (object_without o) (map object_of rows)) o i (λ _. None) None ne)
     ]
 
-pub live_above : (meta : MetaDesc) (rows : List Row) (number : List ℕ → Option ℕ) (live o : ℕ) (n : Named) → IsTied meta rows number live → named_in rows o ≡ Some n → (live - 1) + 1 ≡ live
-live_above meta rows number live o n t e = let c = count-unnamed rows o n e in let k = t.count in omega arith
+pub live_above : (meta : MetaDesc) (rows : List Row) (finds : List ℕ → ℕ → Type 0) (live o : ℕ) (n : Named) → IsTied meta rows finds live → named_in rows o ≡ Some n → (live - 1) + 1 ≡ live
+live_above meta rows finds live o n t e = let c = count-unnamed rows o n e in let k = t.count in omega arith
 
--- the object that the cleared rows still name
-pub still_named : (rows cleared : List Row) (o : ℕ) (n : Named) → cleared ≡ cleared_upto rows o (length (row_at rows o).places) → Some n ≡ named_in cleared o → named_in rows o ≡ Some n
-still_named rows cleared o n e h = sym ((alike-cleared rows o (length (row_at rows o).places)).named o) ∙ sym (ap (λ rs. named_in rs o) e) ∙ sym h
-
-pub not_unnamed : (meta : MetaDesc) (rows cleared : List Row) (v : ModelData) (o : ℕ) → seen meta rows ≡ v → IsSome (object_at v o) → cleared ≡ cleared_upto rows o (length (row_at rows o).places) → None ≡ named_in cleared o → ⊥
-not_unnamed meta rows cleared v o e l ec h =
+-- a live object has a class and an identifier
+pub live_named : (meta : MetaDesc) (rows : List Row) (v : ModelData) (o : ℕ) → seen meta rows ≡ v → IsSome (object_at v o) → (n : Named) × (named_in rows o ≡ Some n)
+live_named meta rows v o e l =
     let (c, hc) = live_class v o l in
-    let (n, en, ek) = class_named rows o c (class_of_rows meta rows v o c e hc) in
-    let w : named_in rows o ≡ None = sym ((alike-cleared rows o (length (row_at rows o).places)).named o) ∙ sym (ap (λ rs. named_in rs o) ec) ∙ sym h in
-    let z : Some n ≡ None = sym en ∙ w in cc
+    let (n, en, ek) = class_named rows o c (class_of_rows meta rows v o c e hc) in (n, en)
 
 pub below_named : (rows : List Row) (o : ℕ) (n : Named) → named_in rows o ≡ Some n → o < length rows
 below_named rows o n h = elim (cases_lt o (length rows)) [

@@ -1,6 +1,6 @@
 -- What edits of the tables do to a model, and that they keep its parts tied.
 use Rattle.std.proofs.Common.{◌≡◌, ◌≢◌, ℕ, ◌<◌, ◌≤◌, ◌⊎◌, zero, suc, List, [], ◌∷◌, ◌++◌, length, get_or, map, drop, refl, ap, sym, ◌∙◌, arith, subst, Option, Some, None, Bool, true, false, cond, not, inl, inr, eq-eqb, rules}
-use Rattle.std.specs.Prelude.{Contains, option_map, is_some, ◌==◌, ◌&&◌, nat_lt, count_by, encode_utf8_all, IsSome}
+use Rattle.std.specs.Prelude.{Contains, option_map, is_some, ◌==◌, ◌&&◌, nat_lt, count_by, IsSome}
 use Rattle.std.proofs.lemmas.Bool.{cases_lt, cases_eq, eqb-true}
 use Rattle.std.proofs.lemmas.List.{length-drop, length-map, map_push}
 use Rattle.std.proofs.lemmas.List.Elements.{Contains-push_cases}
@@ -65,11 +65,11 @@ pub class-alike : (old new : List Row) (o : ℕ) → IsAlike old new → class_i
 class-alike old new o a = ap (option_map (λ n. n.class)) (a.named o)
 
 -- the parts stay tied, where the far ends are what they should be
-pub tied-alike : (meta : MetaDesc) (old new : List Row) (number : List ℕ → Option ℕ) (live : ℕ) → IsTied meta old number live → IsAlike old new
+pub tied-alike : (meta : MetaDesc) (old new : List Row) (finds : List ℕ → ℕ → Type 0) (live : ℕ) → IsTied meta old finds live → IsAlike old new
     → ((o c p : ℕ) (e : ℕ × ℕ) → class_in old o ≡ Some c → Contains (props_of meta c) p → Contains (joined_at new o (near meta c p)) e → IsFarEnd meta old p e)
     → ((o c k : ℕ) (e : ℕ × ℕ) → class_in old o ≡ Some c → k < 2 → Contains (joined_at new o k) e → IsNearEnd meta old c k e)
-    → IsTied meta new number live
-tied-alike meta old new number live t a h g = record {
+    → IsTied meta new finds live
+tied-alike meta old new finds live t a h g = record {
   well = t.well;
   few = (let e = a.len in let f = t.few in omega arith);
   count = t.count ∙ sym a.count;
@@ -80,8 +80,7 @@ tied-alike meta old new number live t a h g = record {
   near_ends = λ o c k e hc lk he.
       let f = g o c k e (sym (class-alike old new o a) ∙ hc) lk he in
       record { class = f.class; class_is = class-alike old new e.0 a ∙ f.class_is; prop = f.prop; has = f.has; place = f.place; back = f.back };
-  numbered = λ o n e. t.numbered o n (sym (a.named o) ∙ e);
-  named = λ bytes o e. ap (option_map (λ n. encode_utf8_all n.id)) (a.named o) ∙ t.named bytes o e;
+  found = λ o n e. t.found o n (sym (a.named o) ∙ e);
 }
 
 -- ---- what a place is joined to, after one change
@@ -161,12 +160,12 @@ near-far_apart meta c p w h e =
 
 -- ---- a link
 
-pub tied-link : (meta : MetaDesc) (rows : List Row) (number : List ℕ → Option ℕ) (live p a ca b cb : ℕ) → IsTied meta rows number live
+pub tied-link : (meta : MetaDesc) (rows : List Row) (finds : List ℕ → ℕ → Type 0) (live p a ca b cb : ℕ) → IsTied meta rows finds live
     → class_in rows a ≡ Some ca → class_in rows b ≡ Some cb → Contains (props_of meta ca) p
-    → IsTied meta (with_last (with_last rows a (near meta ca p) (b, far meta cb p)) b (far meta cb p) (a, near meta ca p)) number live
-tied-link meta rows number live p a ca b cb t ha hb hp =
+    → IsTied meta (with_last (with_last rows a (near meta ca p) (b, far meta cb p)) b (far meta cb p) (a, near meta ca p)) finds live
+tied-link meta rows finds live p a ca b cb t ha hb hp =
     let rows1 : List Row = with_last rows a (near meta ca p) (b, far meta cb p) in
-    tied-alike meta rows _ number live t
+    tied-alike meta rows _ finds live t
     (alike-trans rows rows1 _ (alike-with_place rows a (near meta ca p) _) (alike-with_place rows1 b (far meta cb p) _))
     (λ o c p' e hc hp' he. elim (joined-with_last rows1 b (far meta cb p) o (near meta c p') (a, near meta ca p) e he) [
       | inl he1 ↦ elim (joined-with_last rows a (near meta ca p) o (near meta c p') (b, far meta cb p) e he1) [
@@ -275,16 +274,16 @@ seen-far meta rows o c p (Some q) f g e s ex h =
     not_lt a b m = search rules
 
 -- the model after a link
-pub seen-link : (meta : MetaDesc) (rows : List Row) (v : ModelData) (number : List ℕ → Option ℕ) (live p a ca b cb : ℕ) → IsTied meta rows number live → seen meta rows ≡ v
+pub seen-link : (meta : MetaDesc) (rows : List Row) (v : ModelData) (finds : List ℕ → ℕ → Type 0) (live p a ca b cb : ℕ) → IsTied meta rows finds live → seen meta rows ≡ v
     → class_in rows a ≡ Some ca → class_in rows b ≡ Some cb
     → seen meta (with_last (with_last rows a (near meta ca p) (b, far meta cb p)) b (far meta cb p) (a, near meta ca p)) ≡ linked v p a b
-seen-link meta rows v number live p a ca b cb t ev ha hb =
+seen-link meta rows v finds live p a ca b cb t ev ha hb =
     let push : ℕ × ℕ → Place → Place = λ x place. record place { joined = place.joined ++ x ∷ [] } in
     let stand : ℕ → Slot → Slot = λ x s. record s { partners = s.partners ++ x ∷ [] } in
     let rows1 : List Row = with_last rows a (near meta ca p) (b, far meta cb p) in
     let alike : IsAlike rows rows1 = alike-with_place rows a (near meta ca p) (push (b, far meta cb p)) in
     let hb1 : class_in rows1 b ≡ Some cb = class-alike rows rows1 b alike ∙ hb in
-    let pb : IsPlaced meta rows b cb = placed meta rows number live b cb t hb in
+    let pb : IsPlaced meta rows b cb = placed meta rows finds live b cb t hb in
     let pb1 : IsPlaced meta rows1 b cb = record { object = (let o = pb.object in let n = alike.len in omega arith); class = pb.class; places = alike.places b ∙ pb.places; small = pb.small } in
     let slots : (x : ℕ × ℕ) (place : Place) → slot_of (push x place) ≡ stand x.0 (slot_of place) =
     (λ x place. ap (λ ps. record { values = place.values; partners = ps }) (map_push (λ e. e.0) place.joined x)) in
@@ -306,11 +305,11 @@ joined-without rows o k i j x e c = elim (joined-with_joined rows o k i j (witho
   | inr w ↦ Contains-filter (λ y. not (is_address x y)) (joined_at rows i j) e (subst (λ xs. Contains xs e) w.2 c)
 ]
 
-pub tied-unlink : (meta : MetaDesc) (rows : List Row) (number : List ℕ → Option ℕ) (live o k i j : ℕ) (x y : ℕ × ℕ) → IsTied meta rows number live
-    → IsTied meta (without_join (without_join rows o k x) i j y) number live
-tied-unlink meta rows number live o k i j x y t =
+pub tied-unlink : (meta : MetaDesc) (rows : List Row) (finds : List ℕ → ℕ → Type 0) (live o k i j : ℕ) (x y : ℕ × ℕ) → IsTied meta rows finds live
+    → IsTied meta (without_join (without_join rows o k x) i j y) finds live
+tied-unlink meta rows finds live o k i j x y t =
     let rows1 : List Row = without_join rows o k x in
-    tied-alike meta rows _ number live t
+    tied-alike meta rows _ finds live t
     (alike-trans rows rows1 _ (alike-with_place rows o k _) (alike-with_place rows1 i j _))
     (λ a c p e hc hp he. t.far_ends a c p e hc hp (joined-without rows o k a (near meta c p) x e (joined-without rows1 i j a (near meta c p) y e he)))
     (λ a c m e hc lm he. t.near_ends a c m e hc lm (joined-without rows o k a m x e (joined-without rows1 i j a m y e he)))
@@ -324,16 +323,16 @@ without-address b k xs h = filter-map_all (λ e. e.0) (λ y. not (is_address (b,
       by_test e false q f = cc
 
 -- the model after an unlink
-pub seen-unlink : (meta : MetaDesc) (rows : List Row) (v : ModelData) (number : List ℕ → Option ℕ) (live p a ca b cb : ℕ) → IsTied meta rows number live → seen meta rows ≡ v
+pub seen-unlink : (meta : MetaDesc) (rows : List Row) (v : ModelData) (finds : List ℕ → ℕ → Type 0) (live p a ca b cb : ℕ) → IsTied meta rows finds live → seen meta rows ≡ v
     → class_in rows a ≡ Some ca → class_in rows b ≡ Some cb → Contains (props_of meta ca) p
     → seen meta (without_join (without_join rows a (near meta ca p) (b, far meta cb p)) b (far meta cb p) (a, near meta ca p)) ≡ unlinked v p a b
-seen-unlink meta rows v number live p a ca b cb t ev ha hb hp =
+seen-unlink meta rows v finds live p a ca b cb t ev ha hb hp =
     let cut : ℕ × ℕ → Place → Place = λ x place. record place { joined = without_address x place.joined } in
     let drop_it : ℕ → Slot → Slot = λ x s. record s { partners = without_number x s.partners } in
     let rows1 : List Row = without_join rows a (near meta ca p) (b, far meta cb p) in
     let alike : IsAlike rows rows1 = alike-with_place rows a (near meta ca p) (cut (b, far meta cb p)) in
     let hb1 : class_in rows1 b ≡ Some cb = class-alike rows rows1 b alike ∙ hb in
-    let pb : IsPlaced meta rows b cb = placed meta rows number live b cb t hb in
+    let pb : IsPlaced meta rows b cb = placed meta rows finds live b cb t hb in
     let pb1 : IsPlaced meta rows1 b cb = record { object = (let o = pb.object in let n = alike.len in omega arith); class = pb.class; places = alike.places b ∙ pb.places; small = pb.small } in
     let first : slot_of (cut (b, far meta cb p) (place_at rows a (near meta ca p))) ≡ drop_it b (slot_of (place_at rows a (near meta ca p))) =
     ap (λ ps. record { values = (place_at rows a (near meta ca p)).values; partners = ps })
@@ -372,11 +371,11 @@ pub record IsPair (meta : MetaDesc) (rows : List Row) (p a b n f : ℕ) : Type 0
   pub a_placed : IsPlaced meta rows a ca
   pub b_placed : IsPlaced meta rows b cb
 
-pub pair_of : (meta : MetaDesc) (rows : List Row) (v : ModelData) (number : List ℕ → Option ℕ) (live p a b n f : ℕ) → IsTied meta rows number live → seen meta rows ≡ v
+pub pair_of : (meta : MetaDesc) (rows : List Row) (v : ModelData) (finds : List ℕ → ℕ → Type 0) (live p a b n f : ℕ) → IsTied meta rows finds live → seen meta rows ≡ v
     → IsReferenceOf v a p → IsSome (object_at v b)
     → ((c : ℕ) → class_at v a ≡ Some c → n ≡ near v.meta c p) → ((c : ℕ) → class_at v b ≡ Some c → f ≡ far v.meta c p)
     → IsPair meta rows p a b n f
-pair_of meta rows v number live p a b n f t e r l hn hf =
+pair_of meta rows v finds live p a b n f t e r l hn hf =
     let (cb, hb) = live_class v b l in
     let em : v.meta ≡ meta = ap (λ x. x.meta) (sym e) in
     record {
@@ -387,8 +386,8 @@ pair_of meta rows v number live p a b n f t e r l hn hf =
       has = subst (λ m. Contains (props_of m r.class) p) em r.has;
       near_is = hn r.class r.class_is ∙ ap (λ m. near m r.class p) em;
       far_is = hf cb hb ∙ ap (λ m. far m cb p) em;
-      a_placed = placed meta rows number live a r.class t (class_of_rows meta rows v a r.class e r.class_is);
-      b_placed = placed meta rows number live b cb t (class_of_rows meta rows v b cb e hb);
+      a_placed = placed meta rows finds live a r.class t (class_of_rows meta rows v a r.class e r.class_is);
+      b_placed = placed meta rows finds live b cb t (class_of_rows meta rows v b cb e hb);
     }
 
 pub pair-near : (meta : MetaDesc) (rows : List Row) (p a b n f : ℕ) → IsPair meta rows p a b n f → n < length (row_at rows a).places
@@ -409,9 +408,9 @@ pair-linked meta rows v p a b n f e s c =
     (ap (λ k. map (λ x. x.0) (joined_at rows a k)) s.near_is ∙ sym (partners_seen meta rows v a p s.ca e (ap (λ x. class_at x a) (sym e) ∙ class_seen meta rows a ∙ s.a_is)))
     (contains_map (λ x. x.0) (joined_at rows a n) (b, f) c)
 
-pub pair-joined : (meta : MetaDesc) (rows : List Row) (v : ModelData) (number : List ℕ → Option ℕ) (live p a b n f : ℕ) → IsTied meta rows number live → seen meta rows ≡ v → IsPair meta rows p a b n f
+pub pair-joined : (meta : MetaDesc) (rows : List Row) (v : ModelData) (finds : List ℕ → ℕ → Type 0) (live p a b n f : ℕ) → IsTied meta rows finds live → seen meta rows ≡ v → IsPair meta rows p a b n f
     → Contains (partners_at v a p) b → Contains (joined_at rows a n) (b, f)
-pair-joined meta rows v number live p a b n f t e s c =
+pair-joined meta rows v finds live p a b n f t e s c =
     let d : Contains (map (λ x. x.0) (joined_at rows a (near meta s.ca p))) b =
     subst (λ xs. Contains xs b) (partners_seen meta rows v a p s.ca e (ap (λ x. class_at x a) (sym e) ∙ class_seen meta rows a ∙ s.a_is)) c in
     let (x, cx, ex) = Contains-from_map (λ x. x.0) (joined_at rows a (near meta s.ca p)) b d in
@@ -421,26 +420,26 @@ pair-joined meta rows v number live p a b n f t e s c =
     let whole : x ≡ (b, f) = ap (λ k. (k, x.1)) ex ∙ ap (λ k. (b, k)) place in
     subst (λ k. Contains (joined_at rows a k) (b, f)) (sym s.near_is) (subst (λ y. Contains (joined_at rows a (near meta s.ca p)) y) whole cx)
 
-pub pair-tied_link : (meta : MetaDesc) (rows new : List Row) (number : List ℕ → Option ℕ) (live p a b n f : ℕ) → IsTied meta rows number live → IsPair meta rows p a b n f
-    → new ≡ with_last (with_last rows a n (b, f)) b f (a, n) → IsTied meta new number live
-pair-tied_link meta rows new number live p a b n f t s e =
-    subst (λ rs. IsTied meta rs number live)
+pub pair-tied_link : (meta : MetaDesc) (rows new : List Row) (finds : List ℕ → ℕ → Type 0) (live p a b n f : ℕ) → IsTied meta rows finds live → IsPair meta rows p a b n f
+    → new ≡ with_last (with_last rows a n (b, f)) b f (a, n) → IsTied meta new finds live
+pair-tied_link meta rows new finds live p a b n f t s e =
+    subst (λ rs. IsTied meta rs finds live)
     (sym (e ∙ ap (λ k. with_last (with_last rows a k (b, f)) b f (a, k)) s.near_is ∙ ap (λ k. with_last (with_last rows a (near meta s.ca p) (b, k)) b k (a, near meta s.ca p)) s.far_is))
-    (tied-link meta rows number live p a s.ca b s.cb t s.a_is s.b_is s.has)
+    (tied-link meta rows finds live p a s.ca b s.cb t s.a_is s.b_is s.has)
 
-pub pair-seen_link : (meta : MetaDesc) (rows new : List Row) (v : ModelData) (number : List ℕ → Option ℕ) (live p a b n f : ℕ) → IsTied meta rows number live → seen meta rows ≡ v → IsPair meta rows p a b n f
+pub pair-seen_link : (meta : MetaDesc) (rows new : List Row) (v : ModelData) (finds : List ℕ → ℕ → Type 0) (live p a b n f : ℕ) → IsTied meta rows finds live → seen meta rows ≡ v → IsPair meta rows p a b n f
     → new ≡ with_last (with_last rows a n (b, f)) b f (a, n) → seen meta new ≡ linked v p a b
-pair-seen_link meta rows new v number live p a b n f t ev s e =
+pair-seen_link meta rows new v finds live p a b n f t ev s e =
     ap (seen meta) (e ∙ ap (λ k. with_last (with_last rows a k (b, f)) b f (a, k)) s.near_is ∙ ap (λ k. with_last (with_last rows a (near meta s.ca p) (b, k)) b k (a, near meta s.ca p)) s.far_is)
-    ∙ seen-link meta rows v number live p a s.ca b s.cb t ev s.a_is s.b_is
+    ∙ seen-link meta rows v finds live p a s.ca b s.cb t ev s.a_is s.b_is
 
-pub pair-tied_unlink : (meta : MetaDesc) (rows new : List Row) (number : List ℕ → Option ℕ) (live a b n f : ℕ) → IsTied meta rows number live
-    → new ≡ without_join (without_join rows a n (b, f)) b f (a, n) → IsTied meta new number live
-pair-tied_unlink meta rows new number live a b n f t e =
-    subst (λ rs. IsTied meta rs number live) (sym e) (tied-unlink meta rows number live a n b f (b, f) (a, n) t)
+pub pair-tied_unlink : (meta : MetaDesc) (rows new : List Row) (finds : List ℕ → ℕ → Type 0) (live a b n f : ℕ) → IsTied meta rows finds live
+    → new ≡ without_join (without_join rows a n (b, f)) b f (a, n) → IsTied meta new finds live
+pair-tied_unlink meta rows new finds live a b n f t e =
+    subst (λ rs. IsTied meta rs finds live) (sym e) (tied-unlink meta rows finds live a n b f (b, f) (a, n) t)
 
-pub pair-seen_unlink : (meta : MetaDesc) (rows new : List Row) (v : ModelData) (number : List ℕ → Option ℕ) (live p a b n f : ℕ) → IsTied meta rows number live → seen meta rows ≡ v → IsPair meta rows p a b n f
+pub pair-seen_unlink : (meta : MetaDesc) (rows new : List Row) (v : ModelData) (finds : List ℕ → ℕ → Type 0) (live p a b n f : ℕ) → IsTied meta rows finds live → seen meta rows ≡ v → IsPair meta rows p a b n f
     → new ≡ without_join (without_join rows a n (b, f)) b f (a, n) → seen meta new ≡ unlinked v p a b
-pair-seen_unlink meta rows new v number live p a b n f t ev s e =
+pair-seen_unlink meta rows new v finds live p a b n f t ev s e =
     ap (seen meta) (e ∙ ap (λ k. without_join (without_join rows a k (b, f)) b f (a, k)) s.near_is ∙ ap (λ k. without_join (without_join rows a (near meta s.ca p) (b, k)) b k (a, near meta s.ca p)) s.far_is)
-    ∙ seen-unlink meta rows v number live p a s.ca b s.cb t ev s.a_is s.b_is s.has
+    ∙ seen-unlink meta rows v finds live p a s.ca b s.cb t ev s.a_is s.b_is s.has

@@ -29,9 +29,9 @@ pub record IsFound (meta : MetaDesc) (rows : List Row) (v : ModelData) (o k : �
   pub at : k ≡ nameless meta prop
   pub place : e.1 ≡ near meta property.class prop
 
-pub found_at : (meta : MetaDesc) (rows : List Row) (number : List ℕ → Option ℕ) (live o c k : ℕ) (e : ℕ × ℕ) (v : ModelData) → IsTied meta rows number live
+pub found_at : (meta : MetaDesc) (rows : List Row) (finds : List ℕ → ℕ → Type 0) (live o c k : ℕ) (e : ℕ × ℕ) (v : ModelData) → IsTied meta rows finds live
     → IsMutual rows → seen meta rows ≡ v → Kept v → class_at v o ≡ Some c → k < 2 → Contains (joined_at rows o k) e → IsFound meta rows v o k e
-found_at meta rows number live o c k e v t both sn kept hc small there =
+found_at meta rows finds live o c k e v t both sn kept hc small there =
     let f = t.near_ends o c k e (class_of_rows meta rows v o c sn hc) small there in
     let em : meta ≡ v.meta = ap (λ m. m.meta) sn in
     let ha : class_at v e.0 ≡ Some f.class = ap (λ m. class_at m e.0) (sym sn) ∙ (class_seen meta rows e.0 ∙ f.class_is) in
@@ -47,7 +47,7 @@ found_at meta rows number live o c k e v t both sn kept hc small there =
       property = record {
         class = f.class;
         class_is = f.class_is;
-        known = (placed meta rows number live e.0 f.class t f.class_is).class;
+        known = (placed meta rows finds live e.0 f.class t f.class_is).class;
         behind = omega (arith, f.place);
         property = omega arith;
       };
@@ -64,7 +64,7 @@ found_at meta rows number live o c k e v t both sn kept hc small there =
         let pair : IsPairOf v.meta p q = pair_of_opposites v.meta p q kept.well is in
         let partner : IsPartnerFor v p o = (kept.references e.0 p r).partners o linked in
         let ec : partner.class ≡ c = same_class v o partner.class c partner.class_is hc in
-        let lc : c < class_count v.meta = subst (λ (m : MetaDesc). c < class_count m) (ap (λ m. m.meta) sn) (placed_seen meta rows number live o c v t sn hc).class in
+        let lc : c < class_count v.meta = subst (λ (m : MetaDesc). c < class_count m) (ap (λ m. m.meta) sn) (placed_seen meta rows finds live o c v t sn hc).class in
         let has : Contains (props_of v.meta c) q = pair.near_has c lc (subst (λ (x : ℕ). ConformsTo v.meta x (type_of v.meta p)) ec partner.conforms) in
         let is_far : far v.meta c p ≡ suc (suc (index_of (props_of v.meta c) q)) =
         ap (λ y. far_among (props_of v.meta c) y (nameless v.meta p)) is ∙ far-among_back (props_of v.meta c) q (nameless v.meta p) (index-within (props_of v.meta c) q has) in
@@ -76,9 +76,9 @@ pub record IsThere (meta : MetaDesc) (rows : List Row) (o a p : ℕ) : Type 0 wh
   pub there : Contains (joined_at rows o (nameless meta p)) end
   pub link : link_of meta rows end ≡ (record { 0 = a }, record { 0 = p })
 
-pub there_at : (meta : MetaDesc) (rows : List Row) (number : List ℕ → Option ℕ) (live o a p : ℕ) (v : ModelData) → IsTied meta rows number live → IsMutual rows
+pub there_at : (meta : MetaDesc) (rows : List Row) (finds : List ℕ → ℕ → Type 0) (live o a p : ℕ) (v : ModelData) → IsTied meta rows finds live → IsMutual rows
     → seen meta rows ≡ v → IsIncoming v o a p → IsThere meta rows o a p
-there_at meta rows number live o a p v t both sn h =
+there_at meta rows finds live o a p v t both sn h =
     let r : IsReferenceOf v a p = h.reference in
     let em : meta ≡ v.meta = ap (λ m. m.meta) sn in
     let ca : class_in rows a ≡ Some r.class = class_of_rows meta rows v a r.class sn r.class_is in
@@ -109,33 +109,33 @@ pub record IsFoundBy (meta : MetaDesc) (rows : List Row) (v : ModelData) (o : �
   pub at : ℕ
   pub found : IsFound meta rows v o at e
 
-found_by : (meta : MetaDesc) (rows : List Row) (number : List ℕ → Option ℕ) (live o c : ℕ) (e : ℕ × ℕ) (v : ModelData) → IsTied meta rows number live
+found_by : (meta : MetaDesc) (rows : List Row) (finds : List ℕ → ℕ → Type 0) (live o c : ℕ) (e : ℕ × ℕ) (v : ModelData) → IsTied meta rows finds live
     → IsMutual rows → seen meta rows ≡ v → Kept v → class_at v o ≡ Some c → Contains (near_ends rows o) e → IsFoundBy meta rows v o e
-found_by meta rows number live o c e v t both sn kept hc there =
+found_by meta rows finds live o c e v t both sn kept hc there =
     elim (Contains-append_cases (joined_at rows o 0) (joined_at rows o 1) e there) [
-      | inl h ↦ record { at = 0; found = found_at meta rows number live o c 0 e v t both sn kept hc (omega arith) h }
-      | inr h ↦ record { at = 1; found = found_at meta rows number live o c 1 e v t both sn kept hc (omega arith) h }
+      | inl h ↦ record { at = 0; found = found_at meta rows finds live o c 0 e v t both sn kept hc (omega arith) h }
+      | inr h ↦ record { at = 1; found = found_at meta rows finds live o c 1 e v t both sn kept hc (omega arith) h }
     ]
 
-pub all_of_property : (meta : MetaDesc) (rows : List Row) (number : List ℕ → Option ℕ) (live o : ℕ) (v : ModelData) → IsTied meta rows number live
+pub all_of_property : (meta : MetaDesc) (rows : List Row) (finds : List ℕ → ℕ → Type 0) (live o : ℕ) (v : ModelData) → IsTied meta rows finds live
     → IsMutual rows → seen meta rows ≡ v → Kept v → IsLive v o → All (IsOfProperty meta rows) (near_ends rows o)
-all_of_property meta rows number live o v t both sn kept l i d within =
+all_of_property meta rows finds live o v t both sn kept l i d within =
     let (c, hc) = live_class v o l in
-    (found_by meta rows number live o c (get_or (near_ends rows o) i d) v t both sn kept hc (Contains-get_or (near_ends rows o) i d within)).found.property
+    (found_by meta rows finds live o c (get_or (near_ends rows o) i d) v t both sn kept hc (Contains-get_or (near_ends rows o) i d within)).found.property
 
-pub only_incoming : (meta : MetaDesc) (rows : List Row) (number : List ℕ → Option ℕ) (live o : ℕ) (v : ModelData) → IsTied meta rows number live
+pub only_incoming : (meta : MetaDesc) (rows : List Row) (finds : List ℕ → ℕ → Type 0) (live o : ℕ) (v : ModelData) → IsTied meta rows finds live
     → IsMutual rows → seen meta rows ≡ v → Kept v → IsLive v o → All (λ l. IsIncoming v o l.0.0 l.1.0) (map (link_of meta rows) (near_ends rows o))
-only_incoming meta rows number live o v t both sn kept l i d within =
+only_incoming meta rows finds live o v t both sn kept l i d within =
     let (c, hc) = live_class v o l in
     let x : ObjId × PropId = get_or (map (link_of meta rows) (near_ends rows o)) i d in
     let (e, ce, ee) = Contains-from_map (link_of meta rows) (near_ends rows o) x (Contains-get_or (map (link_of meta rows) (near_ends rows o)) i d within) in
-    let f = (found_by meta rows number live o c e v t both sn kept hc ce).found in
+    let f = (found_by meta rows finds live o c e v t both sn kept hc ce).found in
     subst (λ (z : ObjId × PropId). IsIncoming v o z.0.0 z.1.0) ee (subst (λ (p : ℕ). IsIncoming v o e.0 p) (sym f.prop_is) f.incoming)
 
-pub all_incoming : (meta : MetaDesc) (rows : List Row) (number : List ℕ → Option ℕ) (live o : ℕ) (v : ModelData) → IsTied meta rows number live
+pub all_incoming : (meta : MetaDesc) (rows : List Row) (finds : List ℕ → ℕ → Type 0) (live o : ℕ) (v : ModelData) → IsTied meta rows finds live
     → IsMutual rows → seen meta rows ≡ v → (a p : ℕ) → IsIncoming v o a p → Contains (map (link_of meta rows) (near_ends rows o)) (record { 0 = a }, record { 0 = p })
-all_incoming meta rows number live o v t both sn a p h =
-    let s : IsThere meta rows o a p = there_at meta rows number live o a p v t both sn h in
+all_incoming meta rows finds live o v t both sn a p h =
+    let s : IsThere meta rows o a p = there_at meta rows finds live o a p v t both sn h in
     let here : Contains (near_ends rows o) s.end = at_place (nameless meta p) (nameless-below meta p) s.end s.there in
     subst (Contains (map (link_of meta rows) (near_ends rows o))) s.link (contains_map (link_of meta rows) (near_ends rows o) s.end here)
   where
@@ -165,9 +165,9 @@ apart_append xs ys one two none i j d before within same = elim (cases_lt j (len
       ])
 ]
 
-pub once_incoming : (meta : MetaDesc) (rows : List Row) (number : List ℕ → Option ℕ) (live o : ℕ) (v : ModelData) → IsTied meta rows number live
+pub once_incoming : (meta : MetaDesc) (rows : List Row) (finds : List ℕ → ℕ → Type 0) (live o : ℕ) (v : ModelData) → IsTied meta rows finds live
     → IsMutual rows → IsSingle rows → seen meta rows ≡ v → Kept v → IsLive v o → AllPairs (λ k l. k ≢ l) (map (link_of meta rows) (near_ends rows o))
-once_incoming meta rows number live o v t both once sn kept l i j d before within same =
+once_incoming meta rows finds live o v t both once sn kept l i j d before within same =
     let (c, hc) = live_class v o l in
     let zs : List (ℕ × ℕ) = near_ends rows o in
     let none : ℕ × ℕ = (0, 0) in
@@ -175,8 +175,8 @@ once_incoming meta rows number live o v t both once sn kept l i j d before withi
     let li : i < length zs = omega arith in
     let x : ℕ × ℕ = get_or zs i none in
     let y : ℕ × ℕ = get_or zs j none in
-    let fx = (found_by meta rows number live o c x v t both sn kept hc (Contains-get_or zs i none li)).found in
-    let fy = (found_by meta rows number live o c y v t both sn kept hc (Contains-get_or zs j none lj)).found in
+    let fx = (found_by meta rows finds live o c x v t both sn kept hc (Contains-get_or zs i none li)).found in
+    let fy = (found_by meta rows finds live o c y v t both sn kept hc (Contains-get_or zs j none lj)).found in
     let links : link_of meta rows x ≡ link_of meta rows y =
     sym (get_or-map (link_of meta rows) zs i none d li) ∙ (same ∙ get_or-map (link_of meta rows) zs j none d lj) in
     let object : x.0 ≡ y.0 = ap (λ z. z.0.0) links in
@@ -187,8 +187,8 @@ once_incoming meta rows number live o v t both once sn kept l i j d before withi
     let is : x ≡ y = ap (λ (n : ℕ). (n, x.1)) object ∙ ap (λ (n : ℕ). (y.0, n)) place in
     apart_append (joined_at rows o 0) (joined_at rows o 1) (once o 0) (once o 1)
     (λ e a b.
-    let fa = found_at meta rows number live o c 0 e v t both sn kept hc (omega arith) a in
-    let fb = found_at meta rows number live o c 1 e v t both sn kept hc (omega arith) b in
+    let fa = found_at meta rows finds live o c 0 e v t both sn kept hc (omega arith) a in
+    let fb = found_at meta rows finds live o c 1 e v t both sn kept hc (omega arith) b in
     let one : fa.prop ≡ fb.prop = sym fa.prop_is ∙ fb.prop_is in
     let z : 0 ≡ 1 = fa.at ∙ (ap (nameless meta) one ∙ sym fb.at) in
     absurd (omega arith))

@@ -2,7 +2,7 @@
 use Rattle.std.proofs.Common.{◌≡◌, ◌≢◌, ℕ, ◌+◌, ◌<◌, ◌^◌, zero, suc, List, [], ◌∷◌, length, get_or, map, drop, refl, ap, sym, ◌∙◌, arith, subst, Option, Some, None, Bool, true, false, cond, inl, inr, rules}
 use Rattle.std.specs.Prelude.{Contains, option_map, encode_utf8_all, chars, ◌==◌, IsSome, All}
 use Rattle.std.specs.Str.{IsUtf8}
-use Rattle.std.proofs.lemmas.Str.{encodes-chars, encodes_same}
+use Rattle.std.proofs.lemmas.Str.{encodes-chars}
 use Rattle.std.proofs.lemmas.Bool.{cases_lt, eqb-true}
 use Rattle.std.proofs.Common.{eq-eqb}
 use Rattle.std.proofs.lemmas.List.{get_or-map, get_or_past, length-map, get_or-drop}
@@ -59,8 +59,8 @@ class_named rows o c e = of_option (named_in rows o) e where
   of_option None h = absurd cc
   of_option (Some n) h = (n, refl, cc)
 
-pub placed : (meta : MetaDesc) (rows : List Row) (number : List ℕ → Option ℕ) (live o c : ℕ) → IsTied meta rows number live → class_in rows o ≡ Some c → IsPlaced meta rows o c
-placed meta rows number live o c t e =
+pub placed : (meta : MetaDesc) (rows : List Row) (finds : List ℕ → ℕ → Type 0) (live o c : ℕ) → IsTied meta rows finds live → class_in rows o ≡ Some c → IsPlaced meta rows o c
+placed meta rows finds live o c t e =
     let (n, en, ec) = class_named rows o c e in
     let s = t.shaped o n en in
     record {
@@ -71,8 +71,8 @@ placed meta rows number live o c t e =
     }
 
 -- the same of a class that the model shows
-pub placed_seen : (meta : MetaDesc) (rows : List Row) (number : List ℕ → Option ℕ) (live o c : ℕ) (v : ModelData) → IsTied meta rows number live → seen meta rows ≡ v → class_at v o ≡ Some c → IsPlaced meta rows o c
-placed_seen meta rows number live o c v t e h = placed meta rows number live o c t (sym (class_seen meta rows o) ∙ ap (λ x. class_at x o) e ∙ h)
+pub placed_seen : (meta : MetaDesc) (rows : List Row) (finds : List ℕ → ℕ → Type 0) (live o c : ℕ) (v : ModelData) → IsTied meta rows finds live → seen meta rows ≡ v → class_at v o ≡ Some c → IsPlaced meta rows o c
+placed_seen meta rows finds live o c v t e h = placed meta rows finds live o c t (sym (class_seen meta rows o) ∙ ap (λ x. class_at x o) e ∙ h)
 
 -- ---- slots
 
@@ -113,26 +113,19 @@ partners_seen meta rows v o p c e h =
 
 -- ---- identifiers
 
-pub id_found : (meta : MetaDesc) (rows : List Row) (number : List ℕ → Option ℕ) (live o : ℕ) (v : ModelData) (bytes : List ℕ) → IsTied meta rows number live → seen meta rows ≡ v → IsUtf8 bytes
-    → number bytes ≡ Some o → id_at v o ≡ Some (chars bytes)
-id_found meta rows number live o v bytes t e u h =
-    ap (λ x. id_at x o) (sym e) ∙ id_seen meta rows o ∙ of_option (named_in rows o) (t.named bytes o h) where
-      of_option : (x : Option Named) → option_map (λ n. encode_utf8_all n.id) x ≡ Some bytes → option_map (λ n. n.id) x ≡ Some (chars bytes)
-      of_option None h = absurd cc
-      of_option (Some n) h =
-          let w : encode_utf8_all n.id ≡ bytes = cc in
-          ap Some (encodes_same n.id (chars bytes) (w ∙ sym (encodes-chars bytes u)))
+pub id_found : (meta : MetaDesc) (rows : List Row) (o : ℕ) (v : ModelData) (id : List ℕ) → seen meta rows ≡ v → option_map (λ n. n.id) (named_in rows o) ≡ Some id → id_at v o ≡ Some id
+id_found meta rows o v id e h = ap (λ x. id_at x o) (sym e) ∙ id_seen meta rows o ∙ h
 
-pub id_absent : (meta : MetaDesc) (rows : List Row) (number : List ℕ → Option ℕ) (live o : ℕ) (v : ModelData) (bytes : List ℕ) → IsTied meta rows number live → seen meta rows ≡ v → IsUtf8 bytes
-    → number bytes ≡ None → id_at v o ≢ Some (chars bytes)
-id_absent meta rows number live o v bytes t e u h g =
-    of_option (named_in rows o) refl (sym (ap (λ x. id_at x o) (sym e) ∙ id_seen meta rows o) ∙ g) where
+pub id_absent : (meta : MetaDesc) (rows : List Row) (finds : List ℕ → ℕ → Type 0) (live o : ℕ) (v : ModelData) (bytes : List ℕ) → IsTied meta rows finds live → seen meta rows ≡ v → IsUtf8 bytes
+    → (finds bytes o → option_map (λ n. n.id) (named_in rows o) ≡ Some (chars bytes) → ⊥) → id_at v o ≢ Some (chars bytes)
+id_absent meta rows finds live o v bytes t e u h g =
+    let is : option_map (λ n. n.id) (named_in rows o) ≡ Some (chars bytes) = sym (id_seen meta rows o) ∙ ap (λ x. id_at x o) e ∙ g in
+    of_option (named_in rows o) refl is where
       of_option : (x : Option Named) → named_in rows o ≡ x → option_map (λ n. n.id) x ≡ Some (chars bytes) → ⊥
       of_option None en h' = absurd cc
       of_option (Some n) en h' =
           let w : n.id ≡ chars bytes = cc in
-          let z : number bytes ≡ Some o = sym (ap number (ap encode_utf8_all w ∙ encodes-chars bytes u)) ∙ t.numbered o n en in
-          absurd cc
+          h (subst (λ b. finds b o) (ap encode_utf8_all w ∙ encodes-chars bytes u) (t.found o n en)) (ap (option_map (λ n. n.id)) en ∙ h')
 
 pub near-within : (meta : MetaDesc) (rows : List Row) (o c p : ℕ) → IsPlaced meta rows o c → Contains (props_of meta c) p → near meta c p < length (row_at rows o).places
 near-within meta rows o c p s h = let i = index-within (props_of meta c) p h in let e = s.places in omega arith
@@ -174,9 +167,9 @@ live_from_class v o c h = of_option (object_at v o) h where
   of_option (Some ob) g = search rules
 
 -- the partners of an object are live
-pub partners_live : (meta : MetaDesc) (rows : List Row) (number : List ℕ → Option ℕ) (live : ℕ) (v : ModelData) (o p c : ℕ) → IsTied meta rows number live → seen meta rows ≡ v → class_at v o ≡ Some c → Contains (props_of meta c) p
+pub partners_live : (meta : MetaDesc) (rows : List Row) (finds : List ℕ → ℕ → Type 0) (live : ℕ) (v : ModelData) (o p c : ℕ) → IsTied meta rows finds live → seen meta rows ≡ v → class_at v o ≡ Some c → Contains (props_of meta c) p
     → All (λ b. IsSome (object_at v b)) (partners_at v o p)
-partners_live meta rows number live v o p c t e h hp k d l =
+partners_live meta rows finds live v o p c t e h hp k d l =
     let same : partners_at v o p ≡ map (λ x. x.0) (joined_at rows o (near meta c p)) = partners_seen meta rows v o p c e h in
     let here : Contains (partners_at v o p) (get_or (partners_at v o p) k d) = Contains-get_or (partners_at v o p) k d l in
     let (x, cx, ex) = Contains-from_map (λ x. x.0) (joined_at rows o (near meta c p)) _ (subst (λ xs. Contains xs (get_or (partners_at v o p) k d)) same here) in
@@ -184,9 +177,9 @@ partners_live meta rows number live v o p c t e h hp k d l =
     subst (λ b. IsSome (object_at v b)) ex (live_from_class v x.0 f.class (ap (λ m. class_at m x.0) (sym e) ∙ class_seen meta rows x.0 ∙ f.class_is))
 
 -- the class of an object is one of the metamodel, and concrete
-pub class_facts : (meta : MetaDesc) (rows : List Row) (number : List ℕ → Option ℕ) (live o : ℕ) (n : Named) (v : ModelData) → IsTied meta rows number live → seen meta rows ≡ v → Some n ≡ named_in rows o
+pub class_facts : (meta : MetaDesc) (rows : List Row) (finds : List ℕ → ℕ → Type 0) (live o : ℕ) (n : Named) (v : ModelData) → IsTied meta rows finds live → seen meta rows ≡ v → Some n ≡ named_in rows o
     → (n.class < class_count v.meta) × ((meta_class v.meta n.class).is_abstract ≡ false)
-class_facts meta rows number live o n v t e h =
+class_facts meta rows finds live o n v t e h =
     let s = t.shaped o n (sym h) in
     let em : meta ≡ v.meta = ap (λ m. m.meta) e in
     (subst (λ (m : MetaDesc). n.class < class_count m) em s.class, ap (λ m. (meta_class m n.class).is_abstract) (sym em) ∙ s.concrete)

@@ -1,6 +1,6 @@
 -- A model whose object has its partners in another order.
 use Rattle.std.proofs.Common.{◌≡◌, ℕ, List, map, ap, sym, ◌∙◌, subst, Some, inl, inr}
-use Rattle.std.specs.Prelude.{Contains, Option, IsPermutation}
+use Rattle.std.specs.Prelude.{Contains, IsPermutation}
 use Rattle.std.proofs.lemmas.List.Sorted.{Contains-permutation, IsPermutation-sym}
 use Rattle.link_arena.proofs.Orders.{AllPairs-permutation}
 use Rattle.mof_metamodel.specs.declared.desc.MetaDesc.{MetaDesc}
@@ -15,9 +15,9 @@ use Rattle.object_tables.proofs.ModelLemmas.{seen, partners_seen}
 use Rattle.object_tables.proofs.EditLemmas.{IsAlike, tied-alike, alike-with_place, joined-with_joined, seen-with_place}
 
 -- at a property no two places are of one object
-pub apart_at : (meta : MetaDesc) (rows : List Row) (number : List ℕ → Option ℕ) (live o c p k : ℕ) → IsTied meta rows number live → class_in rows o ≡ Some c → Contains (props_of meta c) p
+pub apart_at : (meta : MetaDesc) (rows : List Row) (finds : List ℕ → ℕ → Type 0) (live o c p k : ℕ) → IsTied meta rows finds live → class_in rows o ≡ Some c → Contains (props_of meta c) p
     → k ≡ near meta c p → AreOfObjects (joined_at rows o k)
-apart_at meta rows number live o c p k t hc hp ek x y cx cy same =
+apart_at meta rows finds live o c p k t hc hp ek x y cx cy same =
     let f = t.far_ends o c p x hc hp (subst (λ z. Contains (joined_at rows o z) x) ek cx) in
     let g = t.far_ends o c p y hc hp (subst (λ z. Contains (joined_at rows o z) y) ek cy) in
     let class : f.class ≡ g.class = (let z : Some f.class ≡ Some g.class = sym f.class_is ∙ ap (class_in rows) same ∙ g.class_is in cc) in
@@ -35,9 +35,9 @@ still_joined rows new o k i j order e r c =
           subst (λ z. Contains (joined_at rows z j) e) (sym w.0) (subst (λ z. Contains (joined_at rows o z) e) (sym w.1) here))
     ]
 
-pub tied-order : (meta : MetaDesc) (rows new : List Row) (number : List ℕ → Option ℕ) (live o k : ℕ) (order : List ℕ) → IsTied meta rows number live → IsReordered rows o k order new → IsTied meta new number live
-tied-order meta rows new number live o k order t r =
-    tied-alike meta rows new number live t
+pub tied-order : (meta : MetaDesc) (rows new : List Row) (finds : List ℕ → ℕ → Type 0) (live o k : ℕ) (order : List ℕ) → IsTied meta rows finds live → IsReordered rows o k order new → IsTied meta new finds live
+tied-order meta rows new finds live o k order t r =
+    tied-alike meta rows new finds live t
     (subst (λ rs. IsAlike rows rs) (sym r.is) (alike-with_place rows o k (λ p. record p { joined = r.joined })))
     (λ i c p e hc hp he. t.far_ends i c p e hc hp (still_joined rows new o k i (near meta c p) order e r he))
     (λ i c m e hc lm he. t.near_ends i c m e hc lm (still_joined rows new o k i m order e r he))

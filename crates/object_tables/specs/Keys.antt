@@ -10,3 +10,7 @@ no_key = record { start = sip.initial }
 -- these bytes stand before it besides
 abbrev pub after : HashKey → List ℕ → HashKey
 after key bytes = record { start = sip.write key.start bytes }
+
+-- the hash of a text of these bytes
+abbrev pub hash_after : HashKey → List ℕ → ℕ
+hash_after key bytes = sip.finish (sip.write key.start bytes)

@@ -18,3 +18,4 @@ pub mod Climbs
 pub mod Validity
 pub mod Words
 pub mod Keys
+pub mod Identifiers

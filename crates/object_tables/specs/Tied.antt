@@ -53,8 +53,8 @@ pub record IsNearEnd (meta : MetaDesc) (rows : List Row) (c k : ℕ) (e : ℕ ×
   pub place : e.1 ≡ near meta class prop
   pub back : far meta c prop ≡ k
 
--- what the parts of a model have to do with each other; `number` looks an identifier up by its bytes
-pub record IsTied (meta : MetaDesc) (rows : List Row) (number : List ℕ → Option ℕ) (live : ℕ) : Type 0 where
+-- what the parts of a model have to do with each other; `finds` says which objects are looked at for the bytes of an identifier
+pub record IsTied (meta : MetaDesc) (rows : List Row) (finds : List ℕ → ℕ → Type 0) (live : ℕ) : Type 0 where
   pub well : WellMeta meta
   pub few : length rows ≤ MAX_ADDED
   pub count : live ≡ count_by (λ r. is_some r.named) rows
@@ -62,5 +62,4 @@ pub record IsTied (meta : MetaDesc) (rows : List Row) (number : List ℕ → Opt
   pub far_ends : (o c p : ℕ) (e : ℕ × ℕ) → class_in rows o ≡ Some c → Contains (props_of meta c) p
       → Contains (joined_at rows o (near meta c p)) e → IsFarEnd meta rows p e
   pub near_ends : (o c k : ℕ) (e : ℕ × ℕ) → class_in rows o ≡ Some c → k < 2 → Contains (joined_at rows o k) e → IsNearEnd meta rows c k e
-  pub numbered : (o : ℕ) (n : Named) → named_in rows o ≡ Some n → number (encode_utf8_all n.id) ≡ Some o
-  pub named : (bytes : List ℕ) (o : ℕ) → number bytes ≡ Some o → option_map (λ n. encode_utf8_all n.id) (named_in rows o) ≡ Some bytes
+  pub found : (o : ℕ) (n : Named) → named_in rows o ≡ Some n → finds (encode_utf8_all n.id) o

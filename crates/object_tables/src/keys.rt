@@ -1,5 +1,5 @@
 ghost use Rattle.std.specs.Prelude.{◌≡◌, [], ◌∷◌};
-ghost use Rattle.object_tables.specs.Keys.{no_key, after};
+ghost use Rattle.object_tables.specs.Keys.{no_key, after, hash_after};
 
 use std::hash::{BuildHasher, DefaultHasher, Hasher};
 
@@ -35,6 +35,15 @@ impl HashKey {
         ensures { result ≡ after (after self text.now) (255 ∷ []) }
     {
         self.after(text.as_bytes()).after(&[0xff])
+    }
+
+    /// The hash of a text. In time linear in its length.
+    pub(crate) fn hash_of(self, text: &str) -> u64
+        ensures { result ≡ hash_after self text.now }
+    {
+        let mut hasher = self.start;
+        hasher.write(text.as_bytes());
+        hasher.finish()
     }
 }
 

@@ -16,13 +16,15 @@
 //! all objects. `first_breach`, `find_cycle` and `greatest_depth` are linear in the objects and their properties, and take
 //! four bytes for each object while they run. `validity` and `least_on_cycle` take no memory: they are linear where
 //! containers come before what they contain, and at worst the square of the number of objects. What takes memory is
-//! amortised. Identifiers are hashed by SipHash.
-//! An object takes one place for each property of its class and two more. A place that holds nothing takes eight bytes, one
-//! with values 24 more besides the values, one that is or was joined to others 40 more, and each link 48. A deleted object keeps its places.
+//! amortised. Identifiers are hashed by SipHash, and kept once.
+//! An object takes one place for each property of its class and two more. A place that holds nothing takes
+//! eight bytes, one with values 24 more besides the values, one that is or was joined to others 40 more, and
+//! each link 48. A deleted object keeps its places, and what its identifier was found by.
 #![tactic(auto)]
 
 mod breach;
 mod fault;
+mod identifiers;
 mod incoming;
 mod keys;
 mod limit;

@@ -17,6 +17,7 @@ mod links;
 mod orders;
 mod validity;
 
+use crate::identifiers::Identifiers;
 use crate::keys::HashKey;
 use crate::partners::Partners;
 use crate::places::{far_place, near_place};
@@ -24,21 +25,20 @@ use crate::tables::Tables;
 use crate::value::{ObjId, Value};
 use mof_metamodel::{ClassId, MetaModel, NoMemory, PropId, Seq, Text};
 use std::alloc::{AllocError, Global};
-use std::collections::HashMap;
 
 /// Objects of a metamodel's classes, their attribute values and their links (MOF 2.5.1, Reflection).
 #[derive(Drop)]
 pub struct Model<'m> {
     meta: &'m MetaModel,
     tables: Tables,
-    names: HashMap<String, u32, HashKey>,
+    identifiers: Identifiers,
     live: u32,
     alloc: Global,
 }
 
 impl<'m> std::marker::Model for Model<'m> {
     ghost use Rattle.std.specs.Prelude.{map};
-    ghost use Rattle.std.specs.HashMap.{get_by_text};
+    ghost use Rattle.object_tables.specs.Identifiers.{Finds};
     ghost use Rattle.object_tables.specs.Models.{ModelData};
     ghost use Rattle.object_tables.specs.Objects.{object_of};
     ghost use Rattle.object_tables.specs.Whole.{IsWhole};
@@ -47,7 +47,7 @@ impl<'m> std::marker::Model for Model<'m> {
 
     ghost view = { λ m. record { meta = m.meta.now; objects = map object_of m.tables } };
 
-    ghost invariant = { λ m. IsWhole m.meta.now m.tables (get_by_text m.names) m.live };
+    ghost invariant = { λ m. IsWhole m.meta.now m.tables (Finds m.identifiers) m.live };
 }
 
 impl<'m> Model<'m> {
@@ -66,7 +66,7 @@ impl<'m> Model<'m> {
         Model {
             meta,
             tables: Tables::new(alloc),
-            names: HashMap::with_hasher(alloc, key),
+            identifiers: Identifiers::new(alloc, key),
             live: 0,
             alloc,
         }
@@ -133,8 +133,8 @@ impl<'m> Model<'m> {
         ensures live { IfSome result (λ o. IsLive self.now o.0) }
         ensures none { IfNone result ((o : ℕ) → id_at self.now o ≢ Some (chars id.now)) }
     {
-        match self.names.get(id) {
-            Some(o) => Some(ObjId(*o)),
+        match self.identifiers.find(&self.tables, id) {
+            Some(o) => Some(ObjId(o)),
             None => None,
         }
     }

@@ -28,7 +28,7 @@ impl<'m> Model<'m> {
         if self.meta.is_abstract(class) {
             return Err(AddFault::Abstract);
         }
-        if self.names.contains_key(id.as_str()) {
+        if self.by_id(id.as_str()).is_some() {
             return Err(AddFault::DuplicateId);
         }
         let count = place_count(self.meta, class);
@@ -51,12 +51,6 @@ impl<'m> Model<'m> {
         ensures { self.new ≡ deleted self.old o.0 }
     {
         self.tables.clear(o.0);
-        match self.tables.named(o.0) {
-            Some(named) => {
-                self.names.remove(named.id.as_str());
-            }
-            None => unreachable!(),
-        }
         self.tables.forget(o.0);
         self.live -= 1;
     }
@@ -71,11 +65,8 @@ impl<'m> Model<'m> {
         ensures memory { IfErr result (λ e. e ≡ AddFault.NoMemory) }
         ensures err { OnErr result (self.new ≡ self.old) }
     {
-        let Ok(key) = String::from_str(self.alloc, id.as_str()) else {
-            return Err(AddFault::NoMemory);
-        };
         let number = self.tables.len() as u32;
-        let Ok(_) = self.names.insert(key, number) else {
+        let Ok(()) = self.identifiers.enter(&self.tables, id.as_str(), number) else {
             return Err(AddFault::NoMemory);
         };
         let class = class.0;
@@ -84,10 +75,7 @@ impl<'m> Model<'m> {
                 self.live += 1;
                 Ok(ObjId(number))
             }
-            Err(named) => {
-                self.names.remove(named.id.as_str());
-                Err(AddFault::NoMemory)
-            }
+            Err(_) => Err(AddFault::NoMemory),
         }
     }
 }

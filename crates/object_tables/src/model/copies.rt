@@ -13,11 +13,11 @@ impl<'m> Model<'m> {
         ensures same { IfOk result (λ copy. IsSame self.now copy) }
     {
         let tables = self.tables.duplicate(alloc)?;
-        let names = or_drop!(self.names.clone(); tables);
+        let identifiers = or_drop!(self.identifiers.duplicate(alloc); tables);
         Ok(Model {
             meta: self.meta,
             tables,
-            names,
+            identifiers,
             live: self.live,
             alloc,
         })

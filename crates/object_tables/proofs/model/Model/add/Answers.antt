@@ -1,6 +1,4 @@
 use Rattle.std.proofs.Common.{length, suc, arith, sym, ◌∙◌, ap, inl, inr}
-use Rattle.std.specs.Prelude.{is_some}
-use Rattle.std.specs.HashMap.{get_by_text}
 use Rattle.mof_metamodel.specs.Metamodels.{class_at as meta_class, props_of}
 use Rattle.mof_metamodel.proofs.PlaceLemmas.{props_few}
 use Rattle.object_tables.specs.Models.{ModelData}
@@ -22,36 +20,32 @@ returns-then-is_abstract-clause-causes c = (
   ap (λ m. (meta_class m.meta c.args.class.0).is_abstract) (sym c.self.view_is) ∙ sym c.is_abstract.ensures ∙ c.if-is_abstract.true,
 )
 
-pub returns-then-contains_key-clause-causes : goal.returns-then-contains_key-clause-causes
-returns-then-contains_key-clause-causes c = (
+pub returns-then-is_some-clause-causes : goal.returns-then-is_some-clause-causes
+returns-then-is_some-clause-causes c = (
   room_from _ _ _ _ _ c.self.invariant.tied c.self.view_is c.if-self-ge-MAX_OBJECTS.false (let e = c.len.ensures in let l = c.if-len-ge-MAX_ADDED.false in omega arith),
   ap (λ m. (meta_class m.meta c.args.class.0).is_abstract) (sym c.self.view_is) ∙ sym c.is_abstract.ensures ∙ c.if-is_abstract.false,
-  is_found _ _ _ _ _ c.args.id c.self.invariant.tied c.self.view_is
-      (ap (λ b. is_some (get_by_text c.self.inside.names b)) (sym c.as_str.ensures.bytes) ∙ sym c.contains_key.ensures ∙ c.if-contains_key.true),
+  is_found c.by_id.result c.args.self.now c.args.id c.as_str.result.now c.by_id.ensures.found c.as_str.ensures.characters (sym c.is_some.ensures ∙ c.if-is_some.true),
 )
 
 pub enter-requires-clause-addable : goal.enter-requires-clause-addable
 enter-requires-clause-addable c = record {
   room = room_from _ _ _ _ _ c.self.invariant.tied c.self.view_is c.if-self-ge-MAX_OBJECTS.false (let e = c.len.ensures in let l = c.if-len-ge-MAX_ADDED.false in omega arith);
   concrete = ap (λ m. (meta_class m.meta c.args.class.0).is_abstract) (sym c.self.view_is) ∙ sym c.is_abstract.ensures ∙ c.if-is_abstract.false;
-  new = is_absent _ _ _ _ _ c.args.id c.self.invariant.tied c.self.view_is
-      (ap (λ b. is_some (get_by_text c.self.inside.names b)) (sym c.as_str.ensures.bytes) ∙ sym c.contains_key.ensures ∙ c.if-contains_key.false);
+  new = is_absent c.by_id.result c.args.self.now c.args.id c.as_str.result.now c.by_id.ensures.none c.as_str.ensures.characters (sym c.is_some.ensures ∙ c.if-is_some.false);
 }
 
 pub returns-clause-causes_ok : goal.returns-clause-causes_ok
 returns-clause-causes_ok c = if_ok_any c.enter.result _ (record {
   room = room_from _ _ _ _ _ c.self.invariant.tied c.self.view_is c.if-self-ge-MAX_OBJECTS.false (let e = c.len.ensures in let l = c.if-len-ge-MAX_ADDED.false in omega arith);
   concrete = ap (λ m. (meta_class m.meta c.args.class.0).is_abstract) (sym c.self.view_is) ∙ sym c.is_abstract.ensures ∙ c.if-is_abstract.false;
-  new = is_absent _ _ _ _ _ c.args.id c.self.invariant.tied c.self.view_is
-      (ap (λ b. is_some (get_by_text c.self.inside.names b)) (sym c.as_str.ensures.bytes) ∙ sym c.contains_key.ensures ∙ c.if-contains_key.false);
+  new = is_absent c.by_id.result c.args.self.now c.args.id c.as_str.result.now c.by_id.ensures.none c.as_str.ensures.characters (sym c.is_some.ensures ∙ c.if-is_some.false);
 })
 
 pub returns-clause-causes : goal.returns-clause-causes
 returns-clause-causes c = memory_cause c.enter.result c.args.self.now c.args.class.0 c.args.id c.enter.ensures.memory (record {
   room = room_from _ _ _ _ _ c.self.invariant.tied c.self.view_is c.if-self-ge-MAX_OBJECTS.false (let e = c.len.ensures in let l = c.if-len-ge-MAX_ADDED.false in omega arith);
   concrete = ap (λ m. (meta_class m.meta c.args.class.0).is_abstract) (sym c.self.view_is) ∙ sym c.is_abstract.ensures ∙ c.if-is_abstract.false;
-  new = is_absent _ _ _ _ _ c.args.id c.self.invariant.tied c.self.view_is
-      (ap (λ b. is_some (get_by_text c.self.inside.names b)) (sym c.as_str.ensures.bytes) ∙ sym c.contains_key.ensures ∙ c.if-contains_key.false);
+  new = is_absent c.by_id.result c.args.self.now c.args.id c.as_str.result.now c.by_id.ensures.none c.as_str.ensures.characters (sym c.is_some.ensures ∙ c.if-is_some.false);
 })
 
 pub enter-requires-clause-count : goal.enter-requires-clause-count

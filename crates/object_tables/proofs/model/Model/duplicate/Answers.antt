@@ -1,4 +1,4 @@
-use Rattle.object_tables.proofs.CopyLemmas.{lookup_cloned, tied-copy}
+use Rattle.object_tables.proofs.CopyLemmas.{tied-copy}
 use Rattle.object_tables.proofs.SamenessLemmas.{same_as_equal}
 use Rattle.object_tables.proofs.WholeLemmas.{kept_unchanged}
 use Rattle.object_tables.proofs.ModelLemmas.{seen}
@@ -7,7 +7,7 @@ use Rattle.object_tables.proofs.model.Model.duplicate.Goals as goal
 
 pub invariant_of-result : goal.invariant_of-result
 invariant_of-result c = record {
-  tied = tied-copy _ _ _ _ _ _ c.self.invariant.tied c.in_ok-tables.ensures (λ cs. lookup_cloned cs _ _ c.in-Ok-or_drop.ensures.cases);
+  tied = tied-copy _ _ _ _ _ _ c.self.invariant.tied c.in_ok-tables.ensures c.in-Ok-or_drop.ensures;
   few = c.self.invariant.few;
   kept = kept_unchanged _ _ _ _ _ c.self.invariant c.in_ok-tables.ensures;
 }
