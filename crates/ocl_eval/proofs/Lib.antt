@@ -17,7 +17,7 @@ pub mod ClassLaws
 pub mod NavigationLaws
 pub mod FormLaws
 pub mod CollectLaws
-pub mod Measures
+pub mod FrameLaws
 pub mod ScopeLaws
 pub mod ReachLaws
 pub mod GrowingLaws

@@ -18,7 +18,7 @@ use Rattle.ocl_eval.specs.Progress.{begun, advanced, iterator_result}
 use Rattle.ocl_eval.specs.Worlds.{setting_of, queries_of, meaning_of, each_behind}
 use Rattle.ocl_eval.proofs.ProgressLaws.{iterated_by_steps}
 
-without_last : {X : Type 0} (xs : List X) (x : X) → take (length (xs ++ x ∷ []) - 1) (xs ++ x ∷ []) ≡ xs
+pub without_last : {X : Type 0} (xs : List X) (x : X) → take (length (xs ++ x ∷ []) - 1) (xs ++ x ∷ []) ≡ xs
 without_last xs x =
     let before : length (xs ++ x ∷ []) - 1 ≡ length xs = ap (λ n. n - 1) (length-append xs (x ∷ [])) ∙ omega arith in
     ap (λ n. take n (xs ++ x ∷ [])) before ∙ take-append_seam xs (x ∷ [])

@@ -1,4 +1,5 @@
 pub mod Counted
+pub mod Frames
 pub mod Growing
 pub mod Indexes
 pub mod Lending

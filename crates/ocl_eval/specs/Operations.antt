@@ -20,12 +20,6 @@ is_reading of_collections.AsSequence = false
 is_reading of_collections.AsOrderedSet = false
 is_reading operation = true
 
--- those that bring elements into the collection, of which its kind keeps what it keeps
-abbrev pub is_growing : CollectionOperation → Bool
-is_growing of_collections.Including = true
-is_growing of_collections.Union = true
-is_growing operation = false
-
 -- those that read, and take a single value
 abbrev pub with_element : CollectionOperation → Collection → Datum → Out
 with_element of_collections.Includes c d = collections.includes c d

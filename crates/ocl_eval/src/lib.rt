@@ -1,8 +1,8 @@
-//! The values of expressions (OCL 2.4, chapter 11): `eval` gives what `qvtr_semantics` says an expression is, by recursion on
-//! its tree and on the calls of queries. An evaluation takes time linear in what it looks at, with a logarithm for Sets and
-//! Bags, and a stack as deep as the tree and the calls of queries within one another: of more than `MAX_EVALUATIONS` levels it answers
-//! want of memory. A chain of `+` or `concat` looks at each part once, and one of `including` or `union` takes the time of its
-//! elements, with a logarithm.
+//! The values of expressions (OCL 2.4, chapter 11): `eval` gives what `qvtr_semantics` says an expression is. It is a machine that goes
+//! through the expression step by step: what waits for the value of a part is a frame on a stack of its own, so that no depth of an
+//! expression, and no number of queries that call one another, is paid from the stack of the program. An evaluation takes time and memory
+//! linear in what it looks at, with a logarithm for Sets and Bags. A chain of `+` or `concat` looks at each part once, and one of
+//! `including` or `union` takes the time of its elements, with a logarithm.
 //!
 //! Below it stand the operations on values: on single data, Integers, Strings, Booleans and collections, and what an iterator gives of
 //! the values of its body. Each function gives what its definition in `qvtr_semantics` says; an operation on a collection is
@@ -21,10 +21,11 @@ pub mod comparing;
 mod datum;
 mod equality;
 mod evaluation;
+mod frame;
 mod growing;
 mod integers;
 pub mod kinds;
-mod limits;
+mod machine;
 mod met;
 mod met_outs;
 mod models;
@@ -56,7 +57,6 @@ pub use integers::{
     absolute, integer, maximum, minimum, minus, negated, plus, quotient, remainder, sum, times,
 };
 pub use kinds::literal;
-pub use limits::MAX_EVALUATIONS;
 pub use models::Models;
 pub use navigation::held_at;
 pub use on_collections::on_collection;

@@ -2,7 +2,7 @@ ghost use Rattle.std.specs.Prelude.{◌≡◌, true, false, IfOk};
 ghost use Rattle.qvtr_semantics.specs.Outs.{Collection, given, datum_of, integer_of, collection_of};
 ghost use Rattle.qvtr_semantics.specs.Collections as definitions;
 ghost use Rattle.qvtr_semantics.specs.Expressions.{argument, on_collection};
-ghost use Rattle.ocl_eval.specs.Operations.{is_reading, is_growing, with_element, grown_by, with_other};
+ghost use Rattle.ocl_eval.specs.Operations.{is_reading, with_element, grown_by, with_other};
 
 use crate::collections::{
     append, at, excludes, excluding, first, includes, is_empty, last, not_empty, prepend, size,
@@ -43,16 +43,6 @@ fn is_reading(operation: CollectionOperation) -> bool
         | CollectionOperation::AsSequence
         | CollectionOperation::AsOrderedSet => false,
         _ => true,
-    }
-}
-
-/// Whether an operation brings elements into the collection, of which its kind keeps what it keeps.
-pub(crate) fn is_growing(operation: CollectionOperation) -> bool
-    ensures { result ≡ is_growing operation }
-{
-    match operation {
-        CollectionOperation::Including | CollectionOperation::Union => true,
-        _ => false,
     }
 }
 

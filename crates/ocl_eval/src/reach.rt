@@ -4,12 +4,11 @@ ghost use Rattle.qvtr_semantics.specs.Outs.{Collection, collection_of};
 ghost use Rattle.qvtr_semantics.specs.Collections.{including, union};
 ghost use Rattle.qvtr_semantics.specs.Expressions.{bound_value, scope_of, variable, with_datum, with_collection, on_collection};
 ghost use Rattle.ocl_eval.specs.Growing.{grown};
-ghost use Rattle.ocl_eval.specs.Operations.{is_growing};
 ghost use Rattle.ocl_eval.specs.Worlds.{reached_in};
 
 use crate::datum::duplicate_datum;
 use crate::growing::{Growing, single};
-use crate::on_collections::{argument, on_lent_collection};
+use crate::on_collections::on_lent_collection;
 use crate::outs::collection_of;
 use crate::reached::Reached;
 use crate::scope::Scope;
@@ -21,13 +20,11 @@ use std::marker::Model;
 use std::mem;
 
 /// The variables in reach of a part of an expression: those of a relation, whose values are lent, and behind
-/// them others. It also counts how many levels of evaluation may still be within the present one. Contracts see
-/// it as the list of the values, by their numbers.
+/// them others. Contracts see it as the list of the values, by their numbers.
 #[derive(Drop)]
 pub(crate) struct Reach<'b> {
     bound: &'b [Option<Datum>],
     others: Scope,
-    levels: usize,
 }
 
 impl<'b> Model for Reach<'b> {
@@ -73,24 +70,22 @@ fn owned(alloc: Global, bound: &[Option<Datum>], others: Scope) -> Result<Scope,
 impl<'b> Reach<'b> {
     /// The variables of a relation alone. It takes no memory.
     #[tactic(auto, using(crate::proofs::ReachLaws::none_behind))]
-    pub(crate) fn over(alloc: Global, bound: &'b [Option<Datum>], levels: usize) -> Reach<'b>
+    pub(crate) fn over(alloc: Global, bound: &'b [Option<Datum>]) -> Reach<'b>
         ensures { result ≡ scope_of bound.now }
     {
         Reach {
             bound,
             others: Scope::new(Seq::new(alloc)),
-            levels,
         }
     }
 
     /// The variables of a scope.
-    pub(crate) fn of(scope: Scope, levels: usize) -> Reach<'b>
+    pub(crate) fn of(scope: Scope) -> Reach<'b>
         ensures { result ≡ scope }
     {
         Reach {
             bound: &[],
             others: scope,
-            levels,
         }
     }
 
@@ -98,38 +93,11 @@ impl<'b> Reach<'b> {
     pub(crate) fn into_scope(self, alloc: Global) -> Result<Scope, NoMemory>
         ensures { IfOk result (λ scope. scope ≡ self.entry) }
     {
-        let Reach {
-            bound,
-            others,
-            levels: _,
-        } = self;
+        let Reach { bound, others } = self;
         if bound.is_empty() {
             return Ok(others);
         }
         owned(alloc, bound, others)
-    }
-
-    /// How many levels of evaluation may still be within the present one.
-    pub(crate) fn levels(&self) -> usize {
-        self.levels
-    }
-
-    /// Begins a level of evaluation. Want of memory where none may be any more.
-    pub(crate) fn begin_level(&mut self) -> Result<(), NoMemory>
-        ensures { OnOk result (self.new ≡ self.old) }
-    {
-        if self.levels == 0 {
-            return Err(NoMemory);
-        }
-        self.levels -= 1;
-        Ok(())
-    }
-
-    /// Ends a level of evaluation.
-    pub(crate) fn end_level(&mut self)
-        ensures { self.new ≡ self.old }
-    {
-        self.levels = self.levels.saturating_add(1);
     }
 
     /// The value of a variable; one that has none is invalid.
@@ -211,7 +179,12 @@ impl<'b> Reach<'b> {
 
     /// `x->including(argument)`
     #[tactic(auto, using(crate::proofs::GrowingLaws::nothing_grown))]
-    fn including(&self, alloc: Global, x: Reached, argument: Out) -> Result<Growing, NoMemory>
+    pub(crate) fn including(
+        &self,
+        alloc: Global,
+        x: Reached,
+        argument: Out,
+    ) -> Result<Growing, NoMemory>
         ensures { IfOk result (λ g. g ≡ with_collection (reached_in self.now x) (λ c. with_datum argument (including c))) }
     {
         match argument {
@@ -222,30 +195,17 @@ impl<'b> Reach<'b> {
 
     /// `x->union(argument)`
     #[tactic(auto, using(crate::proofs::GrowingLaws::nothing_grown))]
-    fn union(&self, alloc: Global, x: Reached, argument: Out) -> Result<Growing, NoMemory>
+    pub(crate) fn union(
+        &self,
+        alloc: Global,
+        x: Reached,
+        argument: Out,
+    ) -> Result<Growing, NoMemory>
         ensures { IfOk result (λ g. g ≡ with_collection (reached_in self.now x) (λ c. with_collection argument (union c))) }
     {
         match argument {
             Out::Many(kind, others) => self.grown(alloc, x, Some(kind), others),
             _ => Ok(Growing::invalid(alloc)),
-        }
-    }
-
-    /// What an operation that brings elements into a collection, with its arguments, makes of something reached.
-    pub(crate) fn growing(
-        &self,
-        alloc: Global,
-        x: Reached,
-        operation: CollectionOperation,
-        args: Seq<Out>,
-    ) -> Result<Growing, NoMemory>
-        requires { is_growing operation ≡ true }
-        ensures { IfOk result (λ g. g ≡ with_collection (reached_in self.now x) (λ c. on_collection operation c args)) }
-    {
-        match operation {
-            CollectionOperation::Including => self.including(alloc, x, argument(args)),
-            CollectionOperation::Union => self.union(alloc, x, argument(args)),
-            _ => unreachable!(),
         }
     }
 
