@@ -9,6 +9,7 @@ pub mod StandingLaws
 pub mod TellingLaws
 pub mod ProgressLaws
 pub mod SearchLaws
+pub mod LevelLaws
 pub mod OrderLaws
 pub mod BindingLaws
 pub mod PublicLaws

@@ -1,10 +1,10 @@
--- A search finds exactly the bindings that are looked for: from a binding on those that it finds for each value of the next variable, and where
--- nothing is open the binding itself, if it meets the side.
-use Rattle.std.specs.Prelude.{◌≡◌, ◌≢◌, ◌⊎◌, ◌≤◌, ◌<◌, ◌+◌, ◌++◌, ℕ, zero, suc, Bool, true, false, List, [], ◌∷◌, length, Option, None, Some, is_some, slice_get, Contains, if◌then◌else◌}
-use Rattle.std.proofs.Common.{refl, sym, ap, subst, ◌∙◌, arith, inl, inr, take, get_or}
+-- What is looked for from a binding on: with each value of the next variable what is looked for from there, and where nothing is open the
+-- binding itself, if it meets the side.
+use Rattle.std.specs.Prelude.{◌≡◌, ◌≢◌, ◌⊎◌, ◌<◌, ◌++◌, ℕ, zero, suc, Bool, true, false, List, [], ◌∷◌, length, Option, None, Some, is_some, slice_get, Contains, if◌then◌else◌}
+use Rattle.std.proofs.Common.{refl, sym, ap, subst, ◌∙◌, arith, inl, inr}
 use Rattle.std.proofs.lemmas.Bool.{and_parts, and_from, true≢false, cases_eq}
-use Rattle.std.proofs.lemmas.List.{length-set, take_more, take_all}
-use Rattle.std.proofs.lemmas.List.Elements.{Contains-append_left, Contains-append_right, Contains-append_cases, Contains-push_cases}
+use Rattle.std.proofs.lemmas.List.{length-set}
+use Rattle.std.proofs.lemmas.List.Elements.{Contains-append_left, Contains-append_right, Contains-append_cases}
 use Rattle.mof_metamodel.proofs.Facts.{contains_first}
 use Rattle.qv_syntax.specs.declared.program.Rel.{Rel}
 use Rattle.qv_syntax.specs.declared.program.Dom.{Dom}
@@ -21,12 +21,12 @@ use Rattle.template_match.specs.Sides.{meets_side}
 use Rattle.template_match.specs.Problems.{Problem}
 use Rattle.template_match.specs.Pruning.{may_meet}
 use Rattle.template_match.specs.Joins.{are_joined, may_joins}
-use Rattle.template_match.specs.Search.{sought, is_vacant, is_open, is_any_open, with_value, missing, fits, may_fit, tested}
+use Rattle.template_match.specs.Search.{sought, is_vacant, is_open, is_any_open, with_value, fits, may_fit, tested}
 use Rattle.template_match.specs.Posed.{HasRoots, IsPosed, IsSought}
 use Rattle.template_match.specs.Prepared.{problem_in, IsPrepared}
-use Rattle.template_match.specs.Branches.{IsBranch, IsStuck, IsFound, IsFoundWith}
-use Rattle.template_match.proofs.ListLaws.{any_at, any_from}
-use Rattle.template_match.proofs.ValueLaws.{not_some, same_values, within_values, vacant_parts, vacant_from, same_place, other_place, some_missing, fewer_missing}
+use Rattle.template_match.specs.Branches.{IsBranch, IsStuck, IsFound}
+use Rattle.template_match.proofs.ListLaws.{any_at}
+use Rattle.template_match.proofs.ValueLaws.{not_some, same_values, within_values, vacant_parts, vacant_from, same_place, other_place}
 use Rattle.template_match.proofs.SideLaws.{meets_parts, valued}
 use Rattle.template_match.proofs.JoinLaws.{all_joined_from, all_joined_to, all_may}
 use Rattle.template_match.proofs.PruneLaws.{not_dropped}
@@ -54,14 +54,6 @@ not_open p a v none c within = by (value_at a v) refl
     by None e =
         let here : is_open p a v ≡ true = and_from (is_number_among v (sought p)) (is_vacant (slice_get a v)) (among_from v (sought p) c) (vacant_from a v within (ap is_some e)) in
         absurd (true≢false (sym (any_at (is_open p a) (sought p) v here c) ∙ none))
-
--- as many variables may get values as have none
-pub none_left : (p : Problem) (a : Values) → is_any_open p a ≡ true → missing a ≤ 0 → ⊥
-none_left p a any few =
-    let found = any_from (is_open p a) (sought p) any in
-    let open_one = opened p a found.0 found.2 in
-    let some = some_missing a found.0 open_one.within open_one.none in
-    omega (arith, some, few)
 
 -- ---- one value more
 
@@ -98,14 +90,8 @@ prepared_with s a v d c h is same =
       asked = h.asked;
     })
 
-pub left_with : (p : Problem) (a : Values) (v : ℕ) (d : Datum) (c : Values) (left : ℕ) → is_open p a v ≡ true → c ≡ with_value a v d → missing a ≤ left + 1 → missing c ≤ left
-left_with p a v d c left is same few =
-    let open_one = opened p a v is in
-    let fewer = fewer_missing a v d open_one.within open_one.none in
-    subst (λ x. missing x ≤ left) (sym same) (omega (arith, fewer, few))
-
 module _ (p : Problem) (a b : Values) (v : ℕ) (d : Datum) (is : is_open p a v ≡ true) where
-  sought_with : IsSought p a b → value_at b v ≡ Some d → IsSought p (with_value a v d) b
+  pub sought_with : IsSought p a b → value_at b v ≡ Some d → IsSought p (with_value a v d) b
   sought_with whole at = record {
     partial = record {
       places = whole.partial.places;
@@ -120,7 +106,7 @@ module _ (p : Problem) (a b : Values) (v : ℕ) (d : Datum) (is : is_open p a v 
       by w e (inl c) = inl c
       by w e (inr r) = inr (extends_with a v d (opened p a v is).none w e r)
 
-  sought_back : IsSought p (with_value a v d) b → IsSought p a b × (value_at b v ≡ Some d)
+  pub sought_back : IsSought p (with_value a v d) b → IsSought p a b × (value_at b v ≡ Some d)
   sought_back whole = (
     record {
       partial = record {
@@ -207,9 +193,6 @@ nothing_found p a olds none b = (λ c. inl c, by)
     by (inl c) = c
     by (inr whole) = absurd (none b whole)
 
-pub stopped_found : (p : Problem) (a : Values) (olds : List Values) (left : ℕ) (x : Bool) → x ≡ is_any_open p a → x ≡ true → missing a ≤ left → left ≡ 0 → IsFound p a olds olds
-stopped_found p a olds left x is some few no_more = nothing_found p a olds (λ b whole. none_left p a (sym is ∙ some) (subst (λ n. missing a ≤ n) no_more few))
-
 pub dropped_found : (p : Problem) (a : Values) (olds : List Values) (m : Bool) → length a ≡ length p.rel.vars → m ≡ may_fit p a → m ≡ false → IsFound p a olds olds
 dropped_found p a olds m places is against = nothing_found p a olds (λ b whole. true≢false (sym (fit b whole) ∙ sym is ∙ against))
   where
@@ -222,67 +205,14 @@ pub stuck_found : (p : Problem) (a : Values) (olds : List Values) (x : Bool) →
 stuck_found p a olds x posed places is some stuck =
     nothing_found p a olds (λ b whole. none_stuck p a b a posed whole (places ∙ sym whole.partial.places) (λ v d h. h) whole.partial.extends stuck (sym is ∙ some))
 
--- ---- the values of the next variable, one after another
+-- ---- the next variable
 
-pub none_found_with : (p : Problem) (a : Values) (v : ℕ) (olds : List Values) → IsFoundWith p a v [] olds olds
-none_found_with p a v olds b = (λ c. inl c, by)
-  where
-    by : Contains olds b ⊎ (IsSought p a b × ((d : Datum) × Contains [] d × (value_at b v ≡ Some d))) → Contains olds b
-    by (inl c) = c
-    by (inr x) = let (k, within, is) = x.1.1 in absurd (omega (arith, within))
-
--- the binding stood here, or is looked for and gives the variable one of the data
-abbrev HasValueIn : Problem → Values → Values → ℕ → List Datum → List Values → Type 0
-HasValueIn p a b v ds olds = Contains olds b ⊎ (IsSought p a b × ((e : Datum) × Contains ds e × (value_at b v ≡ Some e)))
-
-one_found_with : (p : Problem) (a : Values) (v : ℕ) (ds : List Datum) (d : Datum) (c : Values) (olds mids news : List Values) → is_open p a v ≡ true → c ≡ with_value a v d
-    → IsFoundWith p a v ds olds mids → IsFound p c mids news → IsFoundWith p a v (ds ++ d ∷ []) olds news
-one_found_with p a v ds d c olds mids news is same before found b = (λ x. first ((next b).0 x), last)
-  where
-    next : IsFound p (with_value a v d) mids news
-    next = subst (λ x. IsFound p x mids news) same found
-
-    earlier : HasValueIn p a b v ds olds → HasValueIn p a b v (ds ++ d ∷ []) olds
-    earlier (inl x) = inl x
-    earlier (inr x) = inr (x.0, (x.1.0, Contains-append_left ds (d ∷ []) x.1.0 x.1.1, x.1.2))
-
-    first : Contains mids b ⊎ IsSought p (with_value a v d) b → HasValueIn p a b v (ds ++ d ∷ []) olds
-    first (inl x) = earlier ((before b).0 x)
-    first (inr whole) =
-        let own = sought_back p a b v d is whole in
-        inr (own.0, (d, Contains-append_right ds (d ∷ []) d (contains_first d []), own.1))
-
-    by_value : IsSought p a b → (e : Datum) → value_at b v ≡ Some e → Contains ds e ⊎ (d ≡ e) → Contains news b
-    by_value whole e at (inl x) = (next b).1 (inl ((before b).1 (inr (whole, (e, x, at)))))
-    by_value whole e at (inr one) = (next b).1 (inr (sought_with p a b v d is whole (at ∙ ap (λ x. Some x) (sym one))))
-
-    last : HasValueIn p a b v (ds ++ d ∷ []) olds → Contains news b
-    last (inl x) = (next b).1 (inl ((before b).1 (inl x)))
-    last (inr x) = by_value x.0 x.1.0 x.1.2 (Contains-push_cases ds d x.1.0 x.1.1)
-
-pub next_found_with : (p : Problem) (a : Values) (v : ℕ) (xs : List Datum) (i : ℕ) (d : Datum) (c : Values) (olds mids news : List Values) → is_open p a v ≡ true → i < length xs → d ≡ get_or xs i d
-    → c ≡ with_value a v d → IsFoundWith p a v (take i xs) olds mids → IsFound p c mids news → IsFoundWith p a v (take (i + 1) xs) olds news
-next_found_with p a v xs i d c olds mids news is within item same before found =
-    subst (λ ds. IsFoundWith p a v ds olds news) (ap (λ x. take i xs ++ x ∷ []) item ∙ sym (take_more xs i d within)) (one_found_with p a v (take i xs) d c olds mids news is same before found)
-
-all_found_with : (p : Problem) (a : Values) (branch : Branch) (olds news : List Values) → IsBranch p a branch → IsFoundWith p a branch.variable branch.candidates olds news → IsFound p a olds news
-all_found_with p a branch olds news is found b = (λ c. forth ((found b).0 c), back)
-  where
-    forth : Contains olds b ⊎ (IsSought p a b × ((d : Datum) × Contains branch.candidates d × (value_at b branch.variable ≡ Some d))) → Contains olds b ⊎ IsSought p a b
-    forth (inl c) = inl c
-    forth (inr x) = inr x.0
-
-    back : Contains olds b ⊎ IsSought p a b → Contains news b
-    back (inl c) = (found b).1 (inl c)
-    back (inr whole) =
-        let own = (opened p a branch.variable is.opens).sought_is in
-        let val = valued p.program p.models p.rel (sought p) b branch.variable (meets_parts p.side (sought p) p.program p.models p.rel b whole.meets).have own in
-        (found b).1 (inr (whole, (val.value, is.named b val.value whole val.at, val.at)))
-
-pub done_found_with : (p : Problem) (a : Values) (branch : Branch) (i : ℕ) (olds news : List Values) → length branch.candidates ≤ i → IsBranch p a branch
-    → IsFoundWith p a branch.variable (take i branch.candidates) olds news → IsFound p a olds news
-done_found_with p a branch i olds news past is found =
-    all_found_with p a branch olds news is (subst (λ ds. IsFoundWith p a branch.variable ds olds news) (take_all i branch.candidates past) found)
+-- a binding that is looked for gives it one of its candidates
+pub branch_value : (p : Problem) (a b : Values) (branch : Branch) → IsBranch p a branch → IsSought p a b → (d : Datum) × Contains branch.candidates d × (value_at b branch.variable ≡ Some d)
+branch_value p a b branch is whole =
+    let own = (opened p a branch.variable is.opens).sought_is in
+    let val = valued p.program p.models p.rel (sought p) b branch.variable (meets_parts p.side (sought p) p.program p.models p.rel b whole.meets).have own in
+    (val.value, is.named b val.value whole val.at, val.at)
 
 -- two that agree on the variables that are sought are one
 pub one_binding : (p : Problem) (roots a b : Values) → IsSought p roots a → IsSought p roots b → ((v : ℕ) → Contains (sought p) v → value_at a v ≡ value_at b v) → a ≡ b

@@ -1,9 +1,8 @@
 -- Bindings as lists of values: when two are one, what a further value changes, and what an expression that is ready is in more than one.
-use Rattle.std.specs.Prelude.{◌≡◌, ◌≢◌, ◌≤◌, ◌<◌, ◌+◌, ℕ, zero, suc, true, false, List, [], ◌∷◌, length, Option, None, Some, is_some, slice_get}
+use Rattle.std.specs.Prelude.{◌≡◌, ◌≢◌, ◌<◌, ℕ, zero, suc, true, false, List, [], ◌∷◌, length, Option, None, Some, is_some, slice_get}
 use Rattle.std.proofs.Common.{refl, sym, ap, ◌∙◌, arith}
 use Rattle.std.proofs.lemmas.Bool.{true≢false}
 use Rattle.std.proofs.lemmas.List.{get_or-set_same, get_or-set_other}
-use Rattle.std.proofs.lemmas.List.Sums.{sum_by-set, sum_by-cons}
 use Rattle.object_tables.specs.Models.{ModelData}
 use Rattle.qv_syntax.specs.declared.program.Program.{Program}
 use Rattle.qv_syntax.specs.declared.typed.Typed.{Typed}
@@ -12,7 +11,7 @@ use Rattle.qvtr_semantics.specs.Expressions.{setting, queries_within, bound_valu
 use Rattle.qvtr_semantics.specs.Templates.{Values, value_at}
 use Rattle.qvtr_semantics.specs.Bindings.{Extends}
 use Rattle.template_match.specs.Ready.{is_known, is_ready}
-use Rattle.template_match.specs.Search.{is_vacant, with_value, is_missing, missing}
+use Rattle.template_match.specs.Search.{is_vacant, with_value}
 use Rattle.template_match.proofs.SteadyLaws.{steady}
 
 pub some_datum : (d e : Datum) → Some d ≡ Some e → d ≡ e
@@ -56,23 +55,6 @@ same_place a v d within = get_or-set_same a v (Some d) None within
 
 pub other_place : (a : Values) (v w : ℕ) (d : Datum) → w ≢ v → value_at (with_value a v d) w ≡ value_at a w
 other_place a v w d apart = get_or-set_other a v w (Some d) None apart
-
-pub missing_within : (a : Values) → missing a ≤ length a
-missing_within [] = omega arith
-missing_within (None ∷ a) = omega (arith, sum_by-cons is_missing None a, missing_within a)
-missing_within (Some d ∷ a) = omega (arith, sum_by-cons is_missing (Some d) a, missing_within a)
-
-pub some_missing : (a : Values) (v : ℕ) → v < length a → value_at a v ≡ None → 0 < missing a
-some_missing [] v within none = absurd (omega (arith, within))
-some_missing (None ∷ a) zero within none = omega (arith, sum_by-cons is_missing None a)
-some_missing (Some d ∷ a) zero within none = absurd (not_some d (sym none))
-some_missing (x ∷ a) (suc v) within none = let more = some_missing a v (omega (arith, within)) none in omega (arith, more, sum_by-cons is_missing x a)
-
-pub fewer_missing : (a : Values) (v : ℕ) (d : Datum) → v < length a → value_at a v ≡ None → missing (with_value a v d) + 1 ≡ missing a
-fewer_missing a v d within none =
-    let swapped = sum_by-set is_missing a v (Some d) None within in
-    let was : is_missing (value_at a v) ≡ 1 = ap is_missing none in
-    omega (arith, swapped, was)
 
 -- ---- values of expressions
 

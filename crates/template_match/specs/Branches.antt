@@ -45,7 +45,3 @@ IsNext p a (Some branch) = IsBranch p a branch
 -- what stood here, and the bindings that are looked for from this one on
 abbrev pub IsFound : Problem → Values → List Values → List Values → Type 0
 IsFound p a olds news = (b : Values) → Contains news b ↔ (Contains olds b ⊎ IsSought p a b)
-
--- the same of those that give the variable one of these data
-abbrev pub IsFoundWith : Problem → Values → ℕ → List Datum → List Values → List Values → Type 0
-IsFoundWith p a v ds olds news = (b : Values) → Contains news b ↔ (Contains olds b ⊎ (IsSought p a b × ((d : Datum) × Contains ds d × (value_at b v ≡ Some d))))

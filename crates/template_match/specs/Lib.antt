@@ -13,6 +13,7 @@ pub mod Each
 pub mod Posed
 pub mod Prepared
 pub mod Branches
+pub mod Levels
 pub mod Settled
 pub mod Marks
 pub mod Plans

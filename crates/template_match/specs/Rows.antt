@@ -38,6 +38,10 @@ next_order rows n r s = ordering_then (optional_order (cell_at rows n r) (cell_a
 abbrev pub row_order : List (List Datum) → ℕ → ℕ → ℕ → ℕ → Ordering
 row_order rows k n r s = ordering_then (optional_order (cell_at rows k r) (cell_at rows k s)) (next_order rows n r s)
 
+-- by their data in a column, and where these tie by another order
+abbrev pub order_with_ties : List (List Datum) → ℕ → (ℕ → ℕ → Ordering) → ℕ → ℕ → Ordering
+order_with_ties rows k ties r s = ordering_then (optional_order (cell_at rows k r) (cell_at rows k s)) (ties r s)
+
 -- the datum of the row in the column is this one
 abbrev pub is_with : List (List Datum) → ℕ → Datum → ℕ → Bool
 is_with rows k d r = is_eq (optional_order (cell_at rows k r) (Some d))

@@ -2,7 +2,7 @@
 -- of an object that has been chosen, from a conjunct that says what it is, from the objects at one of whose properties a value stands, from
 -- rows of tables, or from the objects of its class.
 use Rattle.std.specs.Prelude.{ℕ, Bool, true, false, ◌&&◌, List, [], ◌∷◌, map, Option, None, Some, is_some, slice_get, slice_set, if◌then◌else◌}
-use Rattle.std.specs.List.{list_any, sum_by}
+use Rattle.std.specs.List.{list_any}
 use Rattle.mof_metamodel.specs.declared.desc.ClassId.{ClassId}
 use Rattle.object_tables.specs.Models.{ModelData}
 use Rattle.qv_syntax.specs.declared.ty.Ty.{Ty}
@@ -127,14 +127,6 @@ data_in s (places.Rows table k numbers) = in_order (distinct (cells_in table.now
 
 abbrev pub with_value : Values → ℕ → Datum → Values
 with_value a v d = slice_set a v (Some d)
-
--- how many variables have no value
-abbrev pub is_missing : Option Datum → ℕ
-is_missing None = 1
-is_missing (Some d) = 0
-
-abbrev pub missing : Values → ℕ
-missing a = sum_by is_missing a
 
 -- the binding stands in a row of each join, and meets the side
 abbrev pub fits : Problem → Values → Bool

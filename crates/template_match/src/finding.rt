@@ -37,7 +37,7 @@ fn found_from(prepared: &Prepared<'_, '_, '_>, roots: &Binding) -> Result<Seq<Bi
     ensures { IfOk result (λ bs. IsFound (problem_in prepared.now) roots.now.values [] (values_of bs)) }
 {
     let mut found = Seq::new(prepared.task.alloc);
-    search_from(prepared, roots.values.len(), roots, &mut found)?;
+    search_from(prepared, roots, &mut found)?;
     Ok(found)
 }
 
@@ -71,10 +71,6 @@ fn found(task: &Task<'_, '_>, roots: &Binding) -> Result<Seq<Binding>, NoMemory>
     found_with(task, asked.as_slice(), roots)
 }
 
-/// The most variables that a search gives values. It nests a call for each, of up to 2 KB, and the stack is memory:
-/// so many take 2 MB of it, beside visits to relations and the values of expressions.
-const MAX_SEARCHED: usize = 1_024;
-
 /// The bindings of a side, in order, each once.
 fn all_found(task: &Task<'_, '_>, roots: &Binding) -> Result<Seq<Binding>, NoMemory>
     requires posed { IsPosed (problem_of task.now) roots.now.values }
@@ -82,9 +78,6 @@ fn all_found(task: &Task<'_, '_>, roots: &Binding) -> Result<Seq<Binding>, NoMem
     ensures exact { IfOk result (λ bs. (b : Values) → Contains (values_of bs) b ↔ IsSought (problem_of task.now) roots.now.values b) }
     ensures sorted { IfOk result (λ bs. AllPairs (IsLess (sought (problem_of task.now))) (values_of bs)) }
 {
-    if task.variables.len() > MAX_SEARCHED {
-        return Err(NoMemory);
-    }
     let found = found(task, roots)?;
     Ok(each_once(task.variables, found))
 }

@@ -9,7 +9,7 @@ ghost use Rattle.template_match.specs.Joins.{may_be_in, may_row, may_join, may_j
 use crate::column_order::ColumnOrder;
 use crate::join::Join;
 use crate::pruning::may_be_one;
-use crate::row_order::{next_with, numbers_with};
+use crate::row_order::{numbers_with, sorted_with};
 use crate::values::{datum_in, value_at};
 use qvtr_semantics::{Binding, Datum};
 
@@ -93,7 +93,7 @@ fn rows_in<'t>(
     let rows = join.table.rows();
     let numbers = numbers_with(rows, column, order, datum);
     match column_value(join.variables.as_slice(), binding, order.next) {
-        Some(other) => next_with(rows, order.next, numbers, other),
+        Some(other) => sorted_with(rows, order.next, numbers, other),
         None => numbers,
     }
 }

@@ -9,6 +9,8 @@
 //! A search takes the time of the partial bindings that it looks at. Each costs the number of variables, links,
 //! items and conjuncts of the relation, with the values of their expressions; the objects that hold a value take
 //! a logarithm, where the model has an index, and so do the rows with a datum or a pair of neighbouring data.
+//! It nests no calls: beside what it finds it keeps one binding, and of each variable that has got a value the
+//! candidates that are left for it.
 #![tactic(auto)]
 
 mod asked;

@@ -4,8 +4,9 @@ ghost use Rattle.std.specs.List.{dedup, range_with_len};
 ghost use Rattle.std.specs.List.Sorted.{IsPermutation, IsSorted, IsStrictlySortedBy};
 ghost use Rattle.std.specs.Option.{option_copied};
 ghost use Rattle.std.specs.Ordering.{eq_by_cmp};
+ghost use Rattle.std.specs.declared.cmp.Ordering.{Ordering};
 ghost use Rattle.template_match.specs.Order.{optional_order};
-ghost use Rattle.template_match.specs.Rows.{width, cell_at, next_order, row_order, is_with, IsRowOrder, AreRowOrders};
+ghost use Rattle.template_match.specs.Rows.{width, cell_at, next_order, row_order, order_with_ties, is_with, IsRowOrder, AreRowOrders};
 
 use crate::column_order::ColumnOrder;
 use crate::order::optional_order;
@@ -135,8 +136,24 @@ pub(crate) fn row_orders(alloc: Global, rows: &[Seq<Datum>]) -> Result<Seq<Colum
     Ok(orders)
 }
 
-/// Of numbers of rows in the order by a column and the next one those of the rows that have the datum in the
-/// first.
+/// Of numbers of rows in the order by a column, and where they tie by another one, those of the rows that have the
+/// datum in the column.
+pub(crate) fn sorted_with<'t>(
+    rows: &[Seq<Datum>],
+    column: usize,
+    numbers: &'t [usize],
+    datum: &Datum,
+) -> &'t [usize]
+    requires { (ties : ℕ → ℕ → Ordering) × IsStrictlySortedBy (order_with_ties rows.now column ties) numbers.now }
+    ensures { result.now ≡ filter (is_with rows.now column datum.now) numbers.now }
+{
+    let first = numbers.partition_point(|number| cell_order(rows, column, *number, datum).is_lt());
+    let rest = &numbers[first..];
+    let count = rest.partition_point(|number| cell_order(rows, column, *number, datum).is_le());
+    &rest[..count]
+}
+
+/// The same of the numbers in the order by a column and the next one.
 pub(crate) fn numbers_with<'t>(
     rows: &[Seq<Datum>],
     column: usize,
@@ -146,25 +163,5 @@ pub(crate) fn numbers_with<'t>(
     requires { IsStrictlySortedBy (row_order rows.now column order.now.next) order.now.numbers }
     ensures { result.now ≡ filter (is_with rows.now column datum.now) order.now.numbers }
 {
-    let numbers = order.numbers.as_slice();
-    let first = numbers.partition_point(|number| cell_order(rows, column, *number, datum).is_lt());
-    let rest = &numbers[first..];
-    let count = rest.partition_point(|number| cell_order(rows, column, *number, datum).is_le());
-    &rest[..count]
-}
-
-/// The same of numbers in the order by one column.
-pub(crate) fn next_with<'t>(
-    rows: &[Seq<Datum>],
-    column: usize,
-    numbers: &'t [usize],
-    datum: &Datum,
-) -> &'t [usize]
-    requires { IsStrictlySortedBy (next_order rows.now column) numbers.now }
-    ensures { result.now ≡ filter (is_with rows.now column datum.now) numbers.now }
-{
-    let first = numbers.partition_point(|number| cell_order(rows, column, *number, datum).is_lt());
-    let rest = &numbers[first..];
-    let count = rest.partition_point(|number| cell_order(rows, column, *number, datum).is_le());
-    &rest[..count]
+    sorted_with(rows, column, order.numbers.as_slice(), datum)
 }

@@ -1,7 +1,10 @@
-ghost use Rattle.std.specs.Prelude.{◌≡◌, ◌++◌, ◌≤◌, ◌+◌, false, IfOk, OnOk};
-ghost use Rattle.template_match.specs.Branches.{IsBranch, IsFound};
+//! The search: it gives one variable a value after another, and keeps what it has yet to try in a list of levels.
+ghost use Rattle.std.specs.Prelude.{◌≡◌, ◌++◌, ◌∷◌, ◌↔◌, false, reverse, Contains, IfOk, OnOk};
+ghost use Rattle.qvtr_semantics.specs.Templates.{Values};
+ghost use Rattle.template_match.specs.Branches.{IsFound};
+ghost use Rattle.template_match.specs.Levels.{IsBegun, AreLevels, AreMore, IsStep, IsFoundOrOwed};
 ghost use Rattle.template_match.specs.Prepared.{problem_in, IsPrepared};
-ghost use Rattle.template_match.specs.Search.{is_any_open, missing, fits, may_fit, tested, values_of};
+ghost use Rattle.template_match.specs.Search.{fits, may_fit, tested, values_of};
 ghost use Rattle.template_match.specs.Tasks.{problem_of};
 
 use crate::branch::Branch;
@@ -52,52 +55,101 @@ fn add_tested(
     Ok(())
 }
 
-/// Puts the bindings that are found from this one on, where so many variables may still get values, behind others.
-#[cycle(searching)]
-pub(crate) fn search_from(
+/// Looks at a binding: where a variable is open, the next one with its candidates, unless nothing is found from
+/// here on. Where none is, the binding is found, if it is one that is looked for.
+fn begin(
     prepared: &Prepared<'_, '_, '_>,
-    left: usize,
     binding: &Binding,
     found: &mut Seq<Binding>,
-) -> Result<(), NoMemory>
+) -> Result<Option<Branch>, NoMemory>
     requires prepared { IsPrepared prepared.now binding.now.values }
-    requires left { missing binding.now.values ≤ left }
-    ensures { OnOk result (IsFound (problem_in prepared.now) binding.now.values (values_of found.old) (values_of found.new)) }
+    ensures { IfOk result (IsBegun (problem_in prepared.now) binding.now.values (values_of found.old) (values_of found.new)) }
 {
     if !is_any_open(prepared, binding) {
-        return add_tested(prepared.task, binding, found);
-    }
-    if left == 0 {
-        return Ok(());
+        add_tested(prepared.task, binding, found)?;
+        return Ok(None);
     }
     let allowed = may_fit(prepared.task, binding)?;
     if !allowed {
-        return Ok(());
+        return Ok(None);
     }
-    match next_branch(prepared, binding)? {
-        Some(branch) => search_each(prepared, left - 1, binding, &branch, found),
+    next_branch(prepared, binding)
+}
+
+/// Looks at a binding, and puts a level for the next variable behind those that led to it.
+fn enter(
+    prepared: &Prepared<'_, '_, '_>,
+    binding: &Binding,
+    levels: &mut Seq<Branch>,
+    found: &mut Seq<Binding>,
+) -> Result<(), NoMemory>
+    requires prepared { IsPrepared prepared.now binding.now.values }
+    requires levels { AreLevels prepared.now binding.now.values (reverse levels.old) }
+    ensures { OnOk result (AreMore prepared.now binding.now.values (reverse levels.old) (values_of found.old) (reverse levels.new) (values_of found.new)) }
+{
+    match begin(prepared, binding, found)? {
+        Some(level) => levels.push(level),
         None => Ok(()),
     }
 }
 
-/// The same for each value that the next variable may have.
-#[cycle(searching)]
-fn search_each(
+/// Gives the variable of the last level the next of the candidates that are left for it, or where none is left
+/// takes its value away. Answers the binding that it comes to.
+fn step(
     prepared: &Prepared<'_, '_, '_>,
-    left: usize,
+    binding: Binding,
+    levels: &mut Seq<Branch>,
+    mut last: Branch,
+    found: &mut Seq<Binding>,
+) -> Result<Binding, NoMemory>
+    requires { AreLevels prepared.now binding.values (last ∷ reverse levels.old) }
+    ensures { IfOk result (λ c. IsStep prepared.now binding.values (last ∷ reverse levels.old) (values_of found.old) c.values (reverse levels.new) (values_of found.new)) }
+{
+    match last.candidates.pop() {
+        Some(datum) => {
+            let next = with_value(binding, last.variable, Some(datum));
+            levels.push(last)?;
+            enter(prepared, &next, levels, found)?;
+            Ok(next)
+        }
+        None => Ok(with_value(binding, last.variable, None)),
+    }
+}
+
+/// Goes through levels until none is left. Behind 2^64 steps it would answer want of memory: no machine makes so
+/// many.
+fn search_levels(
+    prepared: &Prepared<'_, '_, '_>,
+    roots: Binding,
+    levels: &mut Seq<Branch>,
+    found: &mut Seq<Binding>,
+) -> Result<(), NoMemory>
+    requires { AreLevels prepared.now roots.values (reverse levels.old) }
+    ensures { OnOk result ((b : Values) → Contains (values_of found.new) b ↔ IsFoundOrOwed (problem_in prepared.now) roots.values (reverse levels.old) (values_of found.old) b) }
+{
+    let mut binding = roots;
+    'steps: for _ in 0..u64::MAX {
+        match levels.pop() {
+            Some(last) => binding = step(prepared, binding, levels, last, found)?,
+            None => return Ok(()),
+        }
+    }
+    Err(NoMemory)
+}
+
+/// Puts the bindings that are found from this one on behind others. What it has yet to try stands in a list of
+/// levels, one for each variable that has got a value, and not in calls within one another: so the stack doesn't
+/// bound how many variables there are. There may be 2^64 steps, each with a candidate, or to the level before.
+pub(crate) fn search_from(
+    prepared: &Prepared<'_, '_, '_>,
     binding: &Binding,
-    branch: &Branch,
     found: &mut Seq<Binding>,
 ) -> Result<(), NoMemory>
     requires prepared { IsPrepared prepared.now binding.now.values }
-    requires left { missing binding.now.values ≤ left + 1 }
-    requires branch { IsBranch (problem_in prepared.now) binding.now.values branch.now }
     ensures { OnOk result (IsFound (problem_in prepared.now) binding.now.values (values_of found.old) (values_of found.new)) }
 {
-    let alloc = prepared.task.alloc;
-    for datum in branch.candidates.as_slice() {
-        let next = with_value(alloc, binding, branch.variable, datum)?;
-        search_from(prepared, left, &next, found)?;
-    }
-    Ok(())
+    let mut levels = Seq::new(prepared.task.alloc);
+    enter(prepared, binding, &mut levels, found)?;
+    let roots = duplicate_binding(prepared.task.alloc, binding)?;
+    search_levels(prepared, roots, &mut levels, found)
 }

@@ -1,7 +1,6 @@
-ghost use Rattle.std.specs.Prelude.{◌≡◌, slice_get, IfOk};
+ghost use Rattle.std.specs.Prelude.{◌≡◌, slice_get, slice_set, IfOk};
 ghost use Rattle.std.specs.Option.{option_copied};
 ghost use Rattle.qvtr_semantics.specs.Templates.{value_at};
-ghost use Rattle.template_match.specs.Search.{with_value};
 
 use mof_metamodel::{NoMemory, Seq};
 use ocl_eval::duplicate_datum;
@@ -57,22 +56,16 @@ pub fn duplicate_binding(alloc: Global, binding: &Binding) -> Result<Binding, No
     Ok(Binding { values })
 }
 
-/// The binding in which the variable has the value.
-pub(crate) fn with_value(
-    alloc: Global,
-    binding: &Binding,
-    variable: u32,
-    datum: &Datum,
-) -> Result<Binding, NoMemory>
-    ensures { IfOk result (λ b. b.values ≡ with_value binding.now.values variable datum.now) }
+/// The binding in which the variable has this value, or none.
+pub(crate) fn with_value(binding: Binding, variable: u32, value: Option<Datum>) -> Binding
+    ensures { result.values ≡ slice_set binding.values variable value }
 {
     let place = variable as usize;
-    let copies = duplicate_values(alloc, binding.values.as_slice())?;
-    let mut values = copies.into_vec();
+    let mut values = binding.values.into_vec();
     if place < values.len() {
-        values[place] = Some(duplicate_datum(alloc, datum)?);
+        values[place] = value;
     }
-    Ok(Binding {
+    Binding {
         values: Seq::from_vec(values),
-    })
+    }
 }

@@ -1,4 +1,4 @@
-use Rattle.std.proofs.Common.{◌≡◌, ◌+◌, ◌++◌, ◌∷◌, [], List, ℕ, sym, subst, refl, length, length-append, arith}
+use Rattle.std.proofs.Common.{◌≡◌, ◌+◌, ◌++◌, ◌∷◌, [], List, sym, subst, refl, length, length-append, arith}
 use Rattle.template_match.specs.declared.column_order.ColumnOrder.{ColumnOrder}
 use Rattle.template_match.specs.Rows.{IsRowOrder, AreRowOrders}
 use Rattle.template_match.proofs.CellLaws.{no_orders, more_orders}

@@ -1,5 +1,4 @@
 use Rattle.std.specs.Prelude.{◌≡◌, ◌-◌, ℕ, Option, Some, length, take, drop}
-use Rattle.std.specs.Ordering.{nat_cmp}
 use Rattle.std.specs.declared.cmp.Ordering.{Ordering}
 use Rattle.std.proofs.Common.{arith, rules}
 use Rattle.std.proofs.lemmas.List.{take_all, length-drop}
@@ -9,15 +8,15 @@ use Rattle.qvtr_semantics.specs.declared.datum.Datum.{Datum}
 use Rattle.template_match.specs.Order.{optional_order}
 use Rattle.template_match.specs.OrderLaws.{optional_total}
 use Rattle.template_match.specs.Rows.{cell_at}
-use Rattle.template_match.proofs.row_order.next_with.Goals as goal
+use Rattle.template_match.proofs.row_order.sorted_with.Goals as goal
 
 pub returns : goal.returns
 returns c =
     let key : ℕ → Option Datum = cell_at c.args.rows.now c.args.column in
-    let later : ℕ → ℕ → Ordering = nat_cmp in
+    let later : ℕ → ℕ → Ordering = c.requires.0 in
     let k : Option Datum = Some c.args.datum.now in
     let xs = c.args.numbers.now in
-    let up = c.requires in
+    let up = c.requires.1 in
     let first = c.partition_point-first.result in
     let rest = take (length xs - first) (drop first xs) in
     let rest_is : rest ≡ drop first xs = take_all (length xs - first) (drop first xs) (omega (arith, length-drop first xs)) in
