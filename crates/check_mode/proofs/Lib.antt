@@ -1,2 +1,3 @@
 pub mod TopLaws
 pub mod VerdictLaws
+pub mod Refuting

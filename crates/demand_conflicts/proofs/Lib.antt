@@ -4,3 +4,4 @@ pub mod SpotOrderLaws
 pub mod TableLaws
 pub mod HeardLaws
 pub mod LiftLaws
+pub mod Refuting

@@ -2,3 +2,4 @@ mod EntryLists
 mod ListingLaws
 mod SetLaws
 mod ClashLaws
+pub mod Refuting

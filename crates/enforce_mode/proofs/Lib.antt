@@ -4,3 +4,4 @@ pub mod LookingLaws
 pub mod ReportLaws
 pub mod PlacingLaws
 pub mod MadeLaws
+pub mod Refuting

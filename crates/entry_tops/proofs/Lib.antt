@@ -4,3 +4,4 @@ pub mod NameLaws
 pub mod OrderLaws
 pub mod StepLaws
 pub mod NoRoots
+pub mod Refuting

@@ -3,3 +3,4 @@ pub mod HeaderLaws
 pub mod MadeLaws
 pub mod PlaceLaws
 pub mod NumberLaws
+pub mod Refuting

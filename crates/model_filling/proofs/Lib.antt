@@ -5,3 +5,4 @@ pub mod LinkLaws
 pub mod UnlinkLaws
 pub mod FillLaws
 pub mod OrderLaws
+pub mod Refuting

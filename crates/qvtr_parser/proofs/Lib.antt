@@ -29,3 +29,4 @@ pub mod Refused
 pub mod Begun
 pub mod Tells
 pub mod OneAnswer
+pub mod Refuting

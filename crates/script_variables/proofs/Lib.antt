@@ -11,3 +11,4 @@ pub mod BindingLaws
 pub mod VariableLaws
 pub mod NameOrderLaws
 pub mod SettingLaws
+pub mod Refuting

@@ -7,3 +7,4 @@ pub mod AgainstLaws
 pub mod OldLaws
 pub mod DemandLaws
 pub mod CandidateLaws
+pub mod Refuting

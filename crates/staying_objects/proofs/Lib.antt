@@ -3,3 +3,4 @@ pub mod NestedLaws
 pub mod ClassLaws
 pub mod DeletedLaws
 pub mod FateLaws
+pub mod Refuting
