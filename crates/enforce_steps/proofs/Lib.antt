@@ -1,3 +1,4 @@
+pub mod Refuting
 mod CountingLaws
 mod AskableLaws
 mod RefusalLaws
