@@ -24,9 +24,9 @@ def tagged(count):
     return model(''.join(f'<tags>t{i}</tags>' for i in range(count)))
 
 
-def script(variables, left, right, condition='true'):
+def script(variables, left, right, condition='true', queries=''):
     """One relation of the two roots."""
-    return (f'transformation T (left : Trees, right : Trees) {{ top relation R {{ {variables}\n'
+    return (f'transformation T (left : Trees, right : Trees) {{ {queries}top relation R {{ {variables}\n'
             f'checkonly domain left a : Node {{{left}}};\ncheckonly domain right b : Node {{{right}}};\n'
             f'when {{ {condition}; }} }} }}\n')
 
@@ -36,8 +36,8 @@ def many_variables(count):
     return script(' '.join(f'v{i} : String;' for i in range(count)), items, items)
 
 
-def asked(condition):
-    return script('', "name = 'root'", "name = 'root'", condition)
+def asked(condition, queries=''):
+    return script('', "name = 'root'", "name = 'root'", condition, queries)
 
 
 def of_each(count, source, body):
@@ -48,6 +48,13 @@ def chain(kind, operation, count):
     """A collection to which one element after another is brought."""
     element = f'{kind}{{%d}}' if operation == 'union' else '%d'
     return asked(f'{kind}{{0}}' + ''.join(f'->{operation}({element % i})' for i in range(count)) + '->notEmpty()')
+
+
+def queries_in_turn(count, body):
+    """Queries that call those before them: in the body {0} calls the query before, and {1} the one before that."""
+    queries = 'query q0() : Integer { 0 }\nquery q1() : Integer { 1 }\n' + ''.join(
+        f'query q{i}() : Integer {{ {body.format(f"q{i - 1}()", f"q{i - 2}()")} }}\n' for i in range(2, count + 1))
+    return asked(f'q{count}() >= 0', queries)
 
 
 CASES = [(f'{n} variables and items', many_variables(n), model('')) for n in (100, 200)] + [
@@ -62,6 +69,10 @@ CASES = [(f'{n} variables and items', many_variables(n), model('')) for n in (10
         ('Sequence', 'including'), ('Set', 'including'), ('OrderedSet', 'including'), ('Bag', 'including'),
         ('Sequence', 'union'), ('Set', 'union'), ('OrderedSet', 'union'), ('Bag', 'union'),
         ('OrderedSet', 'append'), ('Sequence', 'prepend'))
+] + [
+    (f'{n} queries, {what}', queries_in_turn(n, body), model(''))
+    for n in (20, 40, 400)
+    for what, body in (('each calls the one before twice', '({0} + {0}).mod(1000)'), ('each calls the two before', '({0} + {1}).mod(1000)'))
 ]
 
 

@@ -1,5 +1,5 @@
 pub mod IndexLaws
-pub mod DataOrderLaws
+pub mod ListOrderLaws
 pub mod UniqueLaws
 pub mod ProgressLaws
 pub mod MetOutLaws
@@ -17,7 +17,11 @@ pub mod ClassLaws
 pub mod NavigationLaws
 pub mod FormLaws
 pub mod CollectLaws
+pub mod QueryOrderLaws
+pub mod MemoLaws
 pub mod FrameLaws
+pub mod CoverLaws
+pub mod QueryLaws
 pub mod ScopeLaws
 pub mod ReachLaws
 pub mod GrowingLaws

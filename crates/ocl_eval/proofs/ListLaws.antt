@@ -1,7 +1,8 @@
--- Lists that are gathered from left to right.
+-- Lists that are gathered from left to right, and lists in a row.
 use Rattle.std.proofs.Common.{◌≡◌, true, false, cond, List, [], ◌∷◌, ◌++◌, refl, sym, ◌∙◌, ap, append-nil}
 use Rattle.std.proofs.lemmas.List.{append_assoc}
-use Rattle.std.specs.Prelude.{Option, None, Some}
+use Rattle.std.proofs.lemmas.List.Elements.{All-nil, All-cons, All-head, All-tail}
+use Rattle.std.specs.Prelude.{Option, None, Some, All}
 use Rattle.std.specs.Option.{option_map}
 use Rattle.qvtr_semantics.specs.declared.datum.Datum.{Datum}
 use Rattle.qvtr_semantics.specs.Data.{is_among, new_ones}
@@ -32,3 +33,10 @@ old_further firsts met ds d h = ap (λ b. firsts ++ cond b (new_ones met ds) (d 
 
 pub no_more : (ds : List Datum) → ds ++ [] ≡ ds
 no_more ds = append-nil ds
+
+-- what is true of all of two lists in a row is true of all of each
+pub all_parts : {X : Type 0} (P : X → Type 0) (xs ys : List X) → All P (xs ++ ys) → All P xs × All P ys
+all_parts P [] ys all = (All-nil P, all)
+all_parts P (x ∷ xs) ys all =
+    let rest = all_parts P xs ys (All-tail P x (xs ++ ys) all) in
+    (All-cons P x xs (All-head P x (xs ++ ys) all) rest.0, rest.1)

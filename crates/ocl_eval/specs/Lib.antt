@@ -3,11 +3,13 @@ pub mod Frames
 pub mod Growing
 pub mod Indexes
 pub mod Lending
+pub mod Memos
 pub mod Operations
 pub mod Order
 pub mod OrderLaws
 pub mod OutOrderLaws
 pub mod Progress
+pub mod QueryOrder
 pub mod Results
 pub mod Spellings
 pub mod Worlds

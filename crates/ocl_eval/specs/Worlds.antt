@@ -1,5 +1,5 @@
 -- What expressions and their parts mean among the models of a program, with so many calls of queries left.
-use Rattle.std.specs.Prelude.{List, ◌++◌, ◌∷◌, [], map, Option, None, slice_get}
+use Rattle.std.specs.Prelude.{ℕ, List, ◌++◌, ◌∷◌, [], map, Option, None, slice_get}
 use Rattle.std.specs.Option.{option_map}
 use Rattle.object_tables.specs.Models.{ModelData, class_at}
 use Rattle.qv_syntax.specs.declared.typed.Call.{Call, fold-Call}
@@ -17,6 +17,10 @@ use Rattle.qvtr_semantics.specs.Expressions.{Scope, Meaning, Operated, Called, Q
 use Rattle.ocl_eval.specs.declared.world.World.{World}
 use Rattle.ocl_eval.specs.declared.reached.Reached.{Reached}
 use Rattle.ocl_eval.specs.declared.reached.Reached.TheVariants.{Own, Variable, Growing}
+
+-- a world with so many calls left
+abbrev pub with_calls : World → ℕ → World
+with_calls w n = record w { calls = n }
 
 abbrev pub setting_of : World → Setting
 setting_of w = setting w.program.now w.models.now

@@ -15,6 +15,8 @@ pub(crate) enum Control<'a> {
     Part(&'a Typed),
     /// Calls are to be made, one after another, on what was reached.
     Calls(Reached, &'a [TypedPostfix]),
+    /// A query is to be called with these values of its parameters.
+    Query(u32, Seq<Out>),
     /// The value of a part was found.
     Value(Out),
 }
@@ -62,7 +64,7 @@ pub(crate) struct Iteration<'a> {
 
 /// What waits for the value of a part of an expression, on the stack of an evaluation.
 #[derive(Drop)]
-pub(crate) enum Frame<'a, 'b> {
+pub(crate) enum Frame<'a> {
     Not,
     Negated,
     /// The branches of an `if`, which wait for the condition.
@@ -81,6 +83,26 @@ pub(crate) enum Frame<'a, 'b> {
     List(Seq<Out>, &'a [Typed], Listed<'a>),
     /// An iterator that waits for the value of its body for one element.
     Element(Iteration<'a>, Progress),
-    /// The variables and the calls that the caller of a query has left.
-    Query(Reach<'b>, usize),
+}
+
+/// Who waits for the value of a query, on the stack of an evaluation.
+#[derive(Drop)]
+pub(crate) struct Caller<'b> {
+    /// The query.
+    pub(crate) query: u32,
+    /// How many calls of queries may still be made where it is called.
+    pub(crate) calls: usize,
+    /// By how many fewer there may be for what was found there before.
+    pub(crate) spare: usize,
+    /// The variables that are in reach there.
+    pub(crate) scope: Reach<'b>,
+}
+
+/// An item of the stack of an evaluation.
+#[derive(Drop)]
+pub(crate) enum Stacked<'a, 'b> {
+    /// What waits for the value of a part.
+    Frame(Frame<'a>),
+    /// Who waits for the value of a query.
+    Caller(Caller<'b>),
 }

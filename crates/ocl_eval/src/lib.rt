@@ -1,8 +1,9 @@
 //! The values of expressions (OCL 2.4, chapter 11): `eval` gives what `qvtr_semantics` says an expression is. It is a machine that goes
 //! through the expression step by step: what waits for the value of a part is a frame on a stack of its own, so that no depth of an
 //! expression, and no number of queries that call one another, is paid from the stack of the program. An evaluation takes time and memory
-//! linear in what it looks at, with a logarithm for Sets and Bags. A chain of `+` or `concat` looks at each part once, and one of
-//! `including` or `union` takes the time of its elements, with a logarithm.
+//! linear in what it looks at, with a logarithm for Sets and Bags. A query that calls others is computed once for the same arguments,
+//! where none of them is a collection or a long String. A chain of `+` or `concat` looks at each part once, and one of `including` or
+//! `union` takes the time of its elements, with a logarithm.
 //!
 //! Below it stand the operations on values: on single data, Integers, Strings, Booleans and collections, and what an iterator gives of
 //! the values of its body. Each function gives what its definition in `qvtr_semantics` says; an operation on a collection is
@@ -26,6 +27,7 @@ mod growing;
 mod integers;
 pub mod kinds;
 mod machine;
+mod memo;
 mod met;
 mod met_outs;
 mod models;
@@ -38,6 +40,7 @@ mod ordering;
 mod out_order;
 mod outs;
 mod progress;
+mod query_call;
 mod ranked;
 mod ranked_out;
 mod reach;

@@ -1,4 +1,4 @@
-ghost use Rattle.std.specs.Prelude.{List, ◌≡◌, ◌<◌, ◌≤◌, ◌+◌, [], ◌++◌, length, map, slice_get, IfOk, OnOk};
+ghost use Rattle.std.specs.Prelude.{List, ◌≡◌, ◌<◌, ◌≤◌, ◌+◌, ℕ, false, [], ◌++◌, length, map, slice_get, IfOk, OnOk};
 ghost use Rattle.std.specs.Option.{option_copied};
 ghost use Rattle.object_tables.specs.declared.value.Value.TheVariants.{Str, Lit};
 ghost use Rattle.qvtr_semantics.specs.declared.datum.Datum.TheVariants.{Val};
@@ -7,20 +7,25 @@ ghost use Rattle.qvtr_semantics.specs.declared.out.Out.TheVariants.{One};
 ghost use Rattle.qvtr_semantics.specs.Outs.{boolean_of};
 ghost use Rattle.qvtr_semantics.specs.Expressions.{in_scope, with_collection, with_variable, chosen, each, on_collection as on_collection_of};
 ghost use Rattle.qvtr_semantics.specs.Iterators.{iterated};
-ghost use Rattle.ocl_eval.specs.Frames.{with_calls, application, called, joined, made, iteration_result, returned, standing, outcome_of, outcome, value_of};
-ghost use Rattle.ocl_eval.specs.Worlds.{queries_of, meaning_of, call_of, reached_in};
+ghost use Rattle.ocl_eval.specs.declared.frame.Stacked.TheVariants as stacked;
+ghost use Rattle.ocl_eval.specs.declared.world.World.{World};
+ghost use Rattle.ocl_eval.specs.Frames.{Wanted, application, called, joined, made, iteration_result, returned, cover, standing, outcome_below, outcome_of, outcome, value_of, IsLed};
+ghost use Rattle.ocl_eval.specs.Memos.{call_value, IsRemembered, IsTold};
+ghost use Rattle.ocl_eval.specs.Worlds.{with_calls, queries_of, meaning_of, call_of, reached_in};
 
 use crate::classes::{class_operation, extent};
 use crate::datum::duplicate_datum;
-use crate::frame::{Applied, Control, Frame, Iteration, Listed};
+use crate::frame::{Applied, Caller, Control, Frame, Iteration, Listed, Stacked};
 use crate::integers::integer;
 use crate::kinds::literal;
+use crate::memo::{Memo, Remembered};
 use crate::navigation::{collect_property, property_of};
 use crate::on_collections::{argument, on_collection};
 use crate::operations::operation;
 use crate::operators::{negated, negation, operated};
 use crate::outs::{boolean, boolean_of};
 use crate::progress::{Progress, iterator_result};
+use crate::query_call::QueryCall;
 use crate::reach::Reach;
 use crate::reached::Reached;
 use crate::running::Running;
@@ -35,13 +40,21 @@ use qvtr_semantics::{Datum, Out};
 use std::alloc::Global;
 use std::mem;
 
-/// An evaluation on its way. What waits for the value of a part stands in frames on a stack of its own, so that
+/// An evaluation on its way. What waits for the value of a part stands on a stack of its own, so that
 /// no depth of an expression or of calls of queries is paid from the stack of the program.
 #[derive(Drop)]
 pub(crate) struct Machine<'a, 'm, 'b> {
     pub(crate) world: World<'a, 'm>,
     pub(crate) scope: Reach<'b>,
-    pub(crate) frames: Vec<Frame<'a, 'b>>,
+    pub(crate) stack: Vec<Stacked<'a, 'b>>,
+    /// The values of calls of queries that were made.
+    pub(crate) memo: Memo,
+    /// Whether a query was called since the evaluation came to the body in which it is.
+    pub(crate) has_called: bool,
+    /// By how many fewer calls may be left for what was found in the body: it would be the same.
+    pub(crate) spare: usize,
+    /// Whether a query wasn't called since no calls were left: with more of them, what was found may be another.
+    pub(crate) exhausted: bool,
 }
 
 /// A String as it is written.
@@ -102,12 +115,18 @@ impl<'a, 'm, 'b> Machine<'a, 'm, 'b> {
     pub(crate) fn new(world: World<'a, 'm>, scope: Reach<'b>) -> Machine<'a, 'm, 'b>
         ensures world { result.world ≡ world.entry }
         ensures scope { result.scope ≡ scope.entry }
-        ensures frames { result.frames.items ≡ [] }
+        ensures stack { result.stack.items ≡ [] }
+        ensures spare { result.spare ≡ world.entry.calls }
+        ensures told { (w : World) → IsTold w result.memo }
     {
         Machine {
             world,
             scope,
-            frames: Vec::new(world.alloc),
+            stack: Vec::new(world.alloc),
+            memo: Memo::new(world.alloc),
+            has_called: false,
+            spare: world.calls,
+            exhausted: false,
         }
     }
 
@@ -119,10 +138,10 @@ impl<'a, 'm, 'b> Machine<'a, 'm, 'b> {
     }
 
     /// Comes to a part, for whose value a frame waits.
-    fn wait(&mut self, frame: Frame<'a, 'b>, part: &'a Typed) -> Result<Control<'a>, NoMemory>
-        ensures { IfOk result (λ c. outcome self.new c ≡ outcome_of self.old (returned (with_calls self.old.world 0) frame.entry (standing self.old (meaning_of self.old.world part.now self.old.scope)))) }
+    fn wait(&mut self, frame: Frame<'a>, part: &'a Typed) -> Result<Control<'a>, NoMemory>
+        ensures { IfOk result (λ c. (n : ℕ) → outcome n self.new c ≡ outcome_of self.old (returned (with_calls self.old.world 0) frame.entry (standing n self.old (meaning_of (with_calls self.old.world n) part.now self.old.scope)))) }
     {
-        self.frames.push(frame)?;
+        self.stack.push(Stacked::Frame(frame))?;
         Ok(Control::Part(part))
     }
 
@@ -132,7 +151,7 @@ impl<'a, 'm, 'b> Machine<'a, 'm, 'b> {
         part: &'a Typed,
         calls: &'a [TypedPostfix],
     ) -> Result<Control<'a>, NoMemory>
-        ensures { IfOk result (λ c. outcome self.new c ≡ outcome_of self.old (standing self.old (called self.old.world self.old.scope (meaning_of self.old.world part.now self.old.scope) calls.now))) }
+        ensures { IfOk result (λ c. (n : ℕ) → outcome n self.new c ≡ outcome_of self.old (standing n self.old (called (with_calls self.old.world n) self.old.scope (meaning_of (with_calls self.old.world n) part.now self.old.scope) calls.now))) }
     {
         if let Node::Variable { number } = &part.node {
             return Ok(Control::Calls(Reached::Variable(*number), calls));
@@ -147,7 +166,7 @@ impl<'a, 'm, 'b> Machine<'a, 'm, 'b> {
         parts: &'a [Typed],
         of: Listed<'a>,
     ) -> Result<Control<'a>, NoMemory>
-        ensures { IfOk result (λ c. outcome self.new c ≡ outcome_of self.old (standing self.old (made self.old.world self.old.scope of.entry (values ++ in_scope self.old.scope (map (meaning_of self.old.world) parts.now))))) }
+        ensures { IfOk result (λ c. (n : ℕ) → outcome n self.new c ≡ outcome_of self.old (standing n self.old (made (with_calls self.old.world n) self.old.scope of.entry (values ++ in_scope self.old.scope (map (meaning_of (with_calls self.old.world n)) parts.now))))) }
     {
         match parts {
             [part, rest @ ..] => self.wait(Frame::List(values, rest, of), part),
@@ -157,11 +176,11 @@ impl<'a, 'm, 'b> Machine<'a, 'm, 'b> {
 
     /// Makes what is to be made of a list of values.
     fn make(&mut self, of: Listed<'a>, values: Seq<Out>) -> Result<Control<'a>, NoMemory>
-        ensures { IfOk result (λ c. outcome self.new c ≡ outcome_of self.old (standing self.old (made self.old.world self.old.scope of.entry values))) }
+        ensures { IfOk result (λ c. (n : ℕ) → outcome n self.new c ≡ outcome_of self.old (standing n self.old (made (with_calls self.old.world n) self.old.scope of.entry values))) }
     {
         match of {
             Listed::Literal(kind) => Ok(Control::Value(literal(self.world.alloc, kind, values)?)),
-            Listed::Query(query) => self.call_query(query, values),
+            Listed::Query(query) => Ok(Control::Query(query, values)),
             Listed::Applied(operation, calls) => {
                 let out = self.apply(operation, values)?;
                 Ok(Control::Calls(out, calls))
@@ -198,28 +217,9 @@ impl<'a, 'm, 'b> Machine<'a, 'm, 'b> {
         }
     }
 
-    /// Comes to the body of a query with these values of its parameters.
-    fn call_query(&mut self, query: u32, args: Seq<Out>) -> Result<Control<'a>, NoMemory>
-        ensures { IfOk result (λ c. outcome self.new c ≡ outcome_of self.old (standing self.old (queries_of self.old.world query args))) }
-    {
-        if self.world.calls == 0 {
-            return Ok(Control::Value(Out::Invalid));
-        }
-        match query_at(&self.world, query) {
-            Some(query) => {
-                let calls = self.world.calls;
-                self.world.calls = calls - 1;
-                let scope = mem::replace(&mut self.scope, Reach::of(Scope::new(args)));
-                self.frames.push(Frame::Query(scope, calls))?;
-                Ok(Control::Part(&query.body))
-            }
-            None => Ok(Control::Value(Out::Invalid)),
-        }
-    }
-
     /// Comes to a part by its form.
     fn enter(&mut self, part: &'a Typed) -> Result<Control<'a>, NoMemory>
-        ensures { IfOk result (λ c. outcome self.new c ≡ outcome_of self.old (standing self.old (meaning_of self.old.world part.now self.old.scope))) }
+        ensures { IfOk result (λ c. (n : ℕ) → outcome n self.new c ≡ outcome_of self.old (standing n self.old (meaning_of (with_calls self.old.world n) part.now self.old.scope))) }
     {
         let alloc = self.world.alloc;
         match &part.node {
@@ -262,7 +262,7 @@ impl<'a, 'm, 'b> Machine<'a, 'm, 'b> {
 
     /// Makes the calls on what was reached, the first of them now.
     fn make_calls(&mut self, x: Reached, calls: &'a [TypedPostfix]) -> Result<Control<'a>, NoMemory>
-        ensures { IfOk result (λ c. outcome self.new c ≡ outcome_of self.old (standing self.old (called self.old.world self.old.scope (reached_in self.old.scope x) calls.now))) }
+        ensures { IfOk result (λ c. (n : ℕ) → outcome n self.new c ≡ outcome_of self.old (standing n self.old (called (with_calls self.old.world n) self.old.scope (reached_in self.old.scope x) calls.now))) }
     {
         match calls {
             [call, rest @ ..] => self.make_call(x, &call.call, rest),
@@ -277,7 +277,7 @@ impl<'a, 'm, 'b> Machine<'a, 'm, 'b> {
         call: &'a Call,
         calls: &'a [TypedPostfix],
     ) -> Result<Control<'a>, NoMemory>
-        ensures { IfOk result (λ c. outcome self.new c ≡ outcome_of self.old (standing self.old (called self.old.world self.old.scope (call_of self.old.world call.now self.old.scope (reached_in self.old.scope x)) calls.now))) }
+        ensures { IfOk result (λ c. (n : ℕ) → outcome n self.new c ≡ outcome_of self.old (standing n self.old (called (with_calls self.old.world n) self.old.scope (call_of (with_calls self.old.world n) call.now self.old.scope (reached_in self.old.scope x)) calls.now))) }
     {
         let alloc = self.world.alloc;
         match call {
@@ -350,7 +350,7 @@ impl<'a, 'm, 'b> Machine<'a, 'm, 'b> {
         body: &'a Typed,
         calls: &'a [TypedPostfix],
     ) -> Result<Control<'a>, NoMemory>
-        ensures { IfOk result (λ c. outcome self.new c ≡ outcome_of self.old (standing self.old (called self.old.world self.old.scope (with_collection x (λ c. iterated iterator c (each self.old.scope variable (meaning_of self.old.world body.now) c.elements))) calls.now))) }
+        ensures { IfOk result (λ c. (n : ℕ) → outcome n self.new c ≡ outcome_of self.old (standing n self.old (called (with_calls self.old.world n) self.old.scope (with_collection x (λ c. iterated iterator c (each self.old.scope variable (meaning_of (with_calls self.old.world n) body.now) c.elements))) calls.now))) }
     {
         match x {
             Out::Many(kind, elements) => {
@@ -377,7 +377,7 @@ impl<'a, 'm, 'b> Machine<'a, 'm, 'b> {
         iteration: Iteration<'a>,
         progress: Progress,
     ) -> Result<Control<'a>, NoMemory>
-        ensures { IfOk result (λ c. outcome self.new c ≡ outcome_of self.old (record { calls = self.old.world.calls; scope = self.old.scope ++ iteration.entry.behind.items; out = iteration_result self.old.world self.old.scope iteration.entry progress })) }
+        ensures { IfOk result (λ c. (n : ℕ) → outcome n self.new c ≡ outcome_of self.old (record { cover = cover n self.old; scope = self.old.scope ++ iteration.entry.behind.items; out = iteration_result (with_calls self.old.world n) self.old.scope iteration.entry progress })) }
     {
         match iteration.elements.as_slice().get(iteration.next) {
             Some(element) => {
@@ -397,7 +397,7 @@ impl<'a, 'm, 'b> Machine<'a, 'm, 'b> {
         progress: Progress,
     ) -> Result<Control<'a>, NoMemory>
         requires { length iteration.elements ≤ iteration.next }
-        ensures { IfOk result (λ c. outcome self.new c ≡ outcome_of self.old (record { calls = self.old.world.calls; scope = self.old.scope ++ iteration.entry.behind.items; out = iteration_result self.old.world self.old.scope iteration.entry progress })) }
+        ensures { IfOk result (λ c. (n : ℕ) → outcome n self.new c ≡ outcome_of self.old (record { cover = cover n self.old; scope = self.old.scope ++ iteration.entry.behind.items; out = iteration_result (with_calls self.old.world n) self.old.scope iteration.entry progress })) }
     {
         let Iteration {
             iterator,
@@ -419,7 +419,7 @@ impl<'a, 'm, 'b> Machine<'a, 'm, 'b> {
         x: Running,
         links: &'a [TypedInfix],
     ) -> Result<Control<'a>, NoMemory>
-        ensures { IfOk result (λ c. outcome self.new c ≡ outcome_of self.old (standing self.old (joined self.old.world self.old.scope x links.now))) }
+        ensures { IfOk result (λ c. (n : ℕ) → outcome n self.new c ≡ outcome_of self.old (standing n self.old (joined (with_calls self.old.world n) self.old.scope x links.now))) }
     {
         match links {
             [link, rest @ ..] => self.wait(Frame::Right(link.operator, x, rest), &link.right),
@@ -429,7 +429,7 @@ impl<'a, 'm, 'b> Machine<'a, 'm, 'b> {
 
     /// Comes to a branch of an `if`: the other isn't looked at.
     fn choose(&self, condition: &Out, one: &'a Typed, other: &'a Typed) -> Control<'a>
-        ensures { value_of self.now.world self.now.scope result ≡ chosen (boolean_of condition.now) (meaning_of self.now.world one.now self.now.scope) (meaning_of self.now.world other.now self.now.scope) }
+        ensures { (n : ℕ) → value_of (with_calls self.now.world n) self.now.scope result ≡ chosen (boolean_of condition.now) (meaning_of (with_calls self.now.world n) one.now self.now.scope) (meaning_of (with_calls self.now.world n) other.now self.now.scope) }
     {
         match boolean_of(condition) {
             Some(true) => Control::Part(one),
@@ -445,7 +445,7 @@ impl<'a, 'm, 'b> Machine<'a, 'm, 'b> {
         value: Out,
         body: &'a Typed,
     ) -> Result<Control<'a>, NoMemory>
-        ensures { IfOk result (λ c. outcome self.new c ≡ outcome_of self.old (standing self.old (meaning_of self.old.world body.now (with_variable self.old.scope variable value)))) }
+        ensures { IfOk result (λ c. (n : ℕ) → outcome n self.new c ≡ outcome_of self.old (standing n self.old (meaning_of (with_calls self.old.world n) body.now (with_variable self.old.scope variable value)))) }
     {
         let behind = self.scope.cut(self.world.alloc, variable)?;
         self.scope.enter(value)?;
@@ -453,8 +453,8 @@ impl<'a, 'm, 'b> Machine<'a, 'm, 'b> {
     }
 
     /// Gives the value of a part to the frame that waits for it.
-    fn resume(&mut self, frame: Frame<'a, 'b>, out: Out) -> Result<Control<'a>, NoMemory>
-        ensures { IfOk result (λ c. outcome self.new c ≡ outcome_of self.old (returned (with_calls self.old.world 0) frame.entry (standing self.old out))) }
+    fn resume(&mut self, frame: Frame<'a>, out: Out) -> Result<Control<'a>, NoMemory>
+        ensures { IfOk result (λ c. (n : ℕ) → outcome n self.new c ≡ outcome_of self.old (returned (with_calls self.old.world 0) frame.entry (standing n self.old out))) }
     {
         match frame {
             Frame::Not => Ok(Control::Value(negation(&out))),
@@ -482,17 +482,110 @@ impl<'a, 'm, 'b> Machine<'a, 'm, 'b> {
                 let progress = progress.advanced(out)?;
                 self.next_element(iteration, progress)
             }
-            Frame::Query(scope, calls) => {
-                self.scope = scope;
-                self.world.calls = calls;
+        }
+    }
+
+    /// Comes to the value of a call of a query, or to its body with these values of its parameters.
+    fn call_query(&mut self, query: u32, args: Seq<Out>) -> Result<Control<'a>, NoMemory>
+        ensures { IfOk result (λ c. (w : World) (wanted : Wanted) → IsLed w wanted (λ n. outcome_of self.old (standing n self.old (queries_of (with_calls self.old.world n) query args))) → IsLed w wanted (λ n. outcome n self.new c)) }
+    {
+        let call = QueryCall { query, args };
+        let calls = self.world.calls;
+        self.has_called = true;
+        match self.memo.value(self.world.alloc, &call, calls)? {
+            Some(kept) => {
+                let Remembered { out, least } = kept;
+                self.spare = self.spare.min(calls - least);
                 Ok(Control::Value(out))
             }
+            None => self.enter_query(call),
+        }
+    }
+
+    /// Comes to the body of a query.
+    fn enter_query(&mut self, call: QueryCall) -> Result<Control<'a>, NoMemory>
+        ensures { IfOk result (λ c. (w : World) (wanted : Wanted) → IsLed w wanted (λ n. outcome_of self.old (standing n self.old (call_value self.old.world n call))) → IsLed w wanted (λ n. outcome n self.new c)) }
+    {
+        let QueryCall { query, args } = call;
+        let calls = self.world.calls;
+        if calls == 0 {
+            self.spare = 0;
+            self.exhausted = true;
+            return Ok(Control::Value(Out::Invalid));
+        }
+        match query_at(&self.world, query) {
+            Some(called) => {
+                let scope = mem::replace(&mut self.scope, Reach::of(Scope::new(args)));
+                let caller = Caller {
+                    query,
+                    calls,
+                    spare: self.spare,
+                    scope,
+                };
+                self.world.calls = calls - 1;
+                self.spare = calls - 1;
+                self.has_called = false;
+                self.stack.push(Stacked::Caller(caller))?;
+                Ok(Control::Part(&called.body))
+            }
+            None => Ok(Control::Value(Out::Invalid)),
+        }
+    }
+
+    /// Gives the value of a query to its caller. It is remembered where the query calls others.
+    fn leave_query(&mut self, caller: Caller<'b>, out: Out) -> Result<Control<'a>, NoMemory>
+        ensures { IfOk result (λ c. (w : World) (wanted : Wanted) → IsLed w wanted (λ n. outcome_below (with_calls self.old.world 0) self.old.memo self.old.stack.items (stacked.Caller caller.entry) (standing n self.old out)) → IsLed w wanted (λ n. outcome n self.new c)) }
+    {
+        let Caller {
+            query,
+            calls,
+            spare,
+            scope,
+        } = caller;
+        let parameters = mem::replace(&mut self.scope, scope);
+        let least = calls.saturating_sub(self.spare);
+        self.world.calls = calls;
+        self.spare = spare.min(self.spare);
+        if self.has_called {
+            return self.remember_value(query, parameters, out, least);
+        }
+        self.has_called = true;
+        Ok(Control::Value(out))
+    }
+
+    /// Remembers the value of a call, whose arguments are the values of the parameters, where it is that with more calls too.
+    fn remember_value(
+        &mut self,
+        query: u32,
+        parameters: Reach<'b>,
+        out: Out,
+        least: usize,
+    ) -> Result<Control<'a>, NoMemory>
+        ensures { IfOk result (λ c. (w : World) (wanted : Wanted) → IsLed w wanted (λ n. outcome_of self.old (standing n self.old out)) → (self.old.exhausted ≡ false → IsRemembered w (record { query = query; args = parameters.entry }) (record { out = out; least = least })) → IsLed w wanted (λ n. outcome n self.new c)) }
+    {
+        if self.exhausted {
+            return Ok(Control::Value(out));
+        }
+        let args = parameters.into_args(self.world.alloc)?;
+        let call = QueryCall { query, args };
+        self.memo.remember(self.world.alloc, call, &out, least)?;
+        Ok(Control::Value(out))
+    }
+
+    /// Gives a value to what waits for it.
+    fn hand_on(&mut self, top: Stacked<'a, 'b>, out: Out) -> Result<Control<'a>, NoMemory>
+        ensures { IfOk result (λ c. (w : World) (wanted : Wanted) → IsLed w wanted (λ n. outcome_below (with_calls self.old.world 0) self.old.memo self.old.stack.items top.entry (standing n self.old out)) → IsLed w wanted (λ n. outcome n self.new c)) }
+    {
+        match top {
+            Stacked::Frame(frame) => self.resume(frame, out),
+            Stacked::Caller(caller) => self.leave_query(caller, out),
         }
     }
 
     /// The value of a part. Want of memory after 2^64 steps, which no one waits for.
     pub(crate) fn run(&mut self, part: &'a Typed) -> Result<Out, NoMemory>
-        requires { self.old.frames.items ≡ [] }
+        requires stack { self.old.stack.items ≡ [] }
+        requires told { IsTold self.old.world self.old.memo }
         ensures value { IfOk result (λ out. out ≡ meaning_of self.old.world part.now self.old.scope) }
         ensures scope { OnOk result (self.new.scope ≡ self.old.scope) }
     {
@@ -501,8 +594,9 @@ impl<'a, 'm, 'b> Machine<'a, 'm, 'b> {
             control = match control {
                 Control::Part(part) => self.enter(part)?,
                 Control::Calls(x, calls) => self.make_calls(x, calls)?,
-                Control::Value(out) => match self.frames.pop() {
-                    Some(frame) => self.resume(frame, out)?,
+                Control::Query(query, args) => self.call_query(query, args)?,
+                Control::Value(out) => match self.stack.pop() {
+                    Some(top) => self.hand_on(top, out)?,
                     None => return Ok(out),
                 },
             };

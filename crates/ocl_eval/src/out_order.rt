@@ -22,7 +22,7 @@ fn rank(out: &Out) -> u8
 }
 
 // the first data that differ decide, and else the lengths
-#[tactic(auto, using(crate::proofs::DataOrderLaws::from_first, crate::proofs::DataOrderLaws::past_second, crate::proofs::DataOrderLaws::past_first, crate::proofs::DataOrderLaws::past_both))]
+#[tactic(auto, using(crate::proofs::ListOrderLaws::from_first, crate::proofs::ListOrderLaws::past_second, crate::proofs::ListOrderLaws::past_first, crate::proofs::ListOrderLaws::past_both))]
 fn data_order(ds: &[Datum], es: &[Datum]) -> Ordering
     ensures { result ≡ slice_cmp datum_order ds.now es.now }
 {
@@ -36,6 +36,27 @@ fn data_order(ds: &[Datum], es: &[Datum]) -> Ordering
         }
     }
     if ds.len() < es.len() {
+        Ordering::Less
+    } else {
+        Ordering::Equal
+    }
+}
+
+/// How two lists of values stand: the first values that differ decide, and else the lengths.
+#[tactic(auto, using(crate::proofs::ListOrderLaws::from_first, crate::proofs::ListOrderLaws::past_second, crate::proofs::ListOrderLaws::past_first, crate::proofs::ListOrderLaws::past_both))]
+pub(crate) fn outs_order(xs: &[Out], ys: &[Out]) -> Ordering
+    ensures { result ≡ slice_cmp out_order xs.now ys.now }
+{
+    for i in 0..xs.len() {
+        if i >= ys.len() {
+            return Ordering::Greater;
+        }
+        let order = out_order(&xs[i], &ys[i]);
+        if order != Ordering::Equal {
+            return order;
+        }
+    }
+    if xs.len() < ys.len() {
         Ordering::Less
     } else {
         Ordering::Equal

@@ -100,6 +100,13 @@ impl<'b> Reach<'b> {
         owned(alloc, bound, others)
     }
 
+    /// The values as a list.
+    pub(crate) fn into_args(self, alloc: Global) -> Result<Seq<Out>, NoMemory>
+        ensures { IfOk result (λ args. args ≡ self.entry) }
+    {
+        Ok(Seq::from_vec(self.into_scope(alloc)?.into_values()))
+    }
+
     /// The value of a variable; one that has none is invalid.
     #[tactic(auto, using(crate::proofs::ReachLaws::variable_lent, crate::proofs::ReachLaws::variable_behind))]
     pub(crate) fn variable(&self, alloc: Global, number: u32) -> Result<Out, NoMemory>

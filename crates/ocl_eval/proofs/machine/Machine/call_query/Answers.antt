@@ -1,11 +1,15 @@
-use Rattle.std.proofs.Common.{◌≡◌, Some, sym, ◌∙◌}
-use Rattle.std.specs.Prelude.{slice_get}
-use Rattle.ocl_eval.proofs.FrameLaws.{query_entered}
+use Rattle.std.proofs.Common.{◌≡◌, ◌≤◌, Some, IfSome, subst}
+use Rattle.std.specs.BTreeMap.{get}
+use Rattle.ocl_eval.specs.declared.query_call.QueryCall.{QueryCall}
+use Rattle.ocl_eval.specs.QueryOrder.{call_order}
+use Rattle.ocl_eval.proofs.QueryLaws.{led_by_memory}
 use Rattle.ocl_eval.proofs.machine.Machine.call_query.Goals as goal
+use Rattle.std.proofs.Common.{refl}
 
-pub returns-in_ok-push-in-Some : goal.returns-in_ok-push-in-Some
-returns-in_ok-push-in-Some c =
+pub returns-in-Some : goal.returns-in-Some
+returns-in-Some c = λ w wanted led.
     let m = c.args.self.now in
-    let found : slice_get m.world.program.now.queries c.args.query ≡ Some c.in-Some.query.now = sym c.in-Some.ensures in
-    query_entered m c.args.query c.in-Some.query.now c.args.args c.replace-scope.result c.replace-scope.new.dest c.push.new.self.items found c.if-self-eq0.false
-    c.replace-scope.ensures.value (c.replace-scope.ensures.after ∙ c.of.ensures ∙ c.new.ensures) c.in_ok-push-in-Some.ensures.items
+    let call : QueryCall = record { query = c.args.query; args = c.args.args } in
+    let found : get call_order m.memo.values call ≡ Some c.in-Some.kept = subst (λ o. IfSome o (λ kept. get call_order m.memo.values call ≡ Some kept)) c.in-Some.is c.in_ok-kept.ensures.kept in
+    let enough : c.in-Some.kept.least ≤ m.world.calls = subst (λ o. IfSome o (λ kept. kept.least ≤ m.world.calls)) c.in-Some.is c.in_ok-kept.ensures.enough in
+    led_by_memory m call c.in-Some.kept c.in-Some.kept.out c.min-self.result w wanted found enough refl c.min-self.ensures led
