@@ -146,8 +146,8 @@ def each_with_each(count):
 SHAPES = [
     ('one class of n attributes', wide, (2000, 4000, 8000)),
     ('n columns of one table, by name', listed, (2000, 4000, 8000)),
-    ('n variables as items', items, (200, 400, 800)),
-    ('n equations', equations, (200, 400, 800)),
+    ('n variables as items', items, (2000, 4000, 8000)),
+    ('n equations', equations, (2000, 4000, 8000)),
     ('n classes and tables, by name', by_name, (5000, 10000, 20000)),
     ('two sources of n classes, by name', joined(2), (2000, 4000, 8000)),
     ('three sources of n classes, by name', joined(3), (2000, 4000, 8000)),

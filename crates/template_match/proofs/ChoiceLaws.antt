@@ -19,8 +19,9 @@ use Rattle.template_match.specs.declared.link.Link.{Link}
 use Rattle.template_match.specs.declared.branch.Branch.{Branch}
 use Rattle.template_match.specs.declared.candidates.Candidates.{Candidates}
 use Rattle.template_match.specs.declared.choice.Choice.{Choice}
+use Rattle.template_match.specs.declared.told.Told.{Told}
 use Rattle.template_match.specs.Asked.{AskedValue, side_asked}
-use Rattle.template_match.specs.Branches.{IsBranch, IsChoice, branch_of, TellsHolders, IsStuck}
+use Rattle.template_match.specs.Branches.{IsBranch, IsChoice, branch_of, TellsHolders, Tells, IsStuck}
 use Rattle.template_match.specs.Joins.{IsJoined}
 use Rattle.template_match.specs.JoinRows.{TellsRows}
 use Rattle.template_match.specs.Posed.{IsPosed, IsSought}
@@ -31,7 +32,7 @@ use Rattle.template_match.specs.Settled.{IsTold}
 use Rattle.template_match.specs.Search.{sought, conjuncts_in, setting_in, is_open, saying, usable_saying, usable_link, usable_conjunct, usable_variable, extent_for, some_data, objects_of, data_in}
 use Rattle.template_match.proofs.CellLaws.{cell_among}
 use Rattle.template_match.proofs.JoinLaws.{row_to, row_before, row_at, numbered}
-use Rattle.template_match.proofs.ListLaws.{find_some, find_none}
+use Rattle.template_match.proofs.ListLaws.{find_none}
 use Rattle.template_match.proofs.ProgressLaws.{link_named, partner_named, asked_named, saying_named, object_named}
 use Rattle.template_match.proofs.SearchLaws.{opened}
 
@@ -83,13 +84,12 @@ module _ (p : Problem) (a : Values) (posed : IsPosed p a) (places : length a ≡
       (λ b d whole value. saying_named p a b a posed whole (long b whole) (λ v e h. h) whole.partial.extends k v e within says both.1 d value)
 
   -- the objects of its class
-  pub object_is : (v : ℕ) (branch : Branch) → find (usable_variable p a) (sought p) ≡ Some v
+  pub object_is : (v : ℕ) (branch : Branch) → usable_variable p a v ≡ true
       → branch ≡ record { variable = v; candidates = objects_of p.models (extent_for (slice_get p.rel.vars v)) } → IsBranch p a branch
-  object_is v branch e same =
-      let found = find_some (usable_variable p a) (sought p) v e in
-      let both = and_parts (is_open p a v) (is_some (extent_for (slice_get p.rel.vars v))) found.1 in
+  object_is v branch usable same =
+      let both = and_parts (is_open p a v) (is_some (extent_for (slice_get p.rel.vars v))) usable in
       branch_by v (objects_of p.models (extent_for (slice_get p.rel.vars v))) branch both.0 same
-      (λ b d whole value. object_named p a b a posed whole (long b whole) (λ v e h. h) whole.partial.extends v found.0 both.1 d value)
+      (λ b d whole value. object_named p a b a posed whole (long b whole) (λ v e h. h) whole.partial.extends v (opened p a v both.0).sought_is both.1 d value)
 
   -- the data in a column of all rows in which the binding may stand
   pub rows_is : (j : Join) (k v : ℕ) (numbers : List ℕ) (c : Choice) → Contains p.joins j → slice_get j.variables k ≡ Some (Some v) → is_open p a v ≡ true → TellsRows j a numbers
@@ -120,6 +120,10 @@ pub stuck_is : (p : Problem) (a : Values) → ((l : Link) → Contains p.links l
 stuck_is p a links conjuncts none = record { links = links; conjuncts = conjuncts; variables = λ v c. find_none (usable_variable p a) (sought p) v none c }
 
 -- ---- one of two
+
+pub either_told : (p : Problem) (a : Values) (r x y : Told) → (r ≡ x) ⊎ (r ≡ y) → Tells p a x → Tells p a y → Tells p a r
+either_told p a r x y (inl e) one other = subst (Tells p a) (sym e) one
+either_told p a r x y (inr e) one other = subst (Tells p a) (sym e) other
 
 pub either_choice : (p : Problem) (a : Values) (r x y : Option Choice) → (r ≡ x) ⊎ (r ≡ y) → IfSome x (IsChoice p a) → IfSome y (IsChoice p a) → IfSome r (IsChoice p a)
 either_choice p a r x y (inl e) one other = subst (λ o. IfSome o (IsChoice p a)) (sym e) one

@@ -12,7 +12,7 @@ use Rattle.qvtr_semantics.specs.declared.datum.Datum.{Datum}
 use Rattle.qvtr_semantics.specs.Templates.{Values, value_at}
 use Rattle.qvtr_semantics.specs.Bindings.{Extends}
 use Rattle.template_match.specs.declared.join.Join.{Join}
-use Rattle.template_match.specs.Joins.{IsRowFor, IsJoined, AreJoined, may_be_in, may_row, may_join, may_joins, are_bound, is_joined, are_joined}
+use Rattle.template_match.specs.Joins.{IsRowFor, IsJoined, AreJoined, may_be_in, may_row, may_join, are_bound, is_joined, are_joined}
 use Rattle.template_match.specs.Pruning.{may_be_one}
 use Rattle.template_match.specs.Rows.{cell_in, cell_at, is_with}
 use Rattle.template_match.specs.JoinRows.{TellsRows, may_some_row, may_number, value_there, column_value}
@@ -118,14 +118,10 @@ row_before (Some v ∷ vs) a b (d ∷ row) more h =
     and_from (may_be_one (value_at a v) (Some d)) (may_row vs a row) (may_still (value_at a v) (value_at b v) d (λ e at. more v e at) both.0)
     (row_before vs a b row more both.1)
 
-pub all_may : (joins : List Join) (a b : Values) → Extends a b → AreJoined joins b → may_joins joins a ≡ true
-all_may joins a b more h = passes_all (λ j. may_join j a) joins may
-  where
-    may : (j : Join) → Contains joins j → may_join j a ≡ true
-    may j c =
-        let in_row = h j c in
-        any_at (may_row j.variables a) j.table.now in_row.0
-        (row_before j.variables a b in_row.0 more (row_to j.variables b in_row.0 in_row.2)) in_row.1
+pub one_may_join : (j : Join) (a b : Values) → Extends a b → IsJoined j b → may_join j a ≡ true
+one_may_join j a b more in_row =
+    any_at (may_row j.variables a) j.table.now in_row.0
+    (row_before j.variables a b in_row.0 more (row_to j.variables b in_row.0 in_row.2)) in_row.1
 
 -- ---- a column of a row
 

@@ -16,6 +16,7 @@ pub mod PublicLaws
 pub mod JoinLaws
 pub mod CellLaws
 pub mod AskedLaws
+pub mod ShapeLaws
 pub mod ComparedLaws
 pub mod HolderLaws
 pub mod SettledLaws

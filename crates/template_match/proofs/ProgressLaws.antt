@@ -111,17 +111,17 @@ module _ (p : Problem) (roots b a : Values) (posed : IsPosed p roots) (whole : I
       let within : v < length a = subst (λ n. v < n) (sym long) (within_values b v val.value val.at) in
       and_from (is_number_among v (sought p)) (is_vacant (slice_get a v)) (among_from v (sought p) c) (vacant_from a v within h)
 
-  held : (l : Link) → Contains p.links l → Holds p.program p.models b l
+  pub held : (l : Link) → Contains p.links l → Holds p.program p.models b l
   held l c =
       all_at (Holds p.program p.models b) (side_links p.side p.program p.rel) l (domains_hold p.program p.models b p.side p.rel.domains parts.domains)
       (subst (λ ls. Contains ls l) posed.links c)
 
-  conjunct_held : (c : Conj) → Contains (conjuncts_in p) c → conjunct_holds p.program p.models b c ≡ true
+  pub conjunct_held : (c : Conj) → Contains (conjuncts_in p) c → conjunct_holds p.program p.models b c ≡ true
   conjunct_held c within = list_all_at (conjunct_holds p.program p.models b) (conjuncts_in p) c parts.clause within
 
   -- ---- what names the value of a variable
 
-  asked_held : (t : AskedValue) → Contains (side_asked p.side p.program p.rel) t → Stands p.program p.models b t
+  pub asked_held : (t : AskedValue) → Contains (side_asked p.side p.program p.rel) t → Stands p.program p.models b t
   asked_held t c =
       let stand = Stands p.program p.models b in
       let items = flat_map (domain_asked p.side p.program) p.rel.domains in

@@ -5,8 +5,10 @@ use Rattle.std.proofs.Common.{refl, sym, subst, ◌∙◌, arith, inl, inr}
 use Rattle.std.proofs.lemmas.Bool.{true≢false}
 use Rattle.mof_metamodel.proofs.Facts.{contains_first}
 use Rattle.std.specs.declared.cmp.Ordering.TheVariants.{Less, Greater}
+use Rattle.mof_metamodel.specs.declared.desc.PropId.{PropId}
 use Rattle.object_tables.specs.declared.value.Value.TheVariants as values
 use Rattle.qv_syntax.specs.declared.program.Dom.{Dom}
+use Rattle.qv_syntax.specs.declared.program.ItemValue.TheOpen as layers
 use Rattle.qv_syntax.specs.declared.program.Marker.TheVariants.{Enforce}
 use Rattle.qvtr_semantics.specs.declared.datum.Datum.{Datum}
 use Rattle.qvtr_semantics.specs.declared.datum.Datum.TheVariants.{Obj, Val}
@@ -21,7 +23,8 @@ use Rattle.template_match.specs.Joins.{IsRowFor, IsJoined}
 use Rattle.template_match.specs.Problems.{Problem}
 use Rattle.template_match.specs.Posed.{IsSought}
 use Rattle.template_match.specs.Search.{is_vacant}
-use Rattle.template_match.specs.Branches.{IsBranch, IsFound}
+use Rattle.template_match.specs.Shapes.{value_shapes}
+use Rattle.template_match.specs.Branches.{IsBranch, IsBarren, IsFound}
 use Rattle.template_match.specs.Order.{values_order}
 use Rattle.template_match.proofs.JoinLaws.{row_to, row_bound}
 
@@ -49,6 +52,12 @@ null_stands_in_each_slot e = cc
 -- a value that the slot doesn't hold
 pub each_value_stands_in_a_slot : has (Some (number 1 ∷ [])) (Some (number 2)) ≡ true → ⊥
 each_value_stands_in_a_slot e = cc
+
+-- ---- shapes: an item `p = null`
+
+-- no slot that is to be empty in an item `p = null`
+pub null_asks_nothing : (u : ℕ) (prop : PropId) → value_shapes layers.Null u prop ≡ [] → ⊥
+null_asks_nothing u prop e = cc
 
 -- ---- sides: a domain of the target model
 
@@ -86,6 +95,10 @@ variables_with_values_are_open e = cc
 -- the candidates of the next variable leave out a value that it has in a binding that is looked for
 pub candidates_leave_a_value_out : (p : Problem) (a b : Values) (v : ℕ) (d : Datum) → IsSought p a b → value_at b v ≡ Some d → IsBranch p a (record { variable = v; candidates = [] }) → ⊥
 candidates_leave_a_value_out p a b v d whole at branch = let (k, within, is) = branch.named b d whole at in omega (arith, within)
+
+-- a part is said to leave nothing to be found where a binding is looked for
+pub a_binding_is_dropped : (p : Problem) (a b : Values) → IsSought p a b → IsBarren p a → ⊥
+a_binding_is_dropped p a b whole none = none b whole
 
 -- a search finds nothing where a binding is looked for
 pub a_search_gives_up : (p : Problem) (a b : Values) → IsSought p a b → IsFound p a [] [] → ⊥

@@ -19,17 +19,15 @@ use Rattle.template_match.specs.declared.branch.Branch.{Branch}
 use Rattle.template_match.specs.declared.prepared.Prepared.{Prepared}
 use Rattle.template_match.specs.Sides.{meets_side}
 use Rattle.template_match.specs.Problems.{Problem}
-use Rattle.template_match.specs.Pruning.{may_meet}
-use Rattle.template_match.specs.Joins.{are_joined, may_joins}
-use Rattle.template_match.specs.Search.{sought, is_vacant, is_open, is_any_open, with_value, fits, may_fit, tested}
+use Rattle.template_match.specs.Joins.{are_joined}
+use Rattle.template_match.specs.Search.{sought, is_vacant, is_open, is_any_open, with_value, fits, tested}
 use Rattle.template_match.specs.Posed.{HasRoots, IsPosed, IsSought}
 use Rattle.template_match.specs.Prepared.{problem_in, IsPrepared}
-use Rattle.template_match.specs.Branches.{IsBranch, IsStuck, IsFound}
+use Rattle.template_match.specs.Branches.{IsBranch, IsBarren, IsStuck, IsFound}
 use Rattle.template_match.proofs.ListLaws.{any_at}
 use Rattle.template_match.proofs.ValueLaws.{not_some, same_values, within_values, vacant_parts, vacant_from, same_place, other_place}
 use Rattle.template_match.proofs.SideLaws.{meets_parts, valued}
-use Rattle.template_match.proofs.JoinLaws.{all_joined_from, all_joined_to, all_may}
-use Rattle.template_match.proofs.PruneLaws.{not_dropped}
+use Rattle.template_match.proofs.JoinLaws.{all_joined_from, all_joined_to}
 use Rattle.template_match.proofs.ProgressLaws.{none_stuck}
 
 -- ---- open variables
@@ -88,6 +86,7 @@ prepared_with s a v d c h is same =
       places = length-set a v (Some d) ∙ h.places;
       marks = h.marks;
       asked = h.asked;
+      shapes = h.shapes;
     })
 
 module _ (p : Problem) (a b : Values) (v : ℕ) (d : Datum) (is : is_open p a v ≡ true) where
@@ -186,24 +185,16 @@ tested_found p a olds news x is none places all b = (
 
 -- ---- where nothing is looked for
 
-nothing_found : (p : Problem) (a : Values) (olds : List Values) → ((b : Values) → IsSought p a b → ⊥) → IsFound p a olds olds
-nothing_found p a olds none b = (λ c. inl c, by)
+pub barren_found : (p : Problem) (a : Values) (olds : List Values) → IsBarren p a → IsFound p a olds olds
+barren_found p a olds none b = (λ c. inl c, by)
   where
     by : Contains olds b ⊎ IsSought p a b → Contains olds b
     by (inl c) = c
     by (inr whole) = absurd (none b whole)
 
-pub dropped_found : (p : Problem) (a : Values) (olds : List Values) (m : Bool) → length a ≡ length p.rel.vars → m ≡ may_fit p a → m ≡ false → IsFound p a olds olds
-dropped_found p a olds m places is against = nothing_found p a olds (λ b whole. true≢false (sym (fit b whole) ∙ sym is ∙ against))
-  where
-    fit : (b : Values) → IsSought p a b → may_fit p a ≡ true
-    fit b whole =
-        and_from (may_joins p.joins a) (may_meet p a) (all_may p.joins a b whole.partial.extends whole.joined)
-        (not_dropped p a b (places ∙ sym whole.partial.places) whole.partial.extends whole.meets)
-
 pub stuck_found : (p : Problem) (a : Values) (olds : List Values) (x : Bool) → IsPosed p a → length a ≡ length p.rel.vars → x ≡ is_any_open p a → x ≡ true → IsStuck p a → IsFound p a olds olds
 stuck_found p a olds x posed places is some stuck =
-    nothing_found p a olds (λ b whole. none_stuck p a b a posed whole (places ∙ sym whole.partial.places) (λ v d h. h) whole.partial.extends stuck (sym is ∙ some))
+    barren_found p a olds (λ b whole. none_stuck p a b a posed whole (places ∙ sym whole.partial.places) (λ v d h. h) whole.partial.extends stuck (sym is ∙ some))
 
 -- ---- the next variable
 

@@ -1,5 +1,5 @@
 -- The next variable that gets a value, and the candidates for it, of which each binding that is looked for gives it one.
-use Rattle.std.specs.Prelude.{◌≡◌, ◌⊎◌, ◌↔◌, ◌≤◌, ℕ, true, false, List, Option, None, Some, length, slice_get, Contains}
+use Rattle.std.specs.Prelude.{◌≡◌, ◌⊎◌, ◌↔◌, ◌≤◌, ⊤, ℕ, true, false, List, Option, None, Some, length, slice_get, Contains}
 use Rattle.qv_syntax.specs.declared.program.Var.{Var}
 use Rattle.qv_syntax.specs.declared.program.Conj.{Conj}
 use Rattle.qvtr_semantics.specs.declared.datum.Datum.{Datum}
@@ -10,6 +10,8 @@ use Rattle.template_match.specs.declared.link.Link.{Link}
 use Rattle.template_match.specs.declared.branch.Branch.{Branch}
 use Rattle.template_match.specs.declared.candidates.Candidates.{Candidates}
 use Rattle.template_match.specs.declared.choice.Choice.{Choice}
+use Rattle.template_match.specs.declared.told.Told.{Told}
+use Rattle.template_match.specs.declared.told.Told.TheVariants.{Nothing, Said, Chosen}
 use Rattle.template_match.specs.Problems.{Problem}
 use Rattle.template_match.specs.Search.{sought, conjuncts_in, setting_in, is_open, usable_link, usable_conjunct, usable_variable, data_in}
 use Rattle.template_match.specs.Posed.{IsSought}
@@ -31,6 +33,16 @@ pub record IsChoice (p : Problem) (a : Values) (c : Choice) : Type 0 where
 abbrev pub TellsHolders : Problem → ℕ → ℕ → Option Datum → Candidates → Type 0
 TellsHolders p v prop o c = (var : Var) (d : Datum) → slice_get p.rel.vars v ≡ Some var → is_datum_for (setting_in p) var d ≡ true → has (held_at (setting_in p) d prop) o ≡ true
     → Contains (data_in (setting_in p) c) d
+
+-- what is told of an open variable
+abbrev pub Tells : Problem → Values → Told → Type 0
+Tells p a Nothing = ⊤
+Tells p a (Said conjunct) = Contains (conjuncts_in p) conjunct.now × (usable_conjunct p a conjunct.now ≡ true)
+Tells p a (Chosen choice) = IsChoice p a choice
+
+-- no binding is looked for from here on
+abbrev pub IsBarren : Problem → Values → Type 0
+IsBarren p a = (b : Values) → IsSought p a b → ⊥
 
 -- no link, no conjunct and no class gives an open variable candidates
 pub record IsStuck (p : Problem) (a : Values) : Type 0 where

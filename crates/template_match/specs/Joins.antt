@@ -38,9 +38,6 @@ may_row (o ∷ vs) a (d ∷ row) = may_be_in a o (Some d) && may_row vs a row
 abbrev pub may_join : Join → Values → Bool
 may_join j a = list_any (may_row j.variables a) j.table.now
 
-abbrev pub may_joins : List Join → Values → Bool
-may_joins joins a = list_all (λ j. may_join j a) joins
-
 -- there is no variable, or it has a value
 abbrev pub is_bound : Values → Option ℕ → Bool
 is_bound a None = true

@@ -3,8 +3,9 @@ pub mod Meeting
 pub mod Ready
 pub mod Links
 pub mod Problems
-pub mod Pruning
 pub mod Asked
+pub mod Shapes
+pub mod Pruning
 pub mod Search
 pub mod Tasks
 pub mod Order

@@ -29,9 +29,8 @@ use Rattle.template_match.specs.declared.link.Link.{Link}
 use Rattle.template_match.specs.declared.candidates.Candidates.{Candidates}
 use Rattle.template_match.specs.declared.candidates.Candidates.TheVariants as places
 use Rattle.template_match.specs.Problems.{Problem}
-use Rattle.template_match.specs.Joins.{are_joined, may_joins}
+use Rattle.template_match.specs.Joins.{are_joined}
 use Rattle.template_match.specs.Rows.{cells_in}
-use Rattle.template_match.specs.Pruning.{may_meet}
 use Rattle.template_match.specs.Ready.{is_ready}
 use Rattle.template_match.specs.Links.{variable_alone}
 use Rattle.template_match.specs.Sides.{clause_of, meets_side}
@@ -131,10 +130,6 @@ with_value a v d = slice_set a v (Some d)
 -- the binding stands in a row of each join, and meets the side
 abbrev pub fits : Problem → Values → Bool
 fits p a = are_joined p.joins a && meets_side p.side p.variables p.program p.models p.rel a
-
--- nothing that can be asked yet is against that
-abbrev pub may_fit : Problem → Values → Bool
-may_fit p a = may_joins p.joins a && may_meet p a
 
 -- the binding alone, if it is one
 abbrev pub tested : Problem → Values → List Values

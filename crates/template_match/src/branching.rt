@@ -7,7 +7,7 @@ ghost use Rattle.qvtr_semantics.specs.Outs.{datum_of};
 ghost use Rattle.qvtr_semantics.specs.Objects.{held_by};
 ghost use Rattle.qv_syntax.specs.declared.program.Conj.{Conj};
 ghost use Rattle.template_match.specs.declared.link.Link.{Link};
-ghost use Rattle.template_match.specs.Branches.{branch_of, IsNext};
+ghost use Rattle.template_match.specs.Branches.{branch_of, IsBranch, IsNext};
 ghost use Rattle.template_match.specs.Prepared.{problem_in, IsPrepared};
 ghost use Rattle.template_match.specs.Rows.{one_datum, cells_in};
 ghost use Rattle.template_match.specs.Search.{conjuncts_in, usable_link, usable_conjunct, extent_for, some_data, objects_in, objects_of, data_in};
@@ -18,7 +18,6 @@ use crate::candidates::Candidates;
 use crate::choice::Choice;
 use crate::choosing::best_choice;
 use crate::expressions::saying;
-use crate::join_choosing::best_whole;
 use crate::match_table::MatchTable;
 use crate::opening::{extent_for, usable_conjunct, usable_variable};
 use crate::prepared::Prepared;
@@ -119,7 +118,7 @@ fn data_in(task: &Task<'_, '_>, candidates: &Candidates<'_>) -> Result<Seq<Datum
 }
 
 /// The variable of a choice, with its candidates.
-fn chosen_branch(task: &Task<'_, '_>, choice: &Choice<'_>) -> Result<Branch, NoMemory>
+pub(crate) fn chosen_branch(task: &Task<'_, '_>, choice: &Choice<'_>) -> Result<Branch, NoMemory>
     ensures { IfOk result (λ b. b ≡ branch_of (problem_of task.now) choice.now) }
 {
     let candidates = data_in(task, &choice.candidates)?;
@@ -176,7 +175,7 @@ fn objects_of(task: &Task<'_, '_>, extent: Option<(u32, ClassId)>) -> Result<Seq
 }
 
 /// A variable, with the objects of its class.
-fn object_branch(task: &Task<'_, '_>, variable: u32) -> Result<Branch, NoMemory>
+pub(crate) fn object_branch(task: &Task<'_, '_>, variable: u32) -> Result<Branch, NoMemory>
     ensures { IfOk result (λ b. b ≡ record { variable = variable; candidates = objects_of task.now.models.now (extent_for (slice_get task.now.rel.now.vars variable)) }) }
 {
     let candidates = objects_of(task, extent_for(task.rel, variable))?;
@@ -188,8 +187,7 @@ fn object_branch(task: &Task<'_, '_>, variable: u32) -> Result<Branch, NoMemory>
 
 // ---- the next variable
 
-/// The next variable, where neither a conjunct nor a value says what one is: one of a join, or else the first
-/// one for objects.
+/// The next variable, where neither a conjunct nor a value says what one is: the first one for objects.
 fn branch_without_value(
     prepared: &Prepared<'_, '_, '_>,
     binding: &Binding,
@@ -199,12 +197,9 @@ fn branch_without_value(
     requires conjuncts { (c : Conj) → Contains (conjuncts_in (problem_in prepared.now)) c → usable_conjunct (problem_in prepared.now) binding.now.values c ≡ false }
     ensures { IfOk result (IsNext (problem_in prepared.now) binding.now.values) }
 {
-    match best_whole(prepared, binding) {
-        Some(choice) => Ok(Some(chosen_branch(prepared.task, &choice)?)),
-        None => match usable_variable(prepared, binding) {
-            Some(variable) => Ok(Some(object_branch(prepared.task, variable)?)),
-            None => Ok(None),
-        },
+    match usable_variable(prepared, binding) {
+        Some(variable) => Ok(Some(object_branch(prepared.task, variable)?)),
+        None => Ok(None),
     }
 }
 
@@ -224,18 +219,18 @@ fn branch_without_conjunct(
 }
 
 /// The variable of a conjunct that says what one is.
-fn said_branch(
+pub(crate) fn said_branch(
     prepared: &Prepared<'_, '_, '_>,
     binding: &Binding,
     conjunct: &Conj,
-) -> Result<Option<Branch>, NoMemory>
+) -> Result<Branch, NoMemory>
     requires prepared { IsPrepared prepared.now binding.now.values }
     requires conjunct { Contains (conjuncts_in (problem_in prepared.now)) conjunct.now }
     requires usable { usable_conjunct (problem_in prepared.now) binding.now.values conjunct.now ≡ true }
-    ensures { IfOk result (IsNext (problem_in prepared.now) binding.now.values) }
+    ensures { IfOk result (IsBranch (problem_in prepared.now) binding.now.values) }
 {
     match saying(conjunct) {
-        Some((variable, e)) => Ok(Some(saying_branch(prepared.task, binding, variable, e)?)),
+        Some((variable, e)) => saying_branch(prepared.task, binding, variable, e),
         None => unreachable!(),
     }
 }
@@ -249,7 +244,7 @@ pub(crate) fn next_branch(
     ensures { IfOk result (IsNext (problem_in prepared.now) binding.now.values) }
 {
     match usable_conjunct(prepared, binding) {
-        Some(conjunct) => said_branch(prepared, binding, conjunct),
+        Some(conjunct) => Ok(Some(said_branch(prepared, binding, conjunct)?)),
         None => branch_without_conjunct(prepared, binding),
     }
 }

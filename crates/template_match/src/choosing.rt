@@ -370,7 +370,7 @@ fn asked_holders<'a>(
 }
 
 /// What is asked of a slot gives the variable of its object, if that is open.
-fn asked_choice<'a>(
+pub(crate) fn asked_choice<'a>(
     prepared: &Prepared<'_, 'a, '_>,
     binding: &Binding,
     asked: &Asked<'a>,
@@ -393,7 +393,7 @@ fn asked_choice<'a>(
 
 /// What a link gives one of its two variables.
 #[tactic(auto, using(crate::proofs::ChoiceLaws::either_choice, crate::proofs::ChoiceLaws::none_of_two))]
-fn link_choice<'a>(
+pub(crate) fn link_choice<'a>(
     prepared: &Prepared<'_, 'a, '_>,
     binding: &Binding,
     link: &Link,

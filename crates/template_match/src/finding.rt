@@ -9,7 +9,8 @@ ghost use Rattle.template_match.specs.Posed.{HasPrimitives, HasUniversals, IsPos
 ghost use Rattle.template_match.specs.Asked.{asked_values, side_asked};
 ghost use Rattle.template_match.specs.Branches.{IsFound};
 ghost use Rattle.template_match.specs.Prepared.{problem_in, IsPrepared};
-ghost use Rattle.template_match.specs.Search.{values_of, sought};
+ghost use Rattle.template_match.specs.Search.{values_of, sought, tested};
+ghost use Rattle.template_match.specs.Shapes.{side_shapes};
 ghost use Rattle.template_match.specs.Sources.{source_variables, NamesNoTarget, SourceWithoutTarget};
 ghost use Rattle.template_match.specs.Tasks.{problem_of};
 ghost use Rattle.template_match.specs.Joins.{AreJoined};
@@ -17,11 +18,15 @@ ghost use Rattle.template_match.specs.Joins.{AreJoined};
 use crate::asked::Asked;
 use crate::asking::side_asked;
 use crate::join::Join;
+use crate::listing::first_agenda;
 use crate::marks::variable_marks;
+use crate::opening::is_any_vacant;
 use crate::order::each_once;
 use crate::plan::Plan;
 use crate::prepared::Prepared;
-use crate::search::search_from;
+use crate::search::{add_tested, search_from};
+use crate::shape::Shape;
+use crate::shaping::side_shapes;
 use crate::side::Side;
 use crate::task::Task;
 use crate::without_target::source_variables;
@@ -36,8 +41,9 @@ fn found_from(prepared: &Prepared<'_, '_, '_>, roots: &Binding) -> Result<Seq<Bi
     requires prepared { IsPrepared prepared.now roots.now.values }
     ensures { IfOk result (λ bs. IsFound (problem_in prepared.now) roots.now.values [] (values_of bs)) }
 {
+    let mut agenda = first_agenda(prepared, roots)?;
     let mut found = Seq::new(prepared.task.alloc);
-    search_from(prepared, roots, &mut found)?;
+    search_from(prepared, roots, &mut agenda, &mut found)?;
     Ok(found)
 }
 
@@ -45,11 +51,13 @@ fn found_from(prepared: &Prepared<'_, '_, '_>, roots: &Binding) -> Result<Seq<Bi
 fn found_with(
     task: &Task<'_, '_>,
     asked: &[Asked<'_>],
+    shapes: &[Shape],
     roots: &Binding,
 ) -> Result<Seq<Binding>, NoMemory>
     requires posed { IsPosed (problem_of task.now) roots.now.values }
     requires places { length roots.now.values ≡ length task.now.rel.now.vars }
     requires asked { asked_values asked.now ≡ side_asked task.now.side task.now.program.now task.now.rel.now }
+    requires shapes { shapes.now ≡ side_shapes task.now.side task.now.program.now task.now.rel.now }
     ensures { IfOk result (λ bs. IsFound (problem_of task.now) roots.now.values [] (values_of bs)) }
 {
     let sought = variable_marks(task.alloc, task.rel.vars.len(), task.variables)?;
@@ -57,18 +65,42 @@ fn found_with(
         task,
         sought: sought.as_slice(),
         asked,
+        shapes,
     };
     found_from(&prepared, roots)
 }
 
 /// The same, where nothing is made ready.
-fn found(task: &Task<'_, '_>, roots: &Binding) -> Result<Seq<Binding>, NoMemory>
+fn searched(task: &Task<'_, '_>, roots: &Binding) -> Result<Seq<Binding>, NoMemory>
     requires posed { IsPosed (problem_of task.now) roots.now.values }
     requires places { length roots.now.values ≡ length task.now.rel.now.vars }
     ensures { IfOk result (λ bs. IsFound (problem_of task.now) roots.now.values [] (values_of bs)) }
 {
     let asked = side_asked(task.alloc, task.side, task.program, task.rel)?;
-    found_with(task, asked.as_slice(), roots)
+    let shapes = side_shapes(task.alloc, task.side, task.program, task.rel)?;
+    found_with(task, asked.as_slice(), shapes.as_slice(), roots)
+}
+
+/// The roots alone, if they are a binding that is looked for.
+fn tested_roots(task: &Task<'_, '_>, roots: &Binding) -> Result<Seq<Binding>, NoMemory>
+    ensures { IfOk result (λ bs. values_of bs ≡ tested (problem_of task.now) roots.now.values) }
+{
+    let mut found = Seq::new(task.alloc);
+    add_tested(task, roots, &mut found)?;
+    Ok(found)
+}
+
+/// All that is found from the roots on: themselves, where each variable that is sought has a value.
+fn found(task: &Task<'_, '_>, roots: &Binding) -> Result<Seq<Binding>, NoMemory>
+    requires posed { IsPosed (problem_of task.now) roots.now.values }
+    requires places { length roots.now.values ≡ length task.now.rel.now.vars }
+    ensures { IfOk result (λ bs. IsFound (problem_of task.now) roots.now.values [] (values_of bs)) }
+{
+    if is_any_vacant(roots, task.variables) {
+        searched(task, roots)
+    } else {
+        tested_roots(task, roots)
+    }
 }
 
 /// The bindings of a side, in order, each once.

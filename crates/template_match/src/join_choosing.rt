@@ -5,12 +5,14 @@ ghost use Rattle.template_match.specs.JoinRows.{TellsRows};
 ghost use Rattle.template_match.specs.Prepared.{problem_in, IsPrepared};
 ghost use Rattle.template_match.specs.Search.{is_open};
 
+use crate::agenda::{Agenda, COMPARED_PARTS};
 use crate::candidates::Candidates;
 use crate::choice::Choice;
 use crate::choosing::{choice, fewer};
 use crate::join::Join;
 use crate::joins::bound_rows;
 use crate::opening::is_open;
+use crate::part::numbered;
 use crate::prepared::Prepared;
 use qvtr_semantics::Binding;
 
@@ -78,7 +80,7 @@ fn rows_choice<'a>(
 }
 
 /// What the rows of a join with the values of the binding give an open variable.
-fn bound_choice<'a>(
+pub(crate) fn bound_choice<'a>(
     prepared: &Prepared<'_, 'a, '_>,
     binding: &Binding,
     join: &Join<'a>,
@@ -134,18 +136,37 @@ pub(crate) fn best_bound<'a>(
     best
 }
 
-/// The fewest that all rows of a join give.
+/// The number of the first join from one on that has an open column.
+fn first_open(prepared: &Prepared<'_, '_, '_>, binding: &Binding, from: usize) -> usize
+    requires prepared { IsPrepared prepared.now binding.now.values }
+{
+    let joins = prepared.task.joins;
+    for number in from..joins.len() {
+        if open_column(prepared, binding, &joins[number]).is_some() {
+            return number;
+        }
+    }
+    joins.len()
+}
+
+/// The fewest that all rows of a join give: of a few joins, from one on before which none has an open column.
 #[tactic(auto, using(crate::proofs::ChoiceLaws::either_choice))]
 pub(crate) fn best_whole<'a>(
     prepared: &Prepared<'_, 'a, '_>,
     binding: &Binding,
+    agenda: &mut Agenda,
 ) -> Option<Choice<'a>>
     requires prepared { IsPrepared prepared.now binding.now.values }
     ensures { IfSome result (IsChoice (problem_in prepared.now) binding.now.values) }
 {
+    let first = first_open(prepared, binding, agenda.join());
+    agenda.set_join(first);
     let mut best = None;
-    for join in prepared.task.joins {
-        best = fewer(best, whole_choice(prepared, binding, join));
+    for number in first..first.saturating_add(COMPARED_PARTS) {
+        match numbered(prepared.task.joins, number) {
+            Some(join) => best = fewer(best, whole_choice(prepared, binding, join)),
+            None => return best,
+        }
     }
     best
 }

@@ -4,7 +4,7 @@ ghost use Rattle.std.specs.List.{list_all};
 ghost use Rattle.std.specs.Option.{option_copied};
 ghost use Rattle.template_match.specs.JoinRows.{TellsRows, may_number, variable_value, column_value};
 ghost use Rattle.template_match.specs.Rows.{IsRowOrder};
-ghost use Rattle.template_match.specs.Joins.{may_be_in, may_row, may_join, may_joins, is_bound, are_bound, is_joined, are_joined};
+ghost use Rattle.template_match.specs.Joins.{may_be_in, may_row, may_join, is_bound, are_bound, is_joined, are_joined};
 
 use crate::column_order::ColumnOrder;
 use crate::join::Join;
@@ -158,25 +158,13 @@ fn may_any_row(join: &Join<'_>, binding: &Binding) -> bool
 }
 
 /// Whether there is a row in which each of the variables that has a value has the datum in its column.
-fn may_join(join: &Join<'_>, binding: &Binding) -> bool
+pub(crate) fn may_join(join: &Join<'_>, binding: &Binding) -> bool
     ensures { result ≡ may_join join.now binding.now.values }
 {
     match bound_rows(join, binding) {
         Some(numbers) => may_numbers(join, binding, numbers),
         None => may_any_row(join, binding),
     }
-}
-
-/// The same of each join.
-pub(crate) fn may_joins(joins: &[Join<'_>], binding: &Binding) -> bool
-    ensures { result ≡ may_joins joins.now binding.now.values }
-{
-    for join in joins {
-        if !may_join(join, binding) {
-            return false;
-        }
-    }
-    true
 }
 
 // ---- bindings whose variables have values

@@ -3,16 +3,19 @@
 //! another: from a conjunct `v = e`, from a slot of an object that has been chosen, from the objects at one of
 //! whose properties a value stands that an item, a condition or an equation asks for, from rows of tables in
 //! which the bindings are to stand (`joined_bindings`), or from the objects of its class. It takes what gives the
-//! fewest values. A partial binding is dropped as soon as an item or a conjunct is against it all of whose
-//! variables have values, or no row of a table has its values; each full binding is tested by all that its side
-//! and the tables ask.
-//! A search takes the time of the partial bindings that it looks at. Each costs the number of variables, links,
-//! items and conjuncts of the relation, with the values of their expressions; the objects that hold a value take
-//! a logarithm, where the model has an index, and so do the rows with a datum or a pair of neighbouring data.
+//! fewest values, of a few that it compares. A partial binding is dropped as soon as an item or a conjunct is
+//! against it all of whose variables have values, or no row of a table has its values; each full binding is tested
+//! by all that its side and the tables ask.
+//! A search takes the time of the bindings that it looks at. A partial one costs what names the variable that was
+//! given a value last: links, items, conjuncts and tables, with the values of their expressions. A full one costs
+//! all of these, and so does where the search begins. The objects that hold a value take a logarithm, where the
+//! model has an index, and so do the rows with a datum or a pair of neighbouring data.
 //! It nests no calls: beside what it finds it keeps one binding, and of each variable that has got a value the
 //! candidates that are left for it.
 #![tactic(auto)]
 
+mod agenda;
+mod allowing;
 mod asked;
 mod asking;
 mod branch;
@@ -29,21 +32,29 @@ mod join_choosing;
 mod joins;
 mod link;
 mod linking;
+mod listing;
 pub mod marks;
 mod match_table;
 mod meeting;
+mod mentions;
+mod naming;
 mod opening;
 mod order;
+mod part;
 mod plan;
 mod prepared;
 mod pruning;
 mod readiness;
 mod row_order;
 mod search;
+mod shape;
+mod shaping;
 mod side;
 mod sides;
 mod standing;
 mod task;
+mod telling;
+mod told;
 mod values;
 mod without_target;
 

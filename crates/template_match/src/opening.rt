@@ -1,6 +1,6 @@
 //! Which variables are open, and what gives an open variable values.
 ghost use Rattle.std.specs.Prelude.{◌≡◌, slice_get};
-ghost use Rattle.std.specs.List.{find};
+ghost use Rattle.std.specs.List.{find, list_any};
 ghost use Rattle.std.specs.Option.{option_copied, option_map};
 ghost use Rattle.template_match.specs.Prepared.{problem_in, IsPrepared};
 ghost use Rattle.template_match.specs.Search.{sought, is_vacant, is_open, is_any_open, usable_saying, usable_conjunct, extent_by, extent_for, usable_variable, conjuncts_in};
@@ -15,13 +15,25 @@ use qv_syntax::{Conj, Rel, Ty, Typed};
 use qvtr_semantics::Binding;
 
 /// Whether the variable has a place and no value.
-fn is_vacant(binding: &Binding, variable: u32) -> bool
+pub(crate) fn is_vacant(binding: &Binding, variable: u32) -> bool
     ensures { result ≡ is_vacant (slice_get binding.now.values variable) }
 {
     match binding.values.as_slice().get(variable as usize) {
         Some(value) => value.is_none(),
         None => false,
     }
+}
+
+/// Whether one of the variables has a place and no value.
+pub(crate) fn is_any_vacant(binding: &Binding, variables: &[u32]) -> bool
+    ensures { result ≡ list_any (λ v. is_vacant (slice_get binding.now.values v)) variables.now }
+{
+    for variable in variables {
+        if is_vacant(binding, *variable) {
+            return true;
+        }
+    }
+    false
 }
 
 /// Whether the variable is sought and has no value yet.
@@ -63,7 +75,11 @@ fn is_usable_saying(
 }
 
 /// Whether the conjunct says what an open variable is.
-fn is_usable_conjunct(prepared: &Prepared<'_, '_, '_>, binding: &Binding, conjunct: &Conj) -> bool
+pub(crate) fn is_usable_conjunct(
+    prepared: &Prepared<'_, '_, '_>,
+    binding: &Binding,
+    conjunct: &Conj,
+) -> bool
     requires prepared { IsPrepared prepared.now binding.now.values }
     ensures { result ≡ usable_conjunct (problem_in prepared.now) binding.now.values conjunct.now }
 {
@@ -109,15 +125,25 @@ pub(crate) fn extent_for(rel: &Rel, variable: u32) -> Option<(u32, ClassId)>
     }
 }
 
+/// Whether the variable is open and one for objects.
+pub(crate) fn is_usable_variable(
+    prepared: &Prepared<'_, '_, '_>,
+    binding: &Binding,
+    variable: u32,
+) -> bool
+    requires prepared { IsPrepared prepared.now binding.now.values }
+    ensures { result ≡ usable_variable (problem_in prepared.now) binding.now.values variable }
+{
+    is_open(prepared, binding, variable) && extent_for(prepared.task.rel, variable).is_some()
+}
+
 /// The first open variable for objects.
 pub(crate) fn usable_variable(prepared: &Prepared<'_, '_, '_>, binding: &Binding) -> Option<u32>
     requires prepared { IsPrepared prepared.now binding.now.values }
     ensures { result ≡ find (usable_variable (problem_in prepared.now) binding.now.values) (sought (problem_in prepared.now)) }
 {
     for variable in prepared.task.variables {
-        if is_open(prepared, binding, *variable)
-            && extent_for(prepared.task.rel, *variable).is_some()
-        {
+        if is_usable_variable(prepared, binding, *variable) {
             return Some(*variable);
         }
     }

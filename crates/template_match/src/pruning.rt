@@ -1,24 +1,66 @@
-ghost use Rattle.std.specs.Prelude.{◌≡◌, ◌||◌, not, map, IfOk};
-ghost use Rattle.std.specs.List.{list_all};
+//! Which parts of what a search asks are against a binding in which some variables have no value yet.
+ghost use Rattle.std.specs.Prelude.{◌≡◌, ◌||◌, not, false, Contains, IfOk};
 ghost use Rattle.std.specs.Option.{option_copied};
 ghost use Rattle.qvtr_semantics.specs.Expressions.{setting, value_for};
 ghost use Rattle.qvtr_semantics.specs.Objects.{held_at};
 ghost use Rattle.qvtr_semantics.specs.Outs.{datum_of};
 ghost use Rattle.qvtr_semantics.specs.Templates.{value_at, has};
-ghost use Rattle.template_match.specs.Pruning.{may_match, may_item, may_value, may_template, may_domain, may_be_one, may_conjunct, may_meet};
+ghost use Rattle.template_match.specs.Asked.{asked_value};
+ghost use Rattle.template_match.specs.Branches.{IsBarren};
+ghost use Rattle.template_match.specs.Prepared.{problem_in, IsPrepared};
+ghost use Rattle.template_match.specs.Pruning.{may_shape, may_link, may_asked, may_be_one, may_conjunct};
 ghost use Rattle.template_match.specs.Ready.{is_ready};
+ghost use Rattle.template_match.specs.Shapes.{has_feature};
 ghost use Rattle.template_match.specs.Tasks.{problem_of};
 
+use crate::asked::{Asked, AskedBy};
+use crate::joins::may_join;
+use crate::link::Link;
 use crate::meeting::{are_one, expression_stands, is_empty_at};
+use crate::part::{Part, numbered};
+use crate::prepared::Prepared;
 use crate::readiness::is_ready;
-use crate::sides::{clause_of, is_of_side};
+use crate::shape::{Feature, Shape};
+use crate::sides::clause_of;
 use crate::standing::may_stand_at;
 use crate::task::Task;
 use crate::values::value_at;
 use mof_metamodel::{NoMemory, PropId};
 use ocl_eval::{datum_of, eval, holds, is_of_class};
-use qv_syntax::{Conj, Dom, Item, ItemValue, Tmpl, Typed};
+use qv_syntax::{Conj, Typed};
 use qvtr_semantics::{Binding, Datum};
+
+// ---- templates
+
+/// Whether the object has the feature.
+fn has_feature(task: &Task<'_, '_>, datum: &Datum, feature: Feature) -> Result<bool, NoMemory>
+    ensures { IfOk result (λ b. b ≡ has_feature (setting task.now.program.now task.now.models.now) datum.now feature) }
+{
+    match feature {
+        Feature::Class(class) => Ok(is_of_class(task.models, class, datum)),
+        Feature::Empty(prop) => is_empty_at(task, datum, prop),
+    }
+}
+
+/// Whether the object of the variable is as the template asks, if it has been chosen.
+fn shape_may_be(task: &Task<'_, '_>, shape: &Shape, binding: &Binding) -> Result<bool, NoMemory>
+    ensures { IfOk result (λ b. b ≡ may_shape (problem_of task.now) binding.now.values shape.now) }
+{
+    match value_at(binding, shape.holder) {
+        Some(datum) => has_feature(task, datum, shape.feature),
+        None => Ok(true),
+    }
+}
+
+/// Whether a value stands in the slot of an object, if both are known.
+fn link_may_hold(task: &Task<'_, '_>, link: &Link, binding: &Binding) -> Result<bool, NoMemory>
+    ensures { IfOk result (λ b. b ≡ may_link (problem_of task.now) binding.now.values link.now) }
+{
+    match value_at(binding, link.holder) {
+        Some(datum) => may_stand_at(task, datum, link.prop, value_at(binding, link.variable)),
+        None => Ok(true),
+    }
+}
 
 /// Whether the value of an expression, if it is settled, stands at a property of an object.
 fn expression_may_stand(
@@ -37,118 +79,26 @@ fn expression_may_stand(
     }
 }
 
-/// Whether nothing is against it yet that the template matches.
-#[cycle(pruning)]
-fn template_may_match(
+/// Whether what an item asks stands in the slot of an object, if both are known. What a conjunct asks of a slot
+/// is asked with the conjunct.
+fn asked_may_stand(
     task: &Task<'_, '_>,
-    template: &Tmpl,
+    asked: &Asked<'_>,
     binding: &Binding,
 ) -> Result<bool, NoMemory>
-    ensures { IfOk result (λ b. b ≡ may_match task.now.program.now task.now.models.now template.now binding.now.values) }
+    ensures { IfOk result (λ b. b ≡ may_asked (problem_of task.now) binding.now.values (asked_value asked.now)) }
 {
-    match value_at(binding, template.var) {
-        Some(datum) => {
-            if is_of_class(task.models, template.class, datum) {
-                items_may_hold(task, template.items.as_slice(), binding, datum)
-            } else {
-                Ok(false)
-            }
-        }
+    match value_at(binding, asked.holder) {
+        Some(datum) => match asked.by {
+            AskedBy::Item(e) => expression_may_stand(task, e, binding, datum, asked.prop),
+            AskedBy::Condition(_) => Ok(true),
+            AskedBy::Equation(_) => Ok(true),
+        },
         None => Ok(true),
     }
 }
 
-/// Whether nothing is against it yet that each item holds of an object.
-#[cycle(pruning)]
-fn items_may_hold(
-    task: &Task<'_, '_>,
-    items: &[Item],
-    binding: &Binding,
-    datum: &Datum,
-) -> Result<bool, NoMemory>
-    ensures { IfOk result (λ b. b ≡ list_all (λ item. item binding.now.values datum.now) (map (may_item task.now.program.now task.now.models.now) items.now)) }
-{
-    for item in items {
-        if !item_may_hold(task, item, binding, datum)? {
-            return Ok(false);
-        }
-    }
-    Ok(true)
-}
-
-/// Whether nothing is against it yet that an item holds of an object.
-#[cycle(pruning)]
-fn item_may_hold(
-    task: &Task<'_, '_>,
-    item: &Item,
-    binding: &Binding,
-    datum: &Datum,
-) -> Result<bool, NoMemory>
-    ensures { IfOk result (λ b. b ≡ may_item task.now.program.now task.now.models.now item.now binding.now.values datum.now) }
-{
-    value_may_stand(task, &item.value, binding, datum, item.prop)
-}
-
-/// Whether nothing is against it yet that what an item asks holds of a property of an object.
-#[cycle(pruning)]
-fn value_may_stand(
-    task: &Task<'_, '_>,
-    value: &ItemValue,
-    binding: &Binding,
-    datum: &Datum,
-    prop: PropId,
-) -> Result<bool, NoMemory>
-    ensures { IfOk result (λ b. b ≡ may_value task.now.program.now task.now.models.now value.now binding.now.values (held_at (setting task.now.program.now task.now.models.now) datum.now prop.0)) }
-{
-    match value {
-        ItemValue::Null => is_empty_at(task, datum, prop),
-        ItemValue::Expr { value } => expression_may_stand(task, value, binding, datum, prop),
-        ItemValue::Nested { template } => {
-            if may_stand_at(task, datum, prop, value_at(binding, template.var))? {
-                template_may_match(task, template, binding)
-            } else {
-                Ok(false)
-            }
-        }
-    }
-}
-
-/// The same of a template, if there is one.
-fn may_template(
-    task: &Task<'_, '_>,
-    template: &Option<Tmpl>,
-    binding: &Binding,
-) -> Result<bool, NoMemory>
-    ensures { IfOk result (λ b. b ≡ may_template task.now.program.now task.now.models.now template.now binding.now.values) }
-{
-    match template {
-        Some(template) => template_may_match(task, template, binding),
-        None => Ok(true),
-    }
-}
-
-/// The same of a domain, if it is one of the side.
-fn may_domain(task: &Task<'_, '_>, dom: &Dom, binding: &Binding) -> Result<bool, NoMemory>
-    ensures { IfOk result (λ b. b ≡ may_domain (problem_of task.now) binding.now.values dom.now) }
-{
-    if is_of_side(task.side, task.program, dom) {
-        may_template(task, &dom.template, binding)
-    } else {
-        Ok(true)
-    }
-}
-
-/// The same of all domains.
-fn may_domains(task: &Task<'_, '_>, domains: &[Dom], binding: &Binding) -> Result<bool, NoMemory>
-    ensures { IfOk result (λ b. b ≡ list_all (may_domain (problem_of task.now) binding.now.values) domains.now) }
-{
-    for dom in domains {
-        if !may_domain(task, dom, binding)? {
-            return Ok(false);
-        }
-    }
-    Ok(true)
-}
+// ---- conjuncts
 
 /// Whether there is no first datum yet, or the two are one.
 pub(crate) fn may_be_one(one: Option<&Datum>, other: Option<&Datum>) -> bool
@@ -173,7 +123,7 @@ fn equation_may_hold(
     Ok(may_be_one(value_at(binding, variable), datum_of(&out)))
 }
 
-/// The same of a conjunct.
+/// Whether a conjunct may hold, as far as all that it names has a value.
 fn may_conjunct(task: &Task<'_, '_>, conjunct: &Conj, binding: &Binding) -> Result<bool, NoMemory>
     ensures { IfOk result (λ b. b ≡ may_conjunct (problem_of task.now) binding.now.values conjunct.now) }
 {
@@ -196,28 +146,93 @@ fn may_conjunct(task: &Task<'_, '_>, conjunct: &Conj, binding: &Binding) -> Resu
     }
 }
 
-/// The same of all conjuncts.
-fn may_conjuncts(
-    task: &Task<'_, '_>,
-    conjuncts: &[Conj],
+// ---- parts
+
+/// Whether what a template asks of its object alone may hold; where it can't, no binding is found from here on.
+fn shape_part_may_hold(
+    prepared: &Prepared<'_, '_, '_>,
     binding: &Binding,
+    number: usize,
 ) -> Result<bool, NoMemory>
-    ensures { IfOk result (λ b. b ≡ list_all (may_conjunct (problem_of task.now) binding.now.values) conjuncts.now) }
+    requires prepared { IsPrepared prepared.now binding.now.values }
+    ensures { IfOk result (λ b. b ≡ false → IsBarren (problem_in prepared.now) binding.now.values) }
 {
-    for conjunct in conjuncts {
-        if !may_conjunct(task, conjunct, binding)? {
-            return Ok(false);
-        }
+    match numbered(prepared.shapes, number) {
+        Some(shape) => shape_may_be(prepared.task, shape, binding),
+        None => Ok(true),
     }
-    Ok(true)
 }
 
-/// Whether no item and no conjunct, all of whose variables have values, is against the binding.
-pub(crate) fn may_meet(task: &Task<'_, '_>, binding: &Binding) -> Result<bool, NoMemory>
-    ensures { IfOk result (λ b. b ≡ may_meet (problem_of task.now) binding.now.values) }
+/// The same of a link.
+fn link_part_may_hold(
+    prepared: &Prepared<'_, '_, '_>,
+    binding: &Binding,
+    number: usize,
+) -> Result<bool, NoMemory>
+    requires prepared { IsPrepared prepared.now binding.now.values }
+    ensures { IfOk result (λ b. b ≡ false → IsBarren (problem_in prepared.now) binding.now.values) }
 {
-    if !may_domains(task, task.rel.domains.as_slice(), binding)? {
-        return Ok(false);
+    match numbered(prepared.task.links, number) {
+        Some(link) => link_may_hold(prepared.task, link, binding),
+        None => Ok(true),
     }
-    may_conjuncts(task, clause_of(task.side, task.rel), binding)
+}
+
+/// The same of what is asked of a slot.
+fn asked_part_may_hold(
+    prepared: &Prepared<'_, '_, '_>,
+    binding: &Binding,
+    number: usize,
+) -> Result<bool, NoMemory>
+    requires prepared { IsPrepared prepared.now binding.now.values }
+    ensures { IfOk result (λ b. b ≡ false → IsBarren (problem_in prepared.now) binding.now.values) }
+{
+    match numbered(prepared.asked, number) {
+        Some(asked) => asked_may_stand(prepared.task, asked, binding),
+        None => Ok(true),
+    }
+}
+
+/// The same of a conjunct.
+fn conjunct_part_may_hold(
+    prepared: &Prepared<'_, '_, '_>,
+    binding: &Binding,
+    number: usize,
+) -> Result<bool, NoMemory>
+    requires prepared { IsPrepared prepared.now binding.now.values }
+    ensures { IfOk result (λ b. b ≡ false → IsBarren (problem_in prepared.now) binding.now.values) }
+{
+    match numbered(clause_of(prepared.task.side, prepared.task.rel), number) {
+        Some(conjunct) => may_conjunct(prepared.task, conjunct, binding),
+        None => Ok(true),
+    }
+}
+
+/// The same of a join.
+fn join_part_may_hold(prepared: &Prepared<'_, '_, '_>, binding: &Binding, number: usize) -> bool
+    requires prepared { IsPrepared prepared.now binding.now.values }
+    ensures { result ≡ false → IsBarren (problem_in prepared.now) binding.now.values }
+{
+    match numbered(prepared.task.joins, number) {
+        Some(join) => may_join(join, binding),
+        None => true,
+    }
+}
+
+/// Whether a part may hold; where it can't, no binding is found from here on.
+pub(crate) fn part_may_hold(
+    prepared: &Prepared<'_, '_, '_>,
+    binding: &Binding,
+    part: Part,
+) -> Result<bool, NoMemory>
+    requires prepared { IsPrepared prepared.now binding.now.values }
+    ensures { IfOk result (λ b. b ≡ false → IsBarren (problem_in prepared.now) binding.now.values) }
+{
+    match part {
+        Part::Shape(number) => shape_part_may_hold(prepared, binding, number),
+        Part::Link(number) => link_part_may_hold(prepared, binding, number),
+        Part::Asked(number) => asked_part_may_hold(prepared, binding, number),
+        Part::Conjunct(number) => conjunct_part_may_hold(prepared, binding, number),
+        Part::Join(number) => Ok(join_part_may_hold(prepared, binding, number)),
+    }
 }

@@ -4,17 +4,19 @@ ghost use Rattle.qvtr_semantics.specs.Templates.{Values};
 ghost use Rattle.template_match.specs.Branches.{IsFound};
 ghost use Rattle.template_match.specs.Levels.{IsBegun, AreLevels, AreMore, IsStep, IsFoundOrOwed};
 ghost use Rattle.template_match.specs.Prepared.{problem_in, IsPrepared};
-ghost use Rattle.template_match.specs.Search.{fits, may_fit, tested, values_of};
+ghost use Rattle.template_match.specs.Search.{fits, tested, values_of};
 ghost use Rattle.template_match.specs.Tasks.{problem_of};
 
+use crate::agenda::Agenda;
+use crate::allowing::is_allowed;
 use crate::branch::Branch;
 use crate::branching::next_branch;
-use crate::joins::{are_joined, may_joins};
+use crate::joins::are_joined;
 use crate::meeting::meets;
 use crate::opening::is_any_open;
 use crate::prepared::Prepared;
-use crate::pruning::may_meet;
 use crate::task::Task;
+use crate::telling::planned_branch;
 use crate::values::{duplicate_binding, with_value};
 use mof_metamodel::{NoMemory, Seq};
 use qvtr_semantics::Binding;
@@ -30,19 +32,8 @@ fn fits(task: &Task<'_, '_>, binding: &Binding) -> Result<bool, NoMemory>
     }
 }
 
-/// Whether nothing that can be asked yet is against the binding, and there may be a row of each join for it.
-fn may_fit(task: &Task<'_, '_>, binding: &Binding) -> Result<bool, NoMemory>
-    ensures { IfOk result (λ b. b ≡ may_fit (problem_of task.now) binding.now.values) }
-{
-    if may_joins(task.joins, binding) {
-        may_meet(task, binding)
-    } else {
-        Ok(false)
-    }
-}
-
 /// Puts the binding behind others, if it is one that is looked for.
-fn add_tested(
+pub(crate) fn add_tested(
     task: &Task<'_, '_>,
     binding: &Binding,
     found: &mut Seq<Binding>,
@@ -60,20 +51,37 @@ fn add_tested(
 fn begin(
     prepared: &Prepared<'_, '_, '_>,
     binding: &Binding,
+    agenda: &mut Agenda,
     found: &mut Seq<Binding>,
 ) -> Result<Option<Branch>, NoMemory>
     requires prepared { IsPrepared prepared.now binding.now.values }
     ensures { IfOk result (IsBegun (problem_in prepared.now) binding.now.values (values_of found.old) (values_of found.new)) }
 {
-    if !is_any_open(prepared, binding) {
+    if agenda.is_full() {
+        return begin_unplanned(prepared, binding, found);
+    }
+    match planned_branch(prepared, binding, agenda)? {
+        Some(level) => Ok(Some(level)),
+        None => begin_unplanned(prepared, binding, found),
+    }
+}
+
+/// The same where the agenda leads to no variable. Where a program is well formed none is open then; nothing that
+/// is proved rests on that.
+fn begin_unplanned(
+    prepared: &Prepared<'_, '_, '_>,
+    binding: &Binding,
+    found: &mut Seq<Binding>,
+) -> Result<Option<Branch>, NoMemory>
+    requires prepared { IsPrepared prepared.now binding.now.values }
+    ensures { IfOk result (IsBegun (problem_in prepared.now) binding.now.values (values_of found.old) (values_of found.new)) }
+{
+    if is_any_open(prepared, binding) {
+        next_branch(prepared, binding)
+    } else {
         add_tested(prepared.task, binding, found)?;
-        return Ok(None);
+        Ok(None)
     }
-    let allowed = may_fit(prepared.task, binding)?;
-    if !allowed {
-        return Ok(None);
-    }
-    next_branch(prepared, binding)
 }
 
 /// Looks at a binding, and puts a level for the next variable behind those that led to it.
@@ -81,15 +89,41 @@ fn enter(
     prepared: &Prepared<'_, '_, '_>,
     binding: &Binding,
     levels: &mut Seq<Branch>,
+    agenda: &mut Agenda,
     found: &mut Seq<Binding>,
 ) -> Result<(), NoMemory>
     requires prepared { IsPrepared prepared.now binding.now.values }
     requires levels { AreLevels prepared.now binding.now.values (reverse levels.old) }
     ensures { OnOk result (AreMore prepared.now binding.now.values (reverse levels.old) (values_of found.old) (reverse levels.new) (values_of found.new)) }
 {
-    match begin(prepared, binding, found)? {
-        Some(level) => levels.push(level),
+    match begin(prepared, binding, agenda, found)? {
+        Some(level) => {
+            agenda.open_level(level.variable)?;
+            levels.push(level)
+        }
         None => Ok(()),
+    }
+}
+
+/// The same, unless a part that says something of the values that are there is against the binding: of all, or of
+/// those that name the variable that was given one.
+fn enter_allowed(
+    prepared: &Prepared<'_, '_, '_>,
+    binding: &Binding,
+    given: Option<u32>,
+    levels: &mut Seq<Branch>,
+    agenda: &mut Agenda,
+    found: &mut Seq<Binding>,
+) -> Result<(), NoMemory>
+    requires prepared { IsPrepared prepared.now binding.now.values }
+    requires levels { AreLevels prepared.now binding.now.values (reverse levels.old) }
+    ensures { OnOk result (AreMore prepared.now binding.now.values (reverse levels.old) (values_of found.old) (reverse levels.new) (values_of found.new)) }
+{
+    let allowed = is_allowed(prepared, binding, agenda, given)?;
+    if allowed {
+        enter(prepared, binding, levels, agenda, found)
+    } else {
+        Ok(())
     }
 }
 
@@ -100,19 +134,25 @@ fn step(
     binding: Binding,
     levels: &mut Seq<Branch>,
     mut last: Branch,
+    agenda: &mut Agenda,
     found: &mut Seq<Binding>,
 ) -> Result<Binding, NoMemory>
     requires { AreLevels prepared.now binding.values (last ∷ reverse levels.old) }
     ensures { IfOk result (λ c. IsStep prepared.now binding.values (last ∷ reverse levels.old) (values_of found.old) c.values (reverse levels.new) (values_of found.new)) }
 {
+    let variable = last.variable;
     match last.candidates.pop() {
         Some(datum) => {
-            let next = with_value(binding, last.variable, Some(datum));
+            let next = with_value(binding, variable, Some(datum));
             levels.push(last)?;
-            enter(prepared, &next, levels, found)?;
+            agenda.restart();
+            enter_allowed(prepared, &next, Some(variable), levels, agenda, found)?;
             Ok(next)
         }
-        None => Ok(with_value(binding, last.variable, None)),
+        None => {
+            agenda.close_level(variable);
+            Ok(with_value(binding, variable, None))
+        }
     }
 }
 
@@ -122,6 +162,7 @@ fn search_levels(
     prepared: &Prepared<'_, '_, '_>,
     roots: Binding,
     levels: &mut Seq<Branch>,
+    agenda: &mut Agenda,
     found: &mut Seq<Binding>,
 ) -> Result<(), NoMemory>
     requires { AreLevels prepared.now roots.values (reverse levels.old) }
@@ -130,7 +171,7 @@ fn search_levels(
     let mut binding = roots;
     'steps: for _ in 0..u64::MAX {
         match levels.pop() {
-            Some(last) => binding = step(prepared, binding, levels, last, found)?,
+            Some(last) => binding = step(prepared, binding, levels, last, agenda, found)?,
             None => return Ok(()),
         }
     }
@@ -143,13 +184,14 @@ fn search_levels(
 pub(crate) fn search_from(
     prepared: &Prepared<'_, '_, '_>,
     binding: &Binding,
+    agenda: &mut Agenda,
     found: &mut Seq<Binding>,
 ) -> Result<(), NoMemory>
     requires prepared { IsPrepared prepared.now binding.now.values }
     ensures { OnOk result (IsFound (problem_in prepared.now) binding.now.values (values_of found.old) (values_of found.new)) }
 {
     let mut levels = Seq::new(prepared.task.alloc);
-    enter(prepared, binding, &mut levels, found)?;
+    enter_allowed(prepared, binding, None, &mut levels, agenda, found)?;
     let roots = duplicate_binding(prepared.task.alloc, binding)?;
-    search_levels(prepared, roots, &mut levels, found)
+    search_levels(prepared, roots, &mut levels, agenda, found)
 }

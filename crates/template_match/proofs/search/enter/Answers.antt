@@ -6,8 +6,8 @@ use Rattle.template_match.specs.Search.{values_of}
 use Rattle.template_match.proofs.LevelLaws.{more_pushed, more_found}
 use Rattle.template_match.proofs.search.enter.Goals as goal
 
-pub returns-in-Some : goal.returns-in-Some
-returns-in-Some c =
+pub returns-in_ok-open_level-in-Some : goal.returns-in_ok-open_level-in-Some
+returns-in_ok-open_level-in-Some c =
     let s = c.args.prepared.now in
     let a = c.args.binding.now.values in
     let olds = values_of c.args.found.now in

@@ -5,26 +5,26 @@ use Rattle.template_match.specs.Search.{values_of}
 use Rattle.template_match.proofs.LevelLaws.{last_first, candidate_prepared, candidate_levels, candidate_step}
 use Rattle.template_match.proofs.search.step.Goals as goal
 
-pub enter-requires-clause-prepared : goal.enter-requires-clause-prepared
-enter-requires-clause-prepared c =
+pub enter_allowed-requires-clause-prepared : goal.enter_allowed-requires-clause-prepared
+enter_allowed-requires-clause-prepared c =
     let level : Branch = record { variable = c.args.last.variable; candidates = c.pop.new.self } in
     candidate_prepared c.args.prepared.now c.args.binding.values c.with_value-next.result.values (reverse c.args.levels.now) c.args.last level c.in-Some.datum refl c.in-Some.ensures
     c.with_value-next.ensures c.requires
 
-pub enter-requires-clause-levels : goal.enter-requires-clause-levels
-enter-requires-clause-levels c =
+pub enter_allowed-requires-clause-levels : goal.enter_allowed-requires-clause-levels
+enter_allowed-requires-clause-levels c =
     let level : Branch = record { variable = c.args.last.variable; candidates = c.pop.new.self } in
     subst (AreLevels c.args.prepared.now c.with_value-next.result.values) (sym (last_first c.args.levels.now c.push.new.self level c.in_ok-push-in-Some.ensures.ok))
     (candidate_levels c.args.prepared.now c.args.binding.values c.with_value-next.result.values (reverse c.args.levels.now) c.args.last level c.in-Some.datum refl c.in-Some.ensures
     c.with_value-next.ensures c.requires)
 
-pub returns-in_ok-enter-in-Some : goal.returns-in_ok-enter-in-Some
-returns-in_ok-enter-in-Some c =
+pub returns-in_ok-enter_allowed-in-Some : goal.returns-in_ok-enter_allowed-in-Some
+returns-in_ok-enter_allowed-in-Some c =
     let level : Branch = record { variable = c.args.last.variable; candidates = c.pop.new.self } in
     let s = c.args.prepared.now in
     let next = c.with_value-next.result.values in
     let olds = values_of c.args.found.now in
-    let news = values_of c.enter.new.found in
-    let after = reverse c.enter.new.levels in
+    let news = values_of c.enter_allowed.new.found in
+    let after = reverse c.enter_allowed.new.levels in
     candidate_step s c.args.binding.values next (reverse c.args.levels.now) c.args.last level c.in-Some.datum refl c.in-Some.ensures c.with_value-next.ensures c.requires olds news after
-    (subst (λ levels. AreMore s next levels olds after news) (last_first c.args.levels.now c.push.new.self level c.in_ok-push-in-Some.ensures.ok) c.in_ok-enter-in-Some.ensures)
+    (subst (λ levels. AreMore s next levels olds after news) (last_first c.args.levels.now c.push.new.self level c.in_ok-push-in-Some.ensures.ok) c.in_ok-enter_allowed-in-Some.ensures)
