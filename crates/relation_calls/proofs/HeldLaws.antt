@@ -1,6 +1,6 @@
 -- Answers to calls in where clauses, kept for use behind other chains: a call whose chains are clean goes on by distinct calls alone, and
 -- no chain from it comes back to a call that leads to it.
-use Rattle.std.specs.Prelude.{◌≡◌, ◌⊎◌, ◌≤◌, ◌+◌, ◌-◌, ℕ, zero, suc, List, [], ◌∷◌, ◌++◌, length, Option, Some, slice_get, Contains, Bool, IsTrue, IfSome, ◌↔◌}
+use Rattle.std.specs.Prelude.{◌≡◌, ◌⊎◌, ◌≤◌, ◌+◌, ◌-◌, ℕ, zero, suc, List, [], ◌∷◌, ◌++◌, length, Some, slice_get, Contains, Bool, IsTrue, ◌↔◌}
 use Rattle.std.specs.BTreeMap.{get}
 use Rattle.std.proofs.Common.{refl, sym, subst, ◌∙◌, arith, inl, inr}
 use Rattle.std.proofs.lemmas.Bool.Decides.{leb_tells}
@@ -15,6 +15,7 @@ use Rattle.qvtr_semantics.specs.Bindings.{Source, Target}
 use Rattle.qvtr_semantics.specs.Calls.{RelationCall, AllAsked, Match, HoldsFor, calls_of}
 use Rattle.qvtr_semantics.specs.Chains.{CallsWhere, GoesOn, HoldsChain}
 use Rattle.relation_calls.specs.declared.name.CallName.{CallName}
+use Rattle.relation_calls.specs.declared.memo.Answer.{Answer}
 use Rattle.relation_calls.specs.declared.memo.Memo.{Memo}
 use Rattle.relation_calls.specs.Names.{chain_named}
 use Rattle.relation_calls.specs.CallOrder.{call_order}
@@ -23,7 +24,7 @@ use Rattle.relation_calls.specs.Links.{IsLinked, AreLinked}
 use Rattle.relation_calls.specs.Memos.{IsHeight, IsHolding, IsTold}
 use Rattle.relation_calls.specs.Visits.{IsChain}
 use Rattle.relation_calls.proofs.ChainLaws.{shift, holds_chains}
-use Rattle.relation_calls.proofs.HeightLaws.{height_enough}
+use Rattle.relation_calls.proofs.HeightLaws.{height_enough, heights_alike}
 use Rattle.relation_calls.proofs.RefusalLaws.{fine, longer, cyclic_with, deep_with, length_more}
 use Rattle.relation_calls.proofs.VisitLaws.{clean_from}
 
@@ -178,40 +179,38 @@ module _ (program : Program) (models : List ModelData) where
 
   -- what was found of a call behind a chain is kept under its key
   pub kept_holding : (upto : List RelationCall) (key d : RelationCall) → key ≡ d → (holds : Bool) → IsChain upto → AreClean (SeenBehind program models upto d)
-      → (IsTrue holds ↔ HoldsFor program models (MAX_CALLS - length upto) d) → (height : ℕ) → height ≡ MAX_CALLS - length upto → IsHolding program models key (record { holds = holds; height = height })
-  kept_holding upto key d same holds whole clean value height is =
+      → (IsTrue holds ↔ HoldsFor program models (MAX_CALLS - length upto) d) → (height : ℕ) → IsHeight program models d height → IsHolding program models key (record { holds = holds; height = height })
+  kept_holding upto key d same holds whole clean value height high =
+      let alike = heights_alike program models height (MAX_CALLS - length upto) d high (height_left upto d whole clean) in
       subst (λ c. IsHolding program models c (record { holds = holds; height = height })) (sym same) (
       record {
-        value = subst (λ n. IsTrue holds ↔ HoldsFor program models n d) (sym is) value;
+        value = (λ h. alike.1 (value.0 h), λ h. value.1 (alike.0 h));
         clean = clean_from (SeenBehind program models [] d) (HoldsChain program models d) (λ chain h. (holds_chains program models d chain).0 h) (clean_alone upto d whole clean);
-        height = subst (IsHeight program models d) (sym is) (height_left upto d whole clean);
+        height = high;
       }
       )
 
   module _ (memo : Memo) (told : IsTold program models memo) (upto : List RelationCall) (key d : RelationCall) (same : key ≡ d) (left : ℕ) (most : left ≡ MAX_CALLS - length upto)
-      (found : Option Bool) (holds : Bool) (is : found ≡ Some holds)
-      (kept : IfSome found (λ one. (height : ℕ) × (height ≤ left) × (get call_order memo.holding key ≡ Some (record { holds = one; height = height })))) where
-    record Taken : Type 0 where
-      height : ℕ
-      few : height ≤ MAX_CALLS - length upto
-      holding : IsHolding program models d (record { holds = holds; height = height })
+      (answer : Answer) (kept : (answer.height ≤ left) × (get call_order memo.holding key ≡ Some answer)) where
+    holding : IsHolding program models d answer
+    holding = subst (λ c. IsHolding program models c answer) same (told.holding key answer kept.1)
 
-    taken : Taken
-    taken =
-        let (height, few, at) = subst (λ o. IfSome o (λ one. (h : ℕ) × (h ≤ left) × (get call_order memo.holding key ≡ Some (record { holds = one; height = h })))) is kept in
-        record {
-          height = height;
-          few = subst (λ n. height ≤ n) most few;
-          holding = subst (λ c. IsHolding program models c (record { holds = holds; height = height })) same (told.holding key (record { holds = holds; height = height }) at);
-        }
+    few : answer.height ≤ MAX_CALLS - length upto
+    few = subst (λ n. answer.height ≤ n) most kept.0
 
     -- what is kept with few enough calls holds behind this chain
-    pub taken_value : IsTrue holds ↔ HoldsFor program models (MAX_CALLS - length upto) d
+    pub taken_value : IsTrue answer.holds ↔ HoldsFor program models (MAX_CALLS - length upto) d
     taken_value =
-        let enough = height_enough program models taken.height (MAX_CALLS - length upto) d taken.holding.height taken.few in
-        (λ h. enough.0 (taken.holding.value.0 h), λ h. taken.holding.value.1 (enough.1 h))
+        let enough = height_enough program models answer.height (MAX_CALLS - length upto) d holding.height few in
+        (λ h. enough.0 (holding.value.0 h), λ h. holding.value.1 (enough.1 h))
 
     pub taken_clean : IsChain upto → IsLinked program models (upto ++ d ∷ []) → AreClean (SeenBehind program models upto d)
     taken_clean whole linked =
-        kept_clean upto d taken.height whole linked
-        (clean_from (HoldsChain program models d) (SeenBehind program models [] d) (λ chain seen. (holds_chains program models d chain).1 seen) taken.holding.clean) taken.holding.height taken.few
+        kept_clean upto d answer.height whole linked
+        (clean_from (HoldsChain program models d) (SeenBehind program models [] d) (λ chain seen. (holds_chains program models d chain).1 seen) holding.clean) holding.height few
+
+    pub taken_height : IsHeight program models d answer.height
+    taken_height = holding.height
+
+    pub taken_few : answer.height ≤ MAX_CALLS
+    taken_few = omega (arith, few)

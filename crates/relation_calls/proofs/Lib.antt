@@ -9,6 +9,8 @@ pub mod AskingLaws
 pub mod OutsideLaws
 pub mod HeightLaws
 pub mod StepLaws
+pub mod OwingLaws
+pub mod FrameLaws
 pub mod MakingLaws
 pub mod MemoLaws
 pub mod HeldLaws

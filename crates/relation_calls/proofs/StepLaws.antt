@@ -1,5 +1,5 @@
 -- Loops over the parts of a visit, as one step and as the end.
-use Rattle.std.specs.Prelude.{◌≡◌, ◌<◌, ◌≤◌, ◌↔◌, ℕ, suc, Bool, ◌&&◌, ◌||◌, List, [], ◌∷◌, ◌++◌, length, take, get_or, Option, Some, Contains, IsTrue}
+use Rattle.std.specs.Prelude.{◌≡◌, ◌<◌, ◌≤◌, ◌↔◌, ℕ, suc, Bool, ◌&&◌, ◌||◌, List, [], ◌∷◌, ◌++◌, length, take, get_or, Option, Contains, IsTrue}
 use Rattle.std.specs.Option.{option_map}
 use Rattle.std.proofs.Common.{sym, subst}
 use Rattle.object_tables.specs.Models.{ModelData}
@@ -15,30 +15,18 @@ use Rattle.relation_calls.specs.declared.outcome.Outcome.{Outcome}
 use Rattle.relation_calls.specs.Names.{call_named, calls_named}
 use Rattle.relation_calls.specs.Seen.{AreClean}
 use Rattle.relation_calls.specs.Faults.{IsFault}
-use Rattle.relation_calls.specs.Askable.{AreBelow}
-use Rattle.relation_calls.specs.Links.{AreLinked}
 use Rattle.relation_calls.specs.Outcomes.{IsOutcome, AreOutcomes}
 use Rattle.relation_calls.proofs.ListLaws.{one_more, all_taken, item_of}
 use Rattle.mof_metamodel.proofs.Facts.{contains_map}
-use Rattle.mof_metamodel.proofs.Facts.{only_one}
-use Rattle.relation_calls.proofs.VisitLaws.{Chains, ByCalls, ByValues, fault_in, all_more, any_more, clean_calls, clean_values, by_call, below_one}
+use Rattle.relation_calls.proofs.VisitLaws.{Chains, ByCalls, ByValues, fault_in, all_more, any_more, clean_calls, clean_values}
 use Rattle.relation_calls.proofs.OutcomeLaws.{outcomes_more}
 
 module _ (calls : List (Option CallName)) (i : ℕ) (call : Option CallName) (within : i < length calls) (is : call ≡ get_or calls i call) where
-  here : Contains (calls_named calls) (option_map call_named call)
-  here = contains_map (λ c. option_map call_named c) calls call (item_of calls i call within is)
+  pub call_here : Contains (calls_named calls) (option_map call_named call)
+  call_here = contains_map (λ c. option_map call_named c) calls call (item_of calls i call within is)
 
-  next_calls : (j : ℕ) → j ≡ suc i → calls_named (take j calls) ≡ calls_named (take i calls) ++ option_map call_named call ∷ []
+  pub next_calls : (j : ℕ) → j ≡ suc i → calls_named (take j calls) ≡ calls_named (take i calls) ++ option_map call_named call ∷ []
   next_calls j next = one_more (λ c. option_map call_named c) calls i j call next within is
-
-  pub call_below : (program : Program) (s : ℕ) → AreBelow program s (calls_named calls) → AreBelow program s (option_map call_named call ∷ [])
-  call_below program s below = below_one program s (calls_named calls) (option_map call_named call) below here
-
-  pub call_linked : (program : Program) (models : List ModelData) (upto : List RelationCall) → AreLinked program models upto (calls_named calls) → AreLinked program models upto (option_map call_named call ∷ [])
-  call_linked program models upto linked d one = linked d (subst (Contains (calls_named calls)) (only_one (option_map call_named call) (Some d) one) here)
-
-  pub call_fault : (D : RelationCall → Chains) (e : CallError) → IsFault (ByCalls D (option_map call_named call ∷ [])) e → IsFault (ByCalls D (calls_named calls)) e
-  call_fault D e f = fault_in (ByCalls D (option_map call_named call ∷ [])) (ByCalls D (calls_named calls)) (by_call D (calls_named calls) (option_map call_named call) here) e f
 
   pub call_value : (asked : Asked) (j : ℕ) (all one : Bool) → j ≡ suc i → (IsTrue all ↔ AllAsked asked (calls_named (take i calls))) → (IsTrue one ↔ AllAsked asked (option_map call_named call ∷ []))
       → IsTrue (all && one) ↔ AllAsked asked (calls_named (take j calls))

@@ -1,5 +1,5 @@
 -- Parts of a visit, one after another: the calls of a clause, partners and bindings; and all that is come to by a visit.
-use Rattle.std.specs.Prelude.{◌≡◌, ◌⊎◌, ◌↔◌, ℕ, Bool, true, false, ◌&&◌, ◌||◌, List, [], ◌∷◌, ◌++◌, Option, None, Some, slice_get, Contains, IsTrue, IfErr}
+use Rattle.std.specs.Prelude.{◌≡◌, ◌⊎◌, ◌↔◌, Bool, true, false, ◌&&◌, ◌||◌, List, [], ◌∷◌, ◌++◌, Option, None, Some, slice_get, Contains, IsTrue, IfErr}
 use Rattle.std.specs.declared.result.Result.{Result}
 use Rattle.std.specs.declared.result.Result.TheVariants.{Err}
 use Rattle.std.proofs.Common.{refl, sym, subst, ◌∙◌, arith, inl, inr}
@@ -17,7 +17,6 @@ use Rattle.relation_calls.specs.declared.error.CallError.{CallError}
 use Rattle.relation_calls.specs.declared.error.CallError.TheVariants as errors
 use Rattle.relation_calls.specs.Seen.{Seen, SeenBehind, AreClean}
 use Rattle.relation_calls.specs.Faults.{IsFault}
-use Rattle.relation_calls.specs.Askable.{AreBelow}
 use Rattle.relation_calls.specs.Visits.{IsSourceBinding}
 use Rattle.template_match.specs.declared.side.Side.TheVariants as sides
 use Rattle.template_match.proofs.SideLaws.{meets_parts, valued}
@@ -57,9 +56,6 @@ clean_calls D cs c before last chain (d, has, seen) bad = elim (Contains-append_
 
 pub clean_no_calls : (D : RelationCall → Chains) → AreClean (ByCalls D [])
 clean_no_calls D chain (d, (k, within, is), seen) bad = absurd (omega (arith, within))
-
-pub by_call : (D : RelationCall → Chains) (cs : List (Option RelationCall)) (c : Option RelationCall) → Contains cs c → (chain : List RelationCall) → ByCalls D (c ∷ []) chain → ByCalls D cs chain
-by_call D cs c has chain (d, one, seen) = (d, subst (Contains cs) (only_one c (Some d) one) has, seen)
 
 -- of one call
 pub by_one : (D : RelationCall → Chains) (c : RelationCall) (chain : List RelationCall) → ByCalls D (Some c ∷ []) chain ↔ D c chain
@@ -176,10 +172,7 @@ module _ (program : Program) (models : List ModelData) (upto : List RelationCall
   join c chain b is source (inr (whens, (g, target, (d, has, inr seen)))) =
       Seen.by_where upto c d chain (record { rel = rel; is = is; binding = b; source = record { source = source; whens = whens }; partner = g; target = target; calls = has }) seen
 
--- ---- one of the calls of a clause
-
-pub below_one : (program : Program) (s : ℕ) (cs : List (Option RelationCall)) (c : Option RelationCall) → AreBelow program s cs → Contains cs c → AreBelow program s (c ∷ [])
-below_one program s cs c below has d one = below d (subst (Contains cs) (only_one c (Some d) one) has)
+-- ---- bindings of the source
 
 -- a binding that meets the source has values of all universal variables
 pub source_binding : (program : Program) (models : List ModelData) (rel : Rel) (roots b : Values) → Source program models rel roots b → IsSourceBinding rel b

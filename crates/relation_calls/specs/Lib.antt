@@ -10,4 +10,6 @@ pub mod Calm
 pub mod Tables
 pub mod Memos
 pub mod Links
+pub mod Owing
+pub mod Frames
 pub mod Seeds

@@ -1,6 +1,6 @@
 -- What a memo keeps: answers to calls that were asked for a match, and to calls in where clauses; which relations are calm; and tables of
 -- matches.
-use Rattle.std.specs.Prelude.{◌≡◌, ◌↔◌, ◌≤◌, ℕ, Bool, List, Option, Some, length, IsTrue}
+use Rattle.std.specs.Prelude.{◌≡◌, ◌↔◌, ◌≤◌, ℕ, max, Bool, ◌&&◌, ◌||◌, List, Option, Some, length, IsTrue}
 use Rattle.std.specs.Ordering.{nat_cmp}
 use Rattle.std.specs.BTreeMap.{get}
 use Rattle.object_tables.specs.Models.{ModelData}
@@ -29,6 +29,13 @@ pub record IsHolding (program : Program) (models : List ModelData) (c : Relation
   pub value : IsTrue answer.holds ↔ HoldsFor program models answer.height c
   pub clean : AreClean (HoldsChain program models c)
   pub height : IsHeight program models c answer.height
+
+-- of calls and others
+abbrev pub both_hold : Answer → Answer → Answer
+both_hold one other = record { holds = one.holds && other.holds; height = max one.height other.height }
+
+abbrev pub one_holds : Answer → Answer → Answer
+one_holds one other = record { holds = one.holds || other.holds; height = max one.height other.height }
 
 -- each answer that is kept is true
 pub record IsTold (program : Program) (models : List ModelData) (memo : Memo) : Type 0 where

@@ -9,7 +9,7 @@ use std::alloc::Global;
 use template_match::duplicate_binding;
 
 /// Another name of the same call.
-fn duplicate_name(alloc: Global, name: &CallName) -> Result<CallName, NoMemory>
+pub(crate) fn duplicate_name(alloc: Global, name: &CallName) -> Result<CallName, NoMemory>
     ensures { IfOk result (λ n. call_named n ≡ call_named name.now) }
 {
     let roots = duplicate_binding(alloc, &name.roots)?;

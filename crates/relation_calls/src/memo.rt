@@ -1,4 +1,4 @@
-ghost use Rattle.std.specs.Prelude.{◌≡◌, ◌≤◌, ◌<◌, ℕ, List, None, Some, IfSome, OnOk, OnErr};
+ghost use Rattle.std.specs.Prelude.{◌≡◌, ◌≤◌, ◌<◌, List, None, Some, IfSome, OnOk, OnErr};
 ghost use Rattle.std.specs.Ordering.{nat_cmp};
 ghost use Rattle.std.specs.BTreeMap.{get, IsUnchanged, Updates};
 ghost use Rattle.object_tables.specs.Models.{ModelData};
@@ -7,7 +7,7 @@ ghost use Rattle.relation_calls.specs.declared.memo.Answer.{Answer};
 ghost use Rattle.relation_calls.specs.CallOrder.{call_order};
 ghost use Rattle.relation_calls.specs.Calm.{IsHeightOf};
 ghost use Rattle.relation_calls.specs.Tables.{IsTable};
-ghost use Rattle.relation_calls.specs.Memos.{IsMatching, IsHolding, IsTold};
+ghost use Rattle.relation_calls.specs.Memos.{IsMatching, IsHolding, IsTold, both_hold, one_holds};
 
 use crate::call_key::CallKey;
 use mof_metamodel::NoMemory;
@@ -15,16 +15,35 @@ use std::alloc::Global;
 use std::collections::BTreeMap;
 use template_match::MatchTable;
 
-/// Whether a call holds, and how many calls a chain has at most that begins with it.
-#[derive(Drop)]
+/// Whether calls of a clause hold, and how many calls a chain has at most that begins with one of them: a chain
+/// of calls in where clauses. Calls in a when clause hold where they match, and begin none.
+#[derive(Clone, Copy)]
 pub(crate) struct Answer {
     pub(crate) holds: bool,
     pub(crate) height: usize,
 }
 
-/// The greatest number of visits to relations within one another. Each takes not quite 2 KB of the stack,
-/// which is memory of 8 MB that other searches share: one visit more is answered as want of it.
-const MAX_NESTED: u32 = 1024;
+impl Answer {
+    /// Whether both hold.
+    pub(crate) fn and(self, other: Answer) -> Answer
+        ensures { result ≡ both_hold self other }
+    {
+        Answer {
+            holds: self.holds & other.holds,
+            height: self.height.max(other.height),
+        }
+    }
+
+    /// Whether one of them holds.
+    pub(crate) fn or(self, other: Answer) -> Answer
+        ensures { result ≡ one_holds self other }
+    {
+        Answer {
+            holds: self.holds | other.holds,
+            height: self.height.max(other.height),
+        }
+    }
+}
 
 /// Answers to calls of one program over one state of its models: whether a call that was asked for a match
 /// matches, and whether one in a where clause holds. It also keeps which relations are calm, and tables of
@@ -37,8 +56,6 @@ pub struct Memo {
     heights: BTreeMap<u32, Option<usize>>,
     /// Of a relation the table of its matches, none where it was given up.
     tables: BTreeMap<u32, Option<MatchTable>>,
-    /// How many visits are under way.
-    nested: u32,
 }
 
 impl Memo {
@@ -51,7 +68,6 @@ impl Memo {
             holding: BTreeMap::new(alloc),
             heights: BTreeMap::new(alloc),
             tables: BTreeMap::new(alloc),
-            nested: 0,
         }
     }
 
@@ -77,13 +93,13 @@ impl Memo {
 
     /// Whether the call holds, if an answer is kept by which no chain that begins with the call has more
     /// than `left` calls.
-    pub(crate) fn kept_hold(&self, call: &CallKey, left: usize) -> Option<bool>
-        ensures kept { IfSome result (λ holds. (height : ℕ) × (height ≤ left) × (get call_order self.now.holding call.now ≡ Some (record { holds = holds; height = height }))) }
+    pub(crate) fn kept_hold(&self, call: &CallKey, left: usize) -> Option<Answer>
+        ensures kept { IfSome result (λ answer. (answer.height ≤ left) × (get call_order self.now.holding call.now ≡ Some answer)) }
         ensures none { result ≡ None → (answer : Answer) → get call_order self.now.holding call.now ≡ Some answer → left < answer.height }
     {
         match self.holding.get(call) {
             Some(answer) => if answer.height <= left {
-                Some(answer.holds)
+                Some(*answer)
             } else {
                 None
             },
@@ -145,23 +161,5 @@ impl Memo {
     {
         self.tables.insert(number, table)?;
         Ok(())
-    }
-
-    /// Begins a visit within those that are under way.
-    pub(crate) fn enter(&mut self) -> Result<(), NoMemory>
-        ensures told { (program : Program) (models : List ModelData) → IsTold program models self.old → IsTold program models self.new }
-    {
-        if self.nested >= MAX_NESTED {
-            return Err(NoMemory);
-        }
-        self.nested += 1;
-        Ok(())
-    }
-
-    /// Ends the visit that was begun last.
-    pub(crate) fn leave(&mut self)
-        ensures told { (program : Program) (models : List ModelData) → IsTold program models self.old → IsTold program models self.new }
-    {
-        self.nested = self.nested.saturating_sub(1);
     }
 }

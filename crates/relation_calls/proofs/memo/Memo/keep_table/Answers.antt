@@ -7,7 +7,7 @@ returns-in_err-insert c =
     record {
       told = λ program models told is.
           let old = c.args.self.now in
-          unchanged_tables program models old (record { matching = old.matching; holding = old.holding; heights = old.heights; tables = c.insert.new.self; nested = old.nested }) told c.in_err-insert.ensures.err refl refl refl;
+          unchanged_tables program models old (record { matching = old.matching; holding = old.holding; heights = old.heights; tables = c.insert.new.self }) told c.in_err-insert.ensures.err refl refl refl;
     }
 
 pub returns : goal.returns
@@ -15,5 +15,5 @@ returns c =
     record {
       told = λ program models told is.
           let old = c.args.self.now in
-          more_tables program models old (record { matching = old.matching; holding = old.holding; heights = old.heights; tables = c.insert.new.self; nested = old.nested }) told c.args.number c.args.table c.in_ok-insert.ensures.updates refl refl refl is;
+          more_tables program models old (record { matching = old.matching; holding = old.holding; heights = old.heights; tables = c.insert.new.self }) told c.args.number c.args.table c.in_ok-insert.ensures.updates refl refl refl is;
     }
