@@ -48,3 +48,4 @@ pub mod MendedLaws
 pub mod MendedFileLaws
 pub mod MendedReplyLaws
 pub mod MendedRunLaws
+pub mod Refuting
