@@ -93,6 +93,12 @@ def condition(count):
     return script, [classes(names(count)), classes(names(count)), tables(['n0'])]
 
 
+def untied(count):
+    """Each class wants a schema, which nothing ties to it: there is one, behind its tables."""
+    script = relation('checkonly domain uml c : Class {}; checkonly domain rdb s : Schema {};')
+    return script, [classes(names(count)), tables(names(count))]
+
+
 def callers(count):
     script = relation('checkonly domain m0 c : Class {}; checkonly domain m1 d : Class {}; checkonly domain rdb t : Table {};',
                       'where { Sub(c, t); }', 'm0 : Cls, m1 : Cls, rdb : Rdb',
@@ -152,6 +158,7 @@ SHAPES = [
     ('two sources of n classes, by name', joined(2), (2000, 4000, 8000)),
     ('three sources of n classes, by name', joined(3), (2000, 4000, 8000)),
     ('two sources of n classes, by a condition', condition, (2000, 4000, 8000)),
+    ('n classes, an object of a rare class for each', untied, (5000, 10000, 20000)),
     ('n x n callers of one relation', callers, (100, 200, 400)),
     ('n attributes, a when call of a relation with a when call', calls_of_calls, (2000, 4000, 8000)),
     ('n classes, two when calls of a relation with calls', two_calls, (2000, 4000, 8000)),

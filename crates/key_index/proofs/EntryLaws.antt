@@ -19,7 +19,7 @@ use Rattle.object_tables.proofs.ListLemmas.{Contains-cons, Contains-from_map}
 use Rattle.object_tables.proofs.ValueLaws.{values_somewhere}
 use Rattle.key_index.specs.declared.holder.Holder.{Holder}
 use Rattle.key_index.specs.Entries.{entry, entries_at, props_in, entries_of, entries}
-use Rattle.key_index.specs.Holders.{Holds, IsIndexOf}
+use Rattle.key_index.specs.Holders.{Holds, AreAllHolders}
 
 -- ---- values stand at attributes alone
 
@@ -35,7 +35,7 @@ attribute_held m kept o p v held = elim (values_somewhere m kept o p) [
   | inr a ↦ a
 ]
 
-within_objects : (m : ModelData) (o c : ℕ) → class_at m o ≡ Some c → o < length m.objects
+pub within_objects : (m : ModelData) (o c : ℕ) → class_at m o ≡ Some c → o < length m.objects
 within_objects m o c e = elim (cases_lt o (length m.objects)) [
   | inl l ↦ l
   | inr le ↦ absurd (let is : None ≡ Some c = ap (λ (x : Option Object). option_map (λ (ob : Object). ob.class) x) (sym (get_or_past m.objects o None le)) ∙ e in cc)
@@ -44,12 +44,12 @@ within_objects m o c e = elim (cases_lt o (length m.objects)) [
 -- ---- lists that are joined
 
 module _ {X Y : Type 0} (f : X → List Y) where
-  in_flat : (xs : List X) (x : X) (y : Y) → Contains xs x → Contains (f x) y → Contains (flat_map f xs) y
+  pub in_flat : (xs : List X) (x : X) (y : Y) → Contains xs x → Contains (f x) y → Contains (flat_map f xs) y
   in_flat [] x y c d = absurd (nothing_in x c)
   in_flat (z ∷ xs) x y (zero, within, is) d = Contains-append_left (f z) (flat_map f xs) y (subst (λ w. Contains (f w) y) (sym is) d)
   in_flat (z ∷ xs) x y (suc k, within, is) d = Contains-append_right (f z) (flat_map f xs) y (in_flat xs x y (k, omega (arith, within), is) d)
 
-  from_flat : (xs : List X) (y : Y) → Contains (flat_map f xs) y → (x : X) × Contains xs x × Contains (f x) y
+  pub from_flat : (xs : List X) (y : Y) → Contains (flat_map f xs) y → (x : X) × Contains xs x × Contains (f x) y
   from_flat [] y c = absurd (nothing_in y c)
   from_flat (x ∷ xs) y c = elim (Contains-append_cases (f x) (flat_map f xs) y c) [
     | inl d ↦ (x, contains_first x xs, d)
@@ -102,12 +102,12 @@ module _ (m : ModelData) (o : ℕ) (old before : List Holder) where
       let long : length ids ≡ length props = sym (length-map ids number) ∙ ap length is in
       so_far ∙ ap (λ ps. old ++ flat_map (entries_at m o) ps) (take_all i props (omega (arith, l, long)))
 
-in_range : (n k : ℕ) → k < n → Contains (range_with_len 0 n) k
+pub in_range : (n k : ℕ) → k < n → Contains (range_with_len 0 n) k
 in_range n k l = (k, subst (λ j. k < j) (sym (length-range_with_len 0 n)) l, get_or-range_with_len 0 n k k l ∙ (let e : 0 + k ≡ k = omega arith in e))
 
 -- ---- the entries are an index
 
-pub indexed : (m : ModelData) → Kept m → IsIndexOf m (entries m)
+pub indexed : (m : ModelData) → Kept m → AreAllHolders m (entries m)
 indexed m kept = record { only = only; all = all }
   where
     of_class : (o c : ℕ) → class_at m o ≡ Some c → props_of m.meta c ≡ props_in m.meta (class_at m o)

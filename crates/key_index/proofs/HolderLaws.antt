@@ -17,7 +17,7 @@ use Rattle.object_tables.proofs.SlotLemmas.{Contains-to_filter}
 use Rattle.key_index.specs.declared.holder.Holder.{Holder}
 use Rattle.key_index.specs.Entries.{entry}
 use Rattle.key_index.specs.HolderOrder.{key_of, key_order, holder_order, is_at}
-use Rattle.key_index.specs.Holders.{Holds, IsIndexOf, AreHolders}
+use Rattle.key_index.specs.Holders.{Holds, AreAllHolders, AreHolders}
 use Rattle.key_index.proofs.OrderLaws.{keys_total, key_exact}
 
 module _ (p : ℕ) (v : Value) where
@@ -48,7 +48,7 @@ module _ (p : ℕ) (v : Value) where
   all_at : (hs : List Holder) → All IsAt (filter (is_at p v) hs)
   all_at hs = All-weaker (λ h. is_at p v h ≡ true) IsAt at_key (filter (is_at p v) hs) (filter_passes (is_at p v) hs)
 
-  module _ (m : ModelData) (hs : List Holder) (index : IsIndexOf m hs) where
+  module _ (m : ModelData) (hs : List Holder) (index : AreAllHolders m hs) where
     held : (h : Holder) → Contains (filter (is_at p v) hs) h → Holds m p v h.object.0
     unfolding IsAt
     held h c =

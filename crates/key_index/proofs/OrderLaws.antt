@@ -14,7 +14,7 @@ use Rattle.object_tables.specs.declared.value.Value.{Value}
 use Rattle.object_tables.specs.Models.{ModelData}
 use Rattle.key_index.specs.declared.holder.Holder.{Holder}
 use Rattle.key_index.specs.Entries.{entry}
-use Rattle.key_index.specs.Holders.{IsIndexOf}
+use Rattle.key_index.specs.Holders.{AreAllHolders}
 use Rattle.key_index.specs.HolderOrder.{key_of, key_order, holder_order}
 use Rattle.key_index.specs.ValueOrder.{value_order}
 use Rattle.key_index.specs.ValueOrderLaws.{values_total, value_exact, both_equal}
@@ -54,7 +54,7 @@ holder_exact h k e =
 
 -- entries of an index in order, each once, are entries of it
 module _ (xs sorted ys : List Holder) (is : ys ≡ dedup (λ h k. eq_by_cmp holder_order h k) sorted) where
-  pub once_indexed : (m : ModelData) → IsPermutation xs sorted → IsIndexOf m xs → IsIndexOf m ys
+  pub once_indexed : (m : ModelData) → IsPermutation xs sorted → AreAllHolders m xs → AreAllHolders m ys
   once_indexed m moved index = record {
     only = λ h c.
         index.only h

@@ -67,7 +67,7 @@ module _ {X : Type 0} (p : X → Bool) where
       ∙ sym (ap (λ b. cond b (x ∷ filter p xs) (filter p xs)) (point.0 0 x (omega arith) (omega arith)))
 
   -- those from it on fail
-  from_point : (xs : List X) (i : ℕ) → i ≤ length xs → IsPoint xs i → drop i xs ≡ filter (λ x. not (p x)) xs
+  pub from_point : (xs : List X) (i : ℕ) → i ≤ length xs → IsPoint xs i → drop i xs ≡ filter (λ x. not (p x)) xs
   from_point [] zero l point = refl
   from_point [] (suc i) l point = absurd (omega (arith, l))
   from_point (x ∷ xs) zero l point = sym (all_fail (x ∷ xs) (λ k d below. point.1 k d (omega arith) below))

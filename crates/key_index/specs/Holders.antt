@@ -1,4 +1,4 @@
--- Which objects of a model hold a value at an attribute, and what an index over a model is.
+-- Which objects of a model hold a value at an attribute, and the holders that an index keeps.
 use Rattle.std.specs.Prelude.{ℕ, List, All, Contains}
 use Rattle.std.specs.List.Sorted.{IsStrictlySortedBy}
 use Rattle.std.specs.Ordering.{nat_cmp}
@@ -18,6 +18,6 @@ pub record AreHolders (m : ModelData) (p : ℕ) (v : Value) (objects : List ℕ)
   pub all : (o : ℕ) → Holds m p v o → Contains objects o
 
 -- the entries are those of the model, in whichever order: one for each value that an object holds at an attribute
-pub record IsIndexOf (m : ModelData) (holders : List Holder) : Type 0 where
+pub record AreAllHolders (m : ModelData) (holders : List Holder) : Type 0 where
   pub only : (h : Holder) → Contains holders h → Holds m h.prop.0 h.value h.object.0
   pub all : (o p : ℕ) (v : Value) → Holds m p v o → Contains holders (entry o p v)

@@ -3,3 +3,5 @@ pub mod ValueOrderLaws
 pub mod HolderOrder
 pub mod Holders
 pub mod Entries
+pub mod Instances
+pub mod Indexes

@@ -11,20 +11,12 @@ ghost use Rattle.ocl_eval.specs.Worlds.{setting_of, class_in};
 use crate::models::Models;
 use crate::outs::boolean;
 use crate::world::World;
+use key_index::is_kind_of;
 use mof_metamodel::{ClassId, MetaModel, NoMemory, Seq};
 use object_tables::{Model, ObjId};
 use qv_syntax::{ClassOperation, Kind};
 use qvtr_semantics::{Datum, Out};
 use std::alloc::Global;
-
-/// Whether a class is another or inherits from it.
-fn is_kind_of(meta: &MetaModel, class: ClassId, other: ClassId) -> bool
-    requires { class.0 < class_count meta.now }
-    ensures { result ≡ is_kind_of meta.now class.0 other.0 }
-{
-    let _count = meta.class_count();
-    meta.conforms(class, other)
-}
 
 /// Whether the number is that of a live object whose class is the class or inherits from it.
 #[tactic(auto, using(crate::proofs::ClassLaws::gone, crate::proofs::ClassLaws::live))]

@@ -1,6 +1,6 @@
 ghost use Rattle.std.specs.Prelude.{◌≡◌, [], ◌∷◌, ◌++◌, length, slice_get, Some, OnOk, OnErr, IfSome};
 ghost use Rattle.std.specs.Option.{option_copied};
-ghost use Rattle.key_index.specs.Holders.{IsIndexOf};
+ghost use Rattle.key_index.specs.Indexes.{IsIndexOf};
 ghost use Rattle.ocl_eval.specs.Indexes.{AreIndexes};
 
 use key_index::KeyIndex;

@@ -5,7 +5,7 @@ use Rattle.std.specs.declared.result.Result.{Result}
 use Rattle.std.specs.declared.result.Result.TheVariants.{Ok, Err}
 use Rattle.std.proofs.Common.{refl, sym, ap, subst, ◌∙◌, arith, inl, inr}
 use Rattle.std.proofs.lemmas.List.Elements.{Contains-append_left, Contains-append_right, Contains-append_cases}
-use Rattle.std.proofs.lemmas.Option.{same_Some}
+use Rattle.std.proofs.lemmas.Option.{same_Some, slice_get_read}
 use Rattle.qvtr_semantics.specs.declared.limits.TheConstants.{MAX_CALLS}
 use Rattle.object_tables.specs.Models.{ModelData}
 use Rattle.qv_syntax.specs.declared.program.Program.{Program}
@@ -35,7 +35,7 @@ use Rattle.relation_calls.specs.Links.{IsLinked, AreLinked}
 use Rattle.relation_calls.specs.Memos.{IsHeight, IsMatching, IsHolding}
 use Rattle.relation_calls.specs.Names.{chain_named}
 use Rattle.relation_calls.specs.Outcomes.{AreOutcomes, is_alone, is_partnered}
-use Rattle.relation_calls.specs.Owing.{SeenByCall, SeenByBinding, IsJudged, IsCommonHeight, CallsOfBinding}
+use Rattle.relation_calls.specs.Owing.{SeenByCall, SeenByBinding, IsJudged, IsCommonHeight, CallsOfBinding, ArePartners}
 use Rattle.relation_calls.specs.Seen.{Seen, AreClean}
 use Rattle.relation_calls.specs.Visits.{IsChain, IsSourceBinding}
 use Rattle.relation_calls.proofs.AskingLaws.{clean_call, called_value, called_clean}
@@ -53,9 +53,15 @@ module _ (program : Program) (models : List ModelData) where
   -- ---- how far bindings are judged
 
   module _ (upto : List RelationCall) (rel : Rel) (bs : List Binding) where
+    abbrev HasPartners : Option (List Binding) → Binding → Type 0
+    HasPartners partners b = IfSome partners (λ gs. ArePartners program models upto rel b.values (values_of gs))
+
+    no_partners : (p : Progress) (b : Binding) → p.partners ≡ None → HasPartners p.partners b
+    no_partners p b none = subst (λ (gs : Option (List Binding)). HasPartners gs b) (sym none) tt
+
     -- none is judged
-    pub no_progress : (p : Progress) → p.outcomes ≡ [] → p.owed ≡ [] → p.height ≡ 0 → IsProgress program models upto rel bs p
-    no_progress p none nothing low =
+    pub no_progress : (p : Progress) → p.outcomes ≡ [] → p.owed ≡ [] → p.height ≡ 0 → p.partners ≡ None → IsProgress program models upto rel bs p
+    no_progress p none nothing low without =
         record {
           few = subst (λ (os : List Outcome). length os ≤ length bs) (sym none) (omega arith);
           outcomes = subst (λ (os : List Outcome). AreOutcomes program models (MAX_CALLS - length upto) rel (values_of (take (length os) bs)) os) (sym none) tt;
@@ -65,6 +71,7 @@ module _ (program : Program) (models : List ModelData) where
               (subst (IsCommonHeight program models (CallsOfBindings program models rel [])) (sym low)
               (no_calls_height program models (CallsOfBindings program models rel []) (λ d h. let (k, within, is) = h.1 in absurd (omega (arith, within)))));
           owed = λ c has. let (k, within, is) = subst (λ (cs : List ClauseCall). Contains cs c) nothing has in absurd (omega (arith, within));
+          partners = λ b at. no_partners p b without;
         }
 
     -- one more is known, or owes calls
@@ -82,6 +89,7 @@ module _ (program : Program) (models : List ModelData) where
               (height_with program models (CallsOfBindings program models rel (values_of (take (length old.outcomes) bs))) (CallsOfBinding program models rel b.values)
               (CallsOfBindings program models rel (values_of (take (length new.outcomes) bs))) (either_binding (length old.outcomes) (length new.outcomes) refl next) old.height height before.height judged.2);
           owed = λ c has. before.owed c (subst (λ (cs : List ClauseCall). Contains cs c) becomes.1 has);
+          partners = λ x at. no_partners new x becomes.3;
         }
       where
         either_binding : (i j : ℕ) → i ≡ length old.outcomes → j ≡ suc i → (d : RelationCall) → CallsOfBindings program models rel (values_of (take j bs)) d
@@ -91,7 +99,7 @@ module _ (program : Program) (models : List ModelData) where
               | inl earlier ↦ inl (x, earlier, makes)
               | inr last ↦ inr (subst (λ y. CallsOfBinding program models rel y d) (sym last) makes)
             ]
-    taken old new (judgements.Owed calls) b within is before judged becomes =
+    taken old new (judgements.Owed calls partners) b within is before judged becomes =
         record {
           few = subst (λ (os : List Outcome). length os ≤ length bs) (sym becomes.0) before.few;
           outcomes = subst (λ (os : List Outcome). AreOutcomes program models (MAX_CALLS - length upto) rel (values_of (take (length os) bs)) os) (sym becomes.0) before.outcomes;
@@ -99,12 +107,17 @@ module _ (program : Program) (models : List ModelData) where
           height = subst (λ (os : List Outcome). IsCommonHeight program models (CallsOfBindings program models rel (values_of (take (length os) bs))) new.height) (sym becomes.0)
               (subst (IsCommonHeight program models (CallsOfBindings program models rel (values_of (take (length old.outcomes) bs)))) (sym becomes.2) before.height);
           owed = λ c has.
-              let one = judged c (subst (λ (cs : List ClauseCall). Contains cs c) becomes.1 has) in
+              let one = judged.0 c (subst (λ (cs : List ClauseCall). Contains cs c) becomes.1 has) in
               record {
                 askable = one.askable;
                 follows = one.follows;
                 seen = λ chain seen. (b.values, value_here bs (length old.outcomes) b within is, one.seen chain seen);
               };
+          partners = λ x at.
+              let here : slice_get bs (length old.outcomes) ≡ Some b = slice_get_read bs (length bs) (length old.outcomes) b refl within is in
+              let there : slice_get bs (length old.outcomes) ≡ Some x = subst (λ (os : List Outcome). slice_get bs (length os) ≡ Some x) becomes.0 at in
+              subst (HasPartners new.partners) (same_Some b x (sym here ∙ there))
+              (subst (λ (gs : Option (List Binding)). HasPartners gs b) (sym becomes.3) judged.1);
         }
 
     -- all are judged
@@ -152,9 +165,9 @@ module _ (program : Program) (models : List ModelData) where
 
   -- a call begins
   pub begun : (upto : List RelationCall) (f : Frame) (d : RelationCall) (rel : Rel) → f.key ≡ d → IsPlanOf program d.rel rel f.plan → IsChainFor program models upto f.clause d (chain_named f.upto)
-      → AreEnough program models rel d.roots (values_of f.bindings) → AllPairs (IsLess rel.universal) (values_of f.bindings) → f.progress.outcomes ≡ [] → f.progress.owed ≡ [] → f.progress.height ≡ 0
+      → AreEnough program models rel d.roots (values_of f.bindings) → AllPairs (IsLess rel.universal) (values_of f.bindings) → f.progress.outcomes ≡ [] → f.progress.owed ≡ [] → f.progress.height ≡ 0 → f.progress.partners ≡ None
       → IsFrameIn program models (SeenByCall program models upto f.clause d) f
-  begun upto f d rel same planned chain enough sorted none nothing low =
+  begun upto f d rel same planned chain enough sorted none nothing low without =
       record {
         frame = record {
           rel = rel;
@@ -164,7 +177,7 @@ module _ (program : Program) (models : List ModelData) where
           linked = subst (λ (c : RelationCall). (e : RelationCall) → CallsWhere program models c e → IsLinked program models (chain_named f.upto ++ e ∷ [])) (sym same) chain.linked;
           enough = subst (λ (c : RelationCall). AreEnough program models rel c.roots (values_of f.bindings)) (sym same) enough;
           sorted = sorted;
-          progress = no_progress (chain_named f.upto) rel f.bindings f.progress none nothing low;
+          progress = no_progress (chain_named f.upto) rel f.bindings f.progress none nothing low without;
         };
         seen = λ rest seen. chain.seen rest (subst (λ (c : RelationCall). Seen program models (chain_named f.upto) c rest) same seen);
       }

@@ -1,6 +1,6 @@
 -- What is under way in a search through calls: bindings of a visit, some of which are judged, and calls, each with the bindings of its
 -- relation.
-use Rattle.std.specs.Prelude.{◌≡◌, ◌≤◌, ◌⊎◌, ◌-◌, ◌++◌, ◌∷◌, [], max, List, Option, None, Some, length, take, Contains, AllPairs}
+use Rattle.std.specs.Prelude.{◌≡◌, ◌≤◌, ◌⊎◌, ◌-◌, ◌++◌, ◌∷◌, [], max, List, Option, None, Some, length, take, slice_get, Contains, AllPairs, IfSome}
 use Rattle.qvtr_semantics.specs.declared.limits.TheConstants.{MAX_CALLS}
 use Rattle.object_tables.specs.Models.{ModelData}
 use Rattle.qv_syntax.specs.declared.program.Program.{Program}
@@ -23,7 +23,7 @@ use Rattle.relation_calls.specs.Founds.{AreEnough}
 use Rattle.relation_calls.specs.Links.{IsLinked}
 use Rattle.relation_calls.specs.Names.{chain_named}
 use Rattle.relation_calls.specs.Outcomes.{AreOutcomes}
-use Rattle.relation_calls.specs.Owing.{SeenByCall, SeenByBinding, IsOwed, IsCommonHeight, CallsOfBinding}
+use Rattle.relation_calls.specs.Owing.{SeenByCall, SeenByBinding, IsOwed, IsCommonHeight, CallsOfBinding, ArePartners}
 use Rattle.relation_calls.specs.Seen.{Seen, AreClean}
 use Rattle.relation_calls.specs.Visits.{IsChain}
 
@@ -38,13 +38,14 @@ abbrev pub CallsOfBindings : Program → List ModelData → Rel → List Values 
 CallsOfBindings program models rel bs d = (b : Values) × Contains bs b × CallsOfBinding program models rel b d
 
 -- of the first bindings it is known what comes of them, the height of the calls that their partners make, and that no chain that is refused
--- is come to by one; calls of some are owed
+-- is come to by one; calls of some are owed, and of the next binding partners may be found
 pub record IsProgress (program : Program) (models : List ModelData) (upto : List RelationCall) (rel : Rel) (bs : List Binding) (p : Progress) : Type 0 where
   pub few : length p.outcomes ≤ length bs
   pub outcomes : AreOutcomes program models (MAX_CALLS - length upto) rel (values_of (take (length p.outcomes) bs)) p.outcomes
   pub clean : AreClean (SeenByBindings program models upto rel (values_of (take (length p.outcomes) bs)))
   pub height : IsCommonHeight program models (CallsOfBindings program models rel (values_of (take (length p.outcomes) bs))) p.height
   pub owed : (c : ClauseCall) → Contains p.owed c → IsOwed program models upto (SeenByBindings program models upto rel (values_of bs)) c
+  pub partners : (b : Binding) → slice_get bs (length p.outcomes) ≡ Some b → IfSome p.partners (λ gs. ArePartners program models upto rel b.values (values_of gs))
 
 -- ---- calls
 
@@ -94,5 +95,5 @@ IsResumed program models old last new = (f : Frame) → Contains new f → Conta
 -- ---- what becomes known of a binding
 
 abbrev pub IsTaken : Progress → Judgement → Progress → Type 0
-IsTaken old (judgements.Known outcome height) new = (new.outcomes ≡ old.outcomes ++ outcome ∷ []) × (new.owed ≡ old.owed) × (new.height ≡ max old.height height)
-IsTaken old (judgements.Owed calls) new = (new.outcomes ≡ old.outcomes) × (new.owed ≡ calls) × (new.height ≡ old.height)
+IsTaken old (judgements.Known outcome height) new = (new.outcomes ≡ old.outcomes ++ outcome ∷ []) × (new.owed ≡ old.owed) × (new.height ≡ max old.height height) × (new.partners ≡ None)
+IsTaken old (judgements.Owed calls partners) new = (new.outcomes ≡ old.outcomes) × (new.owed ≡ calls) × (new.height ≡ old.height) × (new.partners ≡ partners)

@@ -1,5 +1,5 @@
 -- Calls that a binding makes: what their answers are, where some are known, and which are owed, where not all of them are.
-use Rattle.std.specs.Prelude.{◌≡◌, ◌↔◌, ◌≤◌, ◌-◌, ◌++◌, ◌∷◌, [], ◌⊎◌, ℕ, Bool, true, false, List, Option, Some, length, Contains, IsTrue}
+use Rattle.std.specs.Prelude.{◌≡◌, ◌↔◌, ◌≤◌, ◌-◌, ◌++◌, ◌∷◌, [], ◌⊎◌, ℕ, Bool, true, false, List, Option, Some, length, Contains, IsTrue, IfSome}
 use Rattle.qvtr_semantics.specs.declared.limits.TheConstants.{MAX_CALLS}
 use Rattle.object_tables.specs.Models.{ModelData}
 use Rattle.qv_syntax.specs.declared.program.Program.{Program}
@@ -7,6 +7,7 @@ use Rattle.qv_syntax.specs.declared.program.Rel.{Rel}
 use Rattle.qvtr_semantics.specs.Templates.{Values}
 use Rattle.qvtr_semantics.specs.Bindings.{Target}
 use Rattle.qvtr_semantics.specs.Calls.{RelationCall, Asked, AllAsked, Match, HoldsFor, calls_of}
+use Rattle.template_match.specs.Search.{values_of}
 use Rattle.relation_calls.specs.declared.clause_call.Clause.{Clause}
 use Rattle.relation_calls.specs.declared.clause_call.Clause.TheVariants as clauses
 use Rattle.relation_calls.specs.declared.clause_call.ClauseCall.{ClauseCall}
@@ -106,8 +107,15 @@ abbrev pub outcome_with : Bool → Outcome
 outcome_with true = outcomes.Partnered
 outcome_with false = outcomes.Alone
 
--- what comes of it, with the height of the calls that its partners make, or calls that it owes
+-- the partners of a binding whose calls in the when clause match, by which no chain is come to that is refused
+pub record ArePartners (program : Program) (models : List ModelData) (upto : List RelationCall) (rel : Rel) (b : Values) (gs : List Values) : Type 0 where
+  pub matched : AllAsked (Match program models) (calls_of program models b rel.whens)
+  pub clean : AreClean (SeenByCalls program models upto clauses.When (calls_of program models b rel.whens))
+  pub exact : (g : Values) → Contains gs g ↔ Target program models rel b g
+
+-- what comes of it, with the height of the calls that its partners make, or calls that it owes, with its partners where they are found
 abbrev pub IsJudged : Program → List ModelData → List RelationCall → Rel → Values → Judgement → Type 0
 IsJudged program models upto rel b (judgements.Known outcome height) =
     IsOutcome program models (MAX_CALLS - length upto) rel b outcome × AreClean (SeenByBinding program models upto rel b) × IsCommonHeight program models (CallsOfBinding program models rel b) height
-IsJudged program models upto rel b (judgements.Owed calls) = (c : ClauseCall) → Contains calls c → IsOwed program models upto (SeenByBinding program models upto rel b) c
+IsJudged program models upto rel b (judgements.Owed calls partners) =
+    ((c : ClauseCall) → Contains calls c → IsOwed program models upto (SeenByBinding program models upto rel b) c) × IfSome partners (λ gs. ArePartners program models upto rel b (values_of gs))

@@ -1,4 +1,4 @@
-ghost use Rattle.std.specs.Prelude.{◌≡◌, ◌≤◌, [], length, IsTrue, OnOk};
+ghost use Rattle.std.specs.Prelude.{◌≡◌, ◌≤◌, [], None, length, IsTrue, OnOk};
 ghost use Rattle.relation_calls.specs.Frames.{IsTaken};
 
 use crate::call_key::CallKey;
@@ -23,6 +23,8 @@ pub(crate) struct Progress {
     /// How many calls a chain has at most that begins with one that partners of the first bindings make in
     /// the where clause.
     pub(crate) height: usize,
+    /// The partners of the next binding, where they are found.
+    pub(crate) partners: Option<Seq<Binding>>,
 }
 
 /// A call under way. `upto` is the chain of calls in where clauses that ends with it; it is empty where a
@@ -45,12 +47,14 @@ impl Progress {
         ensures outcomes { result.outcomes ≡ [] }
         ensures owed { result.owed ≡ [] }
         ensures height { result.height ≡ 0 }
+        ensures partners { result.partners ≡ None }
     {
         Progress {
             outcomes: Seq::new(alloc),
             owed: Seq::new(alloc),
             asked: 0,
             height: 0,
+            partners: None,
         }
     }
 
@@ -63,6 +67,7 @@ impl Progress {
             owed,
             asked,
             height,
+            partners,
         } = self;
         outcomes
     }
@@ -81,11 +86,13 @@ impl Progress {
         match judgement {
             Judgement::Known(outcome, height) => {
                 self.height = self.height.max(height);
+                self.partners = None;
                 self.outcomes.push(outcome)
             }
-            Judgement::Owed(owed) => {
+            Judgement::Owed(owed, partners) => {
                 self.owed = owed;
                 self.asked = 0;
+                self.partners = partners;
                 Ok(())
             }
         }

@@ -11,7 +11,7 @@ ghost use Rattle.relation_calls.specs.Names.{call_named, calls_named};
 ghost use Rattle.relation_calls.specs.Seen.{AreClean};
 ghost use Rattle.relation_calls.specs.Memos.{IsTold};
 ghost use Rattle.relation_calls.specs.Visits.{IsVisit, IsSourceBinding, upto_of, match_in, whens_of, wheres_of, GoesOnWith, GoesOnWithTargets};
-ghost use Rattle.relation_calls.specs.Owing.{MayFollow, MayAllFollow, SeenByCalls, IsAnswer, IsAnswerOfAny, IsCallIn, IsJudged, outcome_with};
+ghost use Rattle.relation_calls.specs.Owing.{MayFollow, MayAllFollow, SeenByCalls, IsAnswer, IsAnswerOfAny, IsCallIn, ArePartners, IsJudged, outcome_with};
 
 use crate::call_key::{CallKey, key_of};
 use crate::chain::calls_left;
@@ -33,8 +33,9 @@ pub(crate) enum Judgement {
     /// What comes of it, and how many calls a chain has at most that begins with one that its partners make
     /// in the where clause.
     Known(Outcome, usize),
-    /// Calls that it makes: not all of them have an answer.
-    Owed(Seq<ClauseCall>),
+    /// Calls that it makes: not all of them have an answer. With its partners, where its calls in the when
+    /// clause match.
+    Owed(Seq<ClauseCall>, Option<Seq<Binding>>),
 }
 
 // ---- calls
@@ -241,6 +242,23 @@ fn outcome_with(any: bool) -> Outcome
     }
 }
 
+/// What is known of a binding whose partners these are.
+fn judge_found(visit: &Visit<'_, '_>, memo: &Memo, gs: Seq<Binding>) -> Result<Judgement, NoMemory>
+    requires visit { IsVisit visit.now }
+    requires told { IsTold visit.now.program.now visit.now.models.now memo.now }
+    requires linked { (g : Values) → Contains (values_of gs) g → GoesOnWith visit.now (wheres_of visit.now g) }
+    ensures { IfOk result (λ j. (b : Values) → ArePartners visit.now.program.now visit.now.models.now (upto_of visit.now) visit.now.rel.now b (values_of gs)
+        → IsJudged visit.now.program.now visit.now.models.now (upto_of visit.now) visit.now.rel.now b j) }
+{
+    match any_partner(visit, memo, gs.as_slice())? {
+        Some(any) => Ok(Judgement::Known(outcome_with(any.holds), any.height)),
+        None => {
+            let calls = partner_calls(visit, gs.as_slice())?;
+            Ok(Judgement::Owed(calls, Some(gs)))
+        }
+    }
+}
+
 /// What is known of a binding whose calls in the when clause match.
 fn judge_partners(visit: &Visit<'_, '_>, memo: &Memo, b: &Binding) -> Result<Judgement, NoMemory>
     requires visit { IsVisit visit.now }
@@ -252,20 +270,26 @@ fn judge_partners(visit: &Visit<'_, '_>, memo: &Memo, b: &Binding) -> Result<Jud
     ensures { IfOk result (IsJudged visit.now.program.now visit.now.models.now (upto_of visit.now) visit.now.rel.now b.now.values) }
 {
     let gs = target_bindings(visit.alloc, visit.program, visit.plan, visit.models, b)?;
-    match any_partner(visit, memo, gs.as_slice())? {
-        Some(any) => Ok(Judgement::Known(outcome_with(any.holds), any.height)),
-        None => Ok(Judgement::Owed(partner_calls(visit, gs.as_slice())?)),
-    }
+    judge_found(visit, memo, gs)
 }
 
-/// What is known of a binding that meets the source.
-pub(crate) fn judge(visit: &Visit<'_, '_>, memo: &Memo, b: &Binding) -> Result<Judgement, NoMemory>
+/// What is known of a binding that meets the source, with its partners where they are found.
+pub(crate) fn judge(
+    visit: &Visit<'_, '_>,
+    memo: &Memo,
+    b: &Binding,
+    partners: Option<Seq<Binding>>,
+) -> Result<Judgement, NoMemory>
     requires visit { IsVisit visit.now }
     requires told { IsTold visit.now.program.now visit.now.models.now memo.now }
     requires source { IsSourceBinding visit.now.rel.now b.now.values }
     requires linked { AllAsked (match_in visit.now) (whens_of visit.now b.now.values) → GoesOnWithTargets visit.now b.now.values }
+    requires partners { IfSome partners (λ gs. ArePartners visit.now.program.now visit.now.models.now (upto_of visit.now) visit.now.rel.now b.now.values (values_of gs)) }
     ensures { IfOk result (IsJudged visit.now.program.now visit.now.models.now (upto_of visit.now) visit.now.rel.now b.now.values) }
 {
+    if let Some(gs) = partners {
+        return judge_found(visit, memo, gs);
+    }
     let calls = calls_of(visit, visit.rel.whens.as_slice(), b)?;
     match all_answers(visit, memo, Clause::When, calls.as_slice())? {
         Some(all) => if all.holds {
@@ -273,6 +297,6 @@ pub(crate) fn judge(visit: &Visit<'_, '_>, memo: &Memo, b: &Binding) -> Result<J
         } else {
             Ok(Judgement::Known(Outcome::Unmatched, 0))
         },
-        None => Ok(Judgement::Owed(when_calls(visit, calls.as_slice())?)),
+        None => Ok(Judgement::Owed(when_calls(visit, calls.as_slice())?, None)),
     }
 }

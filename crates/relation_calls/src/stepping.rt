@@ -148,7 +148,8 @@ fn judge_next(
     if next >= bs.len() {
         return Ok(());
     }
-    let judgement = judge(visit, memo, &bs[next])?;
+    let partners = progress.partners.take();
+    let judgement = judge(visit, memo, &bs[next], partners)?;
     progress.take(judgement)
 }
 

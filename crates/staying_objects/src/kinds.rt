@@ -1,23 +1,14 @@
 //! The classes of a metamodel that are some classes or inherit from them.
-ghost use Rattle.std.specs.Prelude.{◌≡◌, ◌<◌, ◌||◌, ℕ, [], length, IfOk};
+ghost use Rattle.std.specs.Prelude.{◌≡◌, ◌||◌, ℕ, [], length, IfOk};
 ghost use Rattle.mof_metamodel.specs.Metamodels.{class_count};
 ghost use Rattle.mof_metamodel.specs.Tables.{class_numbers};
-ghost use Rattle.qvtr_semantics.specs.Objects.{is_kind_of};
 ghost use Rattle.template_match.specs.Marks.{is_marked};
 ghost use Rattle.staying_objects.specs.Kinds.{AreKinds, AddsKinds};
 
+use key_index::is_kind_of;
 use mof_metamodel::{ClassId, MetaModel, NoMemory};
 use std::alloc::Global;
 use template_match::marks::{is_marked, unmarked};
-
-/// Whether a class is another or inherits from it.
-fn is_kind_of(meta: &MetaModel, class: ClassId, other: ClassId) -> bool
-    requires { class.0 < class_count meta.now }
-    ensures { result ≡ is_kind_of meta.now class.0 other.0 }
-{
-    let _count = meta.class_count();
-    meta.conforms(class, other)
-}
 
 /// Marks each class that is this one or inherits from it.
 fn mark_kinds(meta: &MetaModel, class: ClassId, marks: &mut [bool])

@@ -29,7 +29,8 @@ use Rattle.template_match.specs.Problems.{Problem}
 use Rattle.template_match.specs.Ready.{is_ready}
 use Rattle.template_match.specs.Rows.{one_datum, cell_in, cells_in}
 use Rattle.template_match.specs.Settled.{IsTold}
-use Rattle.template_match.specs.Search.{sought, conjuncts_in, setting_in, is_open, saying, usable_saying, usable_link, usable_conjunct, usable_variable, extent_for, some_data, objects_of, data_in}
+use Rattle.template_match.specs.Search.{sought, conjuncts_in, setting_in, is_open, saying, usable_saying, usable_link, usable_conjunct, usable_variable, extent_for, some_data, data_in}
+use Rattle.template_match.specs.Untried.{HasObjects}
 use Rattle.template_match.proofs.CellLaws.{cell_among}
 use Rattle.template_match.proofs.JoinLaws.{row_to, row_before, row_at, numbered}
 use Rattle.template_match.proofs.ListLaws.{find_none}
@@ -84,12 +85,17 @@ module _ (p : Problem) (a : Values) (posed : IsPosed p a) (places : length a ≡
       (λ b d whole value. saying_named p a b a posed whole (long b whole) (λ v e h. h) whole.partial.extends k v e within says both.1 d value)
 
   -- the objects of its class
-  pub object_is : (v : ℕ) (branch : Branch) → usable_variable p a v ≡ true
-      → branch ≡ record { variable = v; candidates = objects_of p.models (extent_for (slice_get p.rel.vars v)) } → IsBranch p a branch
-  object_is v branch usable same =
+  pub object_is : (v : ℕ) (branch : Branch) → usable_variable p a v ≡ true → branch.variable ≡ v
+      → HasObjects p.models (extent_for (slice_get p.rel.vars v)) branch.candidates → IsBranch p a branch
+  object_is v branch usable same has =
       let both = and_parts (is_open p a v) (is_some (extent_for (slice_get p.rel.vars v))) usable in
-      branch_by v (objects_of p.models (extent_for (slice_get p.rel.vars v))) branch both.0 same
-      (λ b d whole value. object_named p a b a posed whole (long b whole) (λ v e h. h) whole.partial.extends v (opened p a v both.0).sought_is both.1 d value)
+      record {
+        opens = ap (is_open p a) same ∙ both.0;
+        named = λ b d whole value.
+            has d
+            (object_named p a b a posed whole (long b whole) (λ v e h. h) whole.partial.extends v (opened p a v both.0).sought_is both.1 d
+            (ap (value_at b) (sym same) ∙ value));
+      }
 
   -- the data in a column of all rows in which the binding may stand
   pub rows_is : (j : Join) (k v : ℕ) (numbers : List ℕ) (c : Choice) → Contains p.joins j → slice_get j.variables k ≡ Some (Some v) → is_open p a v ≡ true → TellsRows j a numbers

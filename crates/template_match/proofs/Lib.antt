@@ -20,6 +20,7 @@ pub mod ShapeLaws
 pub mod ComparedLaws
 pub mod HolderLaws
 pub mod SettledLaws
+pub mod UntriedLaws
 pub mod ChoiceLaws
 pub mod MarkLaws
 pub mod OpenLaws

@@ -7,6 +7,7 @@ pub mod Asked
 pub mod Shapes
 pub mod Pruning
 pub mod Search
+pub mod Untried
 pub mod Tasks
 pub mod Order
 pub mod OrderLaws

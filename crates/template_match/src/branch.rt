@@ -1,9 +1,8 @@
-use mof_metamodel::Seq;
-use qvtr_semantics::Datum;
+use crate::untried::Untried;
 
 /// A variable, and the values that it may have.
 #[derive(Drop)]
-pub(crate) struct Branch {
+pub(crate) struct Branch<'a> {
     pub(crate) variable: u32,
-    pub(crate) candidates: Seq<Datum>,
+    pub(crate) candidates: Untried<'a>,
 }

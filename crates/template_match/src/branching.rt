@@ -1,5 +1,5 @@
-//! The next variable, with its candidates listed.
-ghost use Rattle.std.specs.Prelude.{◌≡◌, ◌++◌, true, false, map, slice_get, Contains, IfOk, OnOk};
+//! The next variable, with its candidates.
+ghost use Rattle.std.specs.Prelude.{◌≡◌, ◌++◌, true, false, map, slice_get, Some, Contains, IfOk, OnOk};
 ghost use Rattle.std.specs.Option.{option_copied};
 ghost use Rattle.qvtr_semantics.specs.declared.datum.Datum.TheVariants.{Obj};
 ghost use Rattle.qvtr_semantics.specs.Expressions.{setting, value_for};
@@ -10,8 +10,9 @@ ghost use Rattle.template_match.specs.declared.link.Link.{Link};
 ghost use Rattle.template_match.specs.Branches.{branch_of, IsBranch, IsNext};
 ghost use Rattle.template_match.specs.Prepared.{problem_in, IsPrepared};
 ghost use Rattle.template_match.specs.Rows.{one_datum, cells_in};
-ghost use Rattle.template_match.specs.Search.{conjuncts_in, usable_link, usable_conjunct, extent_for, some_data, objects_in, objects_of, data_in};
+ghost use Rattle.template_match.specs.Search.{conjuncts_in, usable_link, usable_conjunct, extent_for, some_data, data_in};
 ghost use Rattle.template_match.specs.Tasks.{problem_of};
+ghost use Rattle.template_match.specs.Untried.{HasObjects};
 
 use crate::branch::Branch;
 use crate::candidates::Candidates;
@@ -23,6 +24,7 @@ use crate::opening::{extent_for, usable_conjunct, usable_variable};
 use crate::prepared::Prepared;
 use crate::row_order::cell_at;
 use crate::task::Task;
+use crate::untried::Untried;
 use key_index::Holder;
 use mof_metamodel::{ClassId, NoMemory, PropId, Seq};
 use object_tables::ObjId;
@@ -118,13 +120,16 @@ fn data_in(task: &Task<'_, '_>, candidates: &Candidates<'_>) -> Result<Seq<Datum
 }
 
 /// The variable of a choice, with its candidates.
-pub(crate) fn chosen_branch(task: &Task<'_, '_>, choice: &Choice<'_>) -> Result<Branch, NoMemory>
+pub(crate) fn chosen_branch<'a>(
+    task: &Task<'a, '_>,
+    choice: &Choice<'a>,
+) -> Result<Branch<'a>, NoMemory>
     ensures { IfOk result (λ b. b ≡ branch_of (problem_of task.now) choice.now) }
 {
     let candidates = data_in(task, &choice.candidates)?;
     Ok(Branch {
         variable: choice.variable,
-        candidates,
+        candidates: Untried::listed(candidates),
     })
 }
 
@@ -138,45 +143,55 @@ fn one_datum(alloc: Global, datum: Option<&Datum>) -> Result<Seq<Datum>, NoMemor
 }
 
 /// The variable of `v = e`, with the value of `e`.
-fn saying_branch(
-    task: &Task<'_, '_>,
+fn saying_branch<'a>(
+    task: &Task<'a, '_>,
     binding: &Binding,
     variable: u32,
     e: &Typed,
-) -> Result<Branch, NoMemory>
+) -> Result<Branch<'a>, NoMemory>
     ensures { IfOk result (λ b. b ≡ record { variable = variable; candidates = one_datum (datum_of (value_for task.now.program.now task.now.models.now e.now binding.now.values)) }) }
 {
     let out = eval(task.alloc, task.program, e, task.models, binding)?;
     let candidates = one_datum(task.alloc, datum_of(&out))?;
     Ok(Branch {
         variable,
-        candidates,
+        candidates: Untried::listed(candidates),
     })
 }
 
 /// The objects of a class in the model of this number.
-fn objects_in(task: &Task<'_, '_>, model: u32, class: ClassId) -> Result<Seq<Datum>, NoMemory>
-    ensures { IfOk result (λ ds. ds ≡ objects_in model class (slice_get task.now.models.now model)) }
+fn objects_in<'a>(task: &Task<'a, '_>, number: u32, class: ClassId) -> Result<Untried<'a>, NoMemory>
+    ensures { IfOk result (HasObjects task.now.models.now (Some (number, class))) }
 {
-    match task.models.get(model as usize) {
-        Some(found) => extent_of(task.alloc, model, found, class),
-        None => Ok(Seq::new(task.alloc)),
+    match task.models.get(number as usize) {
+        Some(model) => match task.models.index_of(number) {
+            Some(index) => {
+                let extent = index.extent(model, class);
+                Ok(Untried::objects(task.alloc, number, extent))
+            }
+            None => Ok(Untried::listed(extent_of(task.alloc, number, model, class)?)),
+        },
+        None => Ok(Untried::listed(Seq::new(task.alloc))),
     }
 }
 
 /// The objects of an extent.
-fn objects_of(task: &Task<'_, '_>, extent: Option<(u32, ClassId)>) -> Result<Seq<Datum>, NoMemory>
-    ensures { IfOk result (λ ds. ds ≡ objects_of task.now.models.now extent) }
+fn objects_of<'a>(
+    task: &Task<'a, '_>,
+    extent: Option<(u32, ClassId)>,
+) -> Result<Untried<'a>, NoMemory>
+    ensures { IfOk result (HasObjects task.now.models.now extent) }
 {
     match extent {
         Some((model, class)) => objects_in(task, model, class),
-        None => Ok(Seq::new(task.alloc)),
+        None => Ok(Untried::listed(Seq::new(task.alloc))),
     }
 }
 
 /// A variable, with the objects of its class.
-pub(crate) fn object_branch(task: &Task<'_, '_>, variable: u32) -> Result<Branch, NoMemory>
-    ensures { IfOk result (λ b. b ≡ record { variable = variable; candidates = objects_of task.now.models.now (extent_for (slice_get task.now.rel.now.vars variable)) }) }
+pub(crate) fn object_branch<'a>(task: &Task<'a, '_>, variable: u32) -> Result<Branch<'a>, NoMemory>
+    ensures variable { IfOk result (λ b. b.variable ≡ variable) }
+    ensures candidates { IfOk result (λ b. HasObjects task.now.models.now (extent_for (slice_get task.now.rel.now.vars variable)) b.candidates) }
 {
     let candidates = objects_of(task, extent_for(task.rel, variable))?;
     Ok(Branch {
@@ -188,10 +203,10 @@ pub(crate) fn object_branch(task: &Task<'_, '_>, variable: u32) -> Result<Branch
 // ---- the next variable
 
 /// The next variable, where neither a conjunct nor a value says what one is: the first one for objects.
-fn branch_without_value(
-    prepared: &Prepared<'_, '_, '_>,
+fn branch_without_value<'a>(
+    prepared: &Prepared<'_, 'a, '_>,
     binding: &Binding,
-) -> Result<Option<Branch>, NoMemory>
+) -> Result<Option<Branch<'a>>, NoMemory>
     requires prepared { IsPrepared prepared.now binding.now.values }
     requires links { (l : Link) → Contains prepared.now.task.now.links.now l → usable_link (problem_in prepared.now) binding.now.values l ≡ false }
     requires conjuncts { (c : Conj) → Contains (conjuncts_in (problem_in prepared.now)) c → usable_conjunct (problem_in prepared.now) binding.now.values c ≡ false }
@@ -204,10 +219,10 @@ fn branch_without_value(
 }
 
 /// The next variable, where no conjunct says what one is: one with few candidates, if a value tells any.
-fn branch_without_conjunct(
-    prepared: &Prepared<'_, '_, '_>,
+fn branch_without_conjunct<'a>(
+    prepared: &Prepared<'_, 'a, '_>,
     binding: &Binding,
-) -> Result<Option<Branch>, NoMemory>
+) -> Result<Option<Branch<'a>>, NoMemory>
     requires prepared { IsPrepared prepared.now binding.now.values }
     requires conjuncts { (c : Conj) → Contains (conjuncts_in (problem_in prepared.now)) c → usable_conjunct (problem_in prepared.now) binding.now.values c ≡ false }
     ensures { IfOk result (IsNext (problem_in prepared.now) binding.now.values) }
@@ -219,11 +234,11 @@ fn branch_without_conjunct(
 }
 
 /// The variable of a conjunct that says what one is.
-pub(crate) fn said_branch(
-    prepared: &Prepared<'_, '_, '_>,
+pub(crate) fn said_branch<'a>(
+    prepared: &Prepared<'_, 'a, '_>,
     binding: &Binding,
     conjunct: &Conj,
-) -> Result<Branch, NoMemory>
+) -> Result<Branch<'a>, NoMemory>
     requires prepared { IsPrepared prepared.now binding.now.values }
     requires conjunct { Contains (conjuncts_in (problem_in prepared.now)) conjunct.now }
     requires usable { usable_conjunct (problem_in prepared.now) binding.now.values conjunct.now ≡ true }
@@ -236,10 +251,10 @@ pub(crate) fn said_branch(
 }
 
 /// The next variable, with its candidates.
-pub(crate) fn next_branch(
-    prepared: &Prepared<'_, '_, '_>,
+pub(crate) fn next_branch<'a>(
+    prepared: &Prepared<'_, 'a, '_>,
     binding: &Binding,
-) -> Result<Option<Branch>, NoMemory>
+) -> Result<Option<Branch<'a>>, NoMemory>
     requires prepared { IsPrepared prepared.now binding.now.values }
     ensures { IfOk result (IsNext (problem_in prepared.now) binding.now.values) }
 {

@@ -55,6 +55,7 @@ mod standing;
 mod task;
 mod telling;
 mod told;
+mod untried;
 mod values;
 mod without_target;
 

@@ -48,12 +48,12 @@ pub(crate) fn add_tested(
 
 /// Looks at a binding: where a variable is open, the next one with its candidates, unless nothing is found from
 /// here on. Where none is, the binding is found, if it is one that is looked for.
-fn begin(
-    prepared: &Prepared<'_, '_, '_>,
+fn begin<'a>(
+    prepared: &Prepared<'_, 'a, '_>,
     binding: &Binding,
     agenda: &mut Agenda,
     found: &mut Seq<Binding>,
-) -> Result<Option<Branch>, NoMemory>
+) -> Result<Option<Branch<'a>>, NoMemory>
     requires prepared { IsPrepared prepared.now binding.now.values }
     ensures { IfOk result (IsBegun (problem_in prepared.now) binding.now.values (values_of found.old) (values_of found.new)) }
 {
@@ -68,11 +68,11 @@ fn begin(
 
 /// The same where the agenda leads to no variable. Where a program is well formed none is open then; nothing that
 /// is proved rests on that.
-fn begin_unplanned(
-    prepared: &Prepared<'_, '_, '_>,
+fn begin_unplanned<'a>(
+    prepared: &Prepared<'_, 'a, '_>,
     binding: &Binding,
     found: &mut Seq<Binding>,
-) -> Result<Option<Branch>, NoMemory>
+) -> Result<Option<Branch<'a>>, NoMemory>
     requires prepared { IsPrepared prepared.now binding.now.values }
     ensures { IfOk result (IsBegun (problem_in prepared.now) binding.now.values (values_of found.old) (values_of found.new)) }
 {
@@ -85,10 +85,10 @@ fn begin_unplanned(
 }
 
 /// Looks at a binding, and puts a level for the next variable behind those that led to it.
-fn enter(
-    prepared: &Prepared<'_, '_, '_>,
+fn enter<'a>(
+    prepared: &Prepared<'_, 'a, '_>,
     binding: &Binding,
-    levels: &mut Seq<Branch>,
+    levels: &mut Seq<Branch<'a>>,
     agenda: &mut Agenda,
     found: &mut Seq<Binding>,
 ) -> Result<(), NoMemory>
@@ -107,11 +107,11 @@ fn enter(
 
 /// The same, unless a part that says something of the values that are there is against the binding: of all, or of
 /// those that name the variable that was given one.
-fn enter_allowed(
-    prepared: &Prepared<'_, '_, '_>,
+fn enter_allowed<'a>(
+    prepared: &Prepared<'_, 'a, '_>,
     binding: &Binding,
     given: Option<u32>,
-    levels: &mut Seq<Branch>,
+    levels: &mut Seq<Branch<'a>>,
     agenda: &mut Agenda,
     found: &mut Seq<Binding>,
 ) -> Result<(), NoMemory>
@@ -129,16 +129,16 @@ fn enter_allowed(
 
 /// Gives the variable of the last level the next of the candidates that are left for it, or where none is left
 /// takes its value away. Answers the binding that it comes to.
-fn step(
-    prepared: &Prepared<'_, '_, '_>,
+fn step<'a>(
+    prepared: &Prepared<'_, 'a, '_>,
     binding: Binding,
-    levels: &mut Seq<Branch>,
-    mut last: Branch,
+    levels: &mut Seq<Branch<'a>>,
+    mut last: Branch<'a>,
     agenda: &mut Agenda,
     found: &mut Seq<Binding>,
 ) -> Result<Binding, NoMemory>
     requires { AreLevels prepared.now binding.values (last ∷ reverse levels.old) }
-    ensures { IfOk result (λ c. IsStep prepared.now binding.values (last ∷ reverse levels.old) (values_of found.old) c.values (reverse levels.new) (values_of found.new)) }
+    ensures { IfOk result (λ c. IsStep prepared.now binding.values (last.entry ∷ reverse levels.old) (values_of found.old) c.values (reverse levels.new) (values_of found.new)) }
 {
     let variable = last.variable;
     match last.candidates.pop() {
@@ -158,10 +158,10 @@ fn step(
 
 /// Goes through levels until none is left. Behind 2^64 steps it would answer want of memory: no machine makes so
 /// many.
-fn search_levels(
-    prepared: &Prepared<'_, '_, '_>,
+fn search_levels<'a>(
+    prepared: &Prepared<'_, 'a, '_>,
     roots: Binding,
-    levels: &mut Seq<Branch>,
+    levels: &mut Seq<Branch<'a>>,
     agenda: &mut Agenda,
     found: &mut Seq<Binding>,
 ) -> Result<(), NoMemory>

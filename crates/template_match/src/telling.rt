@@ -180,11 +180,11 @@ fn best_told<'a>(
 // ---- the next variable
 
 /// The next variable, as parts on the agenda tell.
-fn told_branch(
-    prepared: &Prepared<'_, '_, '_>,
+fn told_branch<'a>(
+    prepared: &Prepared<'_, 'a, '_>,
     binding: &Binding,
     agenda: &mut Agenda,
-) -> Result<Option<Branch>, NoMemory>
+) -> Result<Option<Branch<'a>>, NoMemory>
     requires prepared { IsPrepared prepared.now binding.now.values }
     ensures { IfOk result (λ o. IfSome o (IsBranch (problem_in prepared.now) binding.now.values)) }
 {
@@ -217,11 +217,11 @@ fn open_object(
 }
 
 /// The next variable, where no part tells one: one of a join, or else one for objects.
-fn untold_branch(
-    prepared: &Prepared<'_, '_, '_>,
+fn untold_branch<'a>(
+    prepared: &Prepared<'_, 'a, '_>,
     binding: &Binding,
     agenda: &mut Agenda,
-) -> Result<Option<Branch>, NoMemory>
+) -> Result<Option<Branch<'a>>, NoMemory>
     requires prepared { IsPrepared prepared.now binding.now.values }
     ensures { IfOk result (λ o. IfSome o (IsBranch (problem_in prepared.now) binding.now.values)) }
 {
@@ -235,11 +235,11 @@ fn untold_branch(
 }
 
 /// The next variable, with its candidates, unless the agenda leads to none.
-pub(crate) fn planned_branch(
-    prepared: &Prepared<'_, '_, '_>,
+pub(crate) fn planned_branch<'a>(
+    prepared: &Prepared<'_, 'a, '_>,
     binding: &Binding,
     agenda: &mut Agenda,
-) -> Result<Option<Branch>, NoMemory>
+) -> Result<Option<Branch<'a>>, NoMemory>
     requires prepared { IsPrepared prepared.now binding.now.values }
     ensures { IfOk result (λ o. IfSome o (IsBranch (problem_in prepared.now) binding.now.values)) }
 {

@@ -1,5 +1,5 @@
 use Rattle.std.proofs.Common.{sym, subst}
-use Rattle.key_index.specs.Holders.{IsIndexOf}
+use Rattle.key_index.specs.Holders.{AreAllHolders}
 use Rattle.key_index.proofs.EntryLaws.{indexed}
 use Rattle.key_index.proofs.OrderLaws.{once_indexed, once_sorted}
 use Rattle.key_index.proofs.building.sorted_entries.Goals as goal
@@ -9,7 +9,7 @@ returns-clause-index c =
     let m = c.args.model.now in
     once_indexed c.in_ok-holders.holders.items c.in_order.result.items c.without_neighbours.result.items c.without_neighbours.ensures m
     c.in_order.ensures.same
-    (subst (IsIndexOf m) (sym c.in_ok-holders.ensures) (indexed m c.end.ensures.kept))
+    (subst (AreAllHolders m) (sym c.in_ok-holders.ensures) (indexed m c.end.ensures.kept))
 
 pub returns-clause-sorted : goal.returns-clause-sorted
 returns-clause-sorted c =

@@ -1,12 +1,11 @@
-use Rattle.std.proofs.Common.{Option, List, get_or, sym, subst, arith}
+use Rattle.std.proofs.Common.{Option, get_or, sym, subst, arith}
 use Rattle.std.specs.Prelude.{IfSome}
 use Rattle.object_tables.specs.Models.{ModelData}
-use Rattle.key_index.specs.declared.holder.Holder.{Holder}
-use Rattle.key_index.specs.Holders.{IsIndexOf}
+use Rattle.key_index.specs.Indexes.{IndexData, IsIndexOf}
 use Rattle.ocl_eval.proofs.IndexLaws.{zip_long, zip_get, zip_beside}
 use Rattle.ocl_eval.proofs.models.build_all.Goals as goal
 
-IsBeside : ModelData → Option (List Holder) → Type 0
+IsBeside : ModelData → Option IndexData → Type 0
 IsBeside m index = IfSome index (IsIndexOf m)
 
 pub bounds-indexes-number : goal.bounds-indexes-number

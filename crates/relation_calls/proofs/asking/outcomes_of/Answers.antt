@@ -7,7 +7,7 @@ use Rattle.relation_calls.proofs.asking.outcomes_of.Goals as goal
 pub search-requires-clause-progress : goal.search-requires-clause-progress
 search-requires-clause-progress c =
     let v = c.args.visit.now in
-    no_progress v.program.now v.models.now (upto_of v) v.rel.now c.args.bs.now c.new-progress.result c.new-progress.ensures.outcomes c.new-progress.ensures.owed c.new-progress.ensures.height
+    no_progress v.program.now v.models.now (upto_of v) v.rel.now c.args.bs.now c.new-progress.result c.new-progress.ensures.outcomes c.new-progress.ensures.owed c.new-progress.ensures.height c.new-progress.ensures.partners
 
 pub search-requires-clause-frames : goal.search-requires-clause-frames
 search-requires-clause-frames c =

@@ -1,14 +1,4 @@
-use Rattle.std.proofs.Common.{List, sym, subst}
-use Rattle.std.specs.Prelude.{◌↔◌, Contains, IfSome}
-use Rattle.qvtr_semantics.specs.declared.binding.Binding.{Binding}
-use Rattle.qvtr_semantics.specs.Templates.{Values}
-use Rattle.qvtr_semantics.specs.Bindings.{Target}
-use Rattle.template_match.specs.Search.{values_of}
-use Rattle.relation_calls.specs.declared.judging.Judgement.TheVariants.{Known}
-use Rattle.relation_calls.specs.declared.outcome.Outcome.{Outcome}
-use Rattle.relation_calls.specs.Owing.{IsAnswerOfAny, IsJudged}
-use Rattle.relation_calls.specs.Visits.{upto_of}
-use Rattle.relation_calls.proofs.OwingLaws.{partners_known, where_owed}
+use Rattle.std.proofs.lemmas.Result.{IfOk-weaker}
 use Rattle.relation_calls.proofs.judging.judge_partners.Goals as goal
 
 pub target_bindings-requires-clause-meant : goal.target_bindings-requires-clause-meant
@@ -17,26 +7,15 @@ target_bindings-requires-clause-meant c = c.requires.visit.formed.1.relations
 pub target_bindings-requires-clause-planned : goal.target_bindings-requires-clause-planned
 target_bindings-requires-clause-planned c = (c.args.visit.now.rel.now, c.requires.visit.planned, c.requires.source.places, c.requires.source.universals)
 
-pub any_partner-requires-clause-linked : goal.any_partner-requires-clause-linked
-any_partner-requires-clause-linked c = λ g has.
+pub judge_found-requires-clause-linked : goal.judge_found-requires-clause-linked
+judge_found-requires-clause-linked c = λ g has.
     let v = c.args.visit.now in
-    c.requires.linked g ((c.in_ok-gs.ensures.exact v.rel.now c.requires.visit.planned g).0 (subst (λ (gs : List Binding). Contains (values_of gs) g) c.as_slice.ensures has))
-
-pub returns-in-Some : goal.returns-in-Some
-returns-in-Some c =
-    let v = c.args.visit.now in
-    let b = c.args.b.now.values in
-    let gs = values_of c.as_slice.result.now in
-    let exact : (g : Values) → Contains gs g ↔ Target v.program.now v.models.now v.rel.now b g =
-    subst (λ (bs : List Binding). (g : Values) → Contains (values_of bs) g ↔ Target v.program.now v.models.now v.rel.now b g) (sym c.as_slice.ensures) (c.in_ok-gs.ensures.exact v.rel.now c.requires.visit.planned) in
-    subst (λ (o : Outcome). IsJudged v.program.now v.models.now (upto_of v) v.rel.now b (Known o c.in-Some.any.height)) (sym c.outcome_with.ensures)
-    (partners_known v b gs exact c.requires.matched c.requires.clean c.in-Some.any (subst (λ o. IfSome o (IsAnswerOfAny v gs)) c.in-Some.is c.in_ok-any.ensures))
+    c.requires.linked g ((c.in_ok-gs.ensures.exact v.rel.now c.requires.visit.planned g).0 has)
 
 pub returns : goal.returns
-returns c = λ call has.
+returns c =
     let v = c.args.visit.now in
     let b = c.args.b.now.values in
-    let (g, among, one) = c.in_ok-partner_calls-in-None.ensures call has in
-    let target : Target v.program.now v.models.now v.rel.now b g =
-    (c.in_ok-gs.ensures.exact v.rel.now c.requires.visit.planned g).0 (subst (λ (gs : List Binding). Contains (values_of gs) g) c.as_slice-in-None.ensures among) in
-    where_owed v.program.now v.models.now c.requires.visit.formed (upto_of v) v.plan.now.rel v.rel.now c.requires.visit.planned.found b c.requires.matched g target (c.requires.linked g target) call one
+    IfOk-weaker c.judge_found.result _ _
+    (λ j judged. judged b (record { matched = c.requires.matched; clean = c.requires.clean; exact = c.in_ok-gs.ensures.exact v.rel.now c.requires.visit.planned }))
+    c.judge_found.ensures

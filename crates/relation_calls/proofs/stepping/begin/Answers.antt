@@ -18,4 +18,4 @@ returns-clause-begun c =
     let a = c.requires.askable in
     let found = c.in_ok-bindings.ensures.found a.rel a.found in
     begun v.program.now v.models.now (upto_of v) _ (call_named c.args.call.now.name) a.rel c.requires.key (c.in_ok-plan.ensures a.rel a.found) c.requires.chain found.0 found.1
-    c.new-progress.ensures.outcomes c.new-progress.ensures.owed c.new-progress.ensures.height
+    c.new-progress.ensures.outcomes c.new-progress.ensures.owed c.new-progress.ensures.height c.new-progress.ensures.partners

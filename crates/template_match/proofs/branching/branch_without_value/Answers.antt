@@ -10,7 +10,7 @@ returns-in_ok-object_branch-in-Some c =
     object_is (problem_in c.args.prepared.now) c.args.binding.now.values c.requires.prepared.posed c.requires.prepared.places c.in-Some.variable
     c.in_ok-object_branch-in-Some.field-0
     (find_some (usable_variable (problem_in c.args.prepared.now) c.args.binding.now.values) (sought (problem_in c.args.prepared.now)) c.in-Some.variable (sym c.in-Some.ensures)).1
-    c.in_ok-object_branch-in-Some.ensures
+    c.in_ok-object_branch-in-Some.ensures.variable c.in_ok-object_branch-in-Some.ensures.candidates
 
 pub returns-in-None : goal.returns-in-None
 returns-in-None c =

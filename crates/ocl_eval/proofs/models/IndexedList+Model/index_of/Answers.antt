@@ -3,7 +3,7 @@ use Rattle.std.specs.Prelude.{IfSome, slice_get}
 use Rattle.std.proofs.lemmas.Bool.{ltb-true}
 use Rattle.std.proofs.lemmas.Option.{slice_get_read}
 use Rattle.object_tables.specs.Models.{ModelData}
-use Rattle.key_index.specs.Holders.{IsIndexOf}
+use Rattle.key_index.specs.Indexes.{IsIndexOf}
 use Rattle.ocl_eval.proofs.IndexLaws.{zip_at, if_copied}
 use Rattle.ocl_eval.proofs.models.IndexedList+Model.index_of.Goals as goal
 

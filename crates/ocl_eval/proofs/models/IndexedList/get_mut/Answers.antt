@@ -1,7 +1,7 @@
 use Rattle.std.proofs.Common.{◌≡◌, None, Some, length, slice_set, refl, ap, subst, arith}
 use Rattle.std.specs.Prelude.{IfSome, slice_get}
 use Rattle.std.proofs.lemmas.Option.{slice_get_read}
-use Rattle.key_index.specs.Holders.{IsIndexOf}
+use Rattle.key_index.specs.Indexes.{IsIndexOf}
 use Rattle.ocl_eval.proofs.IndexLaws.{zip_long, zip_set}
 use Rattle.ocl_eval.proofs.models.IndexedList.get_mut.Goals as goal
 

@@ -1,6 +1,6 @@
 use Rattle.std.proofs.Common.{◌≡◌, [], ◌∷◌, ◌++◌, true, if◌then◌else◌, None, ap, sym, subst, ◌∙◌, rules}
 use Rattle.std.specs.Prelude.{IfSome, is_ok}
-use Rattle.key_index.specs.Holders.{IsIndexOf}
+use Rattle.key_index.specs.Indexes.{IsIndexOf}
 use Rattle.ocl_eval.specs.Indexes.{AreIndexes}
 use Rattle.ocl_eval.proofs.IndexLaws.{zip_push}
 use Rattle.ocl_eval.proofs.models.IndexedList.push.Goals as goal
